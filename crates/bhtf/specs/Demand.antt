@@ -1,0 +1,46 @@
+-- Demand 3, the theorem over lists of calls, as one statement: `Agreement`. It is about the list as a whole, from create itself.
+-- Its proof stands in another crate; this file can be read without it.
+-- Assumes nothing.
+use Prim.Native.Nat.{ℕ, zero, suc, _+_, _-_}
+use mathlib.Core.Path.{_≡_}
+use mathlib.Core.Bool.{Bool, cond, _&&_}
+use mathlib.Core.List.{List}
+use mathlib.Core.Option.{Option, none, some}
+use lib.ListN.{length}
+use Rattle.bhtf.specs.Bytes.{Bytes}
+use Rattle.bhtf.specs.Limits.{lengthWidth, mostLength}
+use Rattle.bhtf.specs.Image.{layoutOf, dataStart}
+use Rattle.bhtf.specs.Create.{slotsAsked}
+use Rattle.bhtf.specs.Search.{search, isMet}
+use Rattle.bhtf.specs.Questions.{nameAllowed}
+use Rattle.bhtf.specs.Calls.{create, lookup, Call, answers, imageAfter}
+use Rattle.bhtf.specs.Book.{Book, Terms, Entry, newBook, find, bookAnswers, bookAfter}
+
+-- "The file finds a point when its name has K bytes, not all zero, and the search meets it; its message is what lookup shows."
+unfoldable pub fileText : Bytes → Bytes → Option Bytes
+fileText img name =
+    let g = layoutOf img in
+    cond (nameAllowed (g .K) name && isMet (search g img name)) (some (lookup img name .answer .text)) none
+
+-- the text of the book's entry of that name, if it has one
+unfoldable pub textOf : Option Entry → Option Bytes
+textOf none = none
+textOf (some e) = some (e .text)
+
+unfoldable pub bookText : Book → Bytes → Option Bytes
+bookText b name = textOf (find name (b .entries))
+
+-- "N and K are as created; R = L − D."
+unfoldable pub termsOf : ℕ → ℕ → ℕ → Terms
+termsOf L K N = record { K = K; N = N; R = L - dataStart K N; head = lengthWidth + 1; most = mostLength }
+
+-- For every slice, K, N and seed that create accepts, and every list of calls, the file's answers are the book's, in order;
+-- and after the list the file finds exactly the book's points with the book's texts.
+pub Agreement : Type 0
+Agreement =
+    (img : Bytes) (K N seed : ℕ) → create img K N seed .answer .number ≡ 0
+    → (calls : List Call)
+    → (answers calls (create img K N seed .image) ≡ bookAnswers (termsOf (length img) K (slotsAsked N)) calls newBook)
+    × ((name : Bytes)
+    → fileText (imageAfter calls (create img K N seed .image)) name
+    ≡ bookText (bookAfter (termsOf (length img) K (slotsAsked N)) calls newBook) name)

@@ -1,0 +1,86 @@
+-- Document 01, "Walk, check, lister, C": the key walk and the check of an image. Both put questions 1, 5 and 6.
+-- Assumes nothing.
+use Prim.Native.Nat.{ℕ, zero, suc, _+_, _-_}
+use mathlib.Core.Bool.{Bool, true, false, cond, not, _&&_}
+use mathlib.Core.Option.{Option, none, some}
+use mathlib.Core.List.{[]}
+use lib.Dec.{eqb, ltb}
+use Rattle.bhtf.specs.Bytes.{Bytes}
+use Rattle.bhtf.specs.Limits.{pointsField}
+use Rattle.bhtf.specs.Image.{field, Layout, layoutOf, slot, keyOf, offsetOf, vacant}
+use Rattle.bhtf.specs.Search.{Probe, met, empty, exhausted, search}
+use Rattle.bhtf.specs.Questions.{messageSound, openNumber}
+
+-- the lowest slot at or above i, of those that are left, for which the test holds
+unfoldable pub lowest : (ℕ → Bool) → ℕ → ℕ → Option ℕ
+lowest p zero i = none
+lowest p (suc left) i = elim (p i) [ true ↦ some i | false ↦ lowest p left (suc i) ]
+
+unfoldable pub taken : Layout → Bytes → ℕ → Bool
+taken g img i = not (vacant g (slot g img i))
+
+-- how many slots from i on, of those that are left, are taken
+unfoldable pub takenFrom : Layout → Bytes → ℕ → ℕ → ℕ
+takenFrom g img zero i = 0
+takenFrom g img (suc left) i = cond (taken g img i) 1 0 + takenFrom g img left (suc i)
+
+-- ---- the walk
+
+-- "The walk from slot i shows the lowest taken slot at or above i, its key as a part of the image, or the end; i ≥ N is the
+-- end. The end and a refusal show the image's first 0 bytes."
+pub data Stop : Type 0 where
+  refused : ℕ → Stop
+  at : ℕ → Stop
+  end : Stop
+
+unfoldable pub nextTaken : Layout → Bytes → ℕ → Option ℕ
+nextTaken g img i = lowest (taken g img) (g .N - i) i
+
+unfoldable pub stopAt : Option ℕ → Stop
+stopAt none = end
+stopAt (some i) = at i
+
+unfoldable pub keyWalk : Bytes → ℕ → Stop
+keyWalk img i = cond (eqb (openNumber img) 0) (stopAt (nextTaken (layoutOf img) img i)) (refused (openNumber img))
+
+unfoldable pub keyShown : Bytes → Stop → Bytes
+keyShown img (refused n) = []
+keyShown img (at i) = keyOf (layoutOf img) (slot (layoutOf img) img i)
+keyShown img end = []
+
+-- ---- the check
+
+unfoldable pub endsAt : Probe → ℕ → Bool
+endsAt (met j) i = eqb j i
+endsAt (empty j) i = false
+endsAt exhausted i = false
+
+-- a taken slot whose "key, searched, ends there", and whose "message passes 11"
+unfoldable pub slotSound : Layout → Bytes → ℕ → Bool
+slotSound g img i =
+    endsAt (search g img (keyOf g (slot g img i))) i && messageSound g img (offsetOf g (slot g img i))
+
+unfoldable pub slotFails : Layout → Bytes → ℕ → Bool
+slotFails g img i = taken g img i && not (slotSound g img i)
+
+-- "The check says sound when each taken slot's key, searched, ends there, its message passes 11, and C is the number of taken
+-- slots. Else it names the lowest failing slot, or, if only C fails, the count."
+pub data Verdict : Type 0 where
+  refused : ℕ → Verdict
+  sound : Verdict
+  slotBad : ℕ → Verdict
+  countBad : Verdict
+
+unfoldable pub countSound : Layout → Bytes → Bool
+countSound g img = eqb (field img pointsField) (takenFrom g img (g .N) 0)
+
+unfoldable pub verdictOf : Bool → Option ℕ → Verdict
+verdictOf c (some i) = slotBad i
+verdictOf true none = sound
+verdictOf false none = countBad
+
+unfoldable pub check : Bytes → Verdict
+check img =
+    cond (eqb (openNumber img) 0)
+    (verdictOf (countSound (layoutOf img) img) (lowest (slotFails (layoutOf img) img) (layoutOf img .N) 0))
+    (refused (openNumber img))

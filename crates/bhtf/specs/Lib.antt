@@ -1,0 +1,11 @@
+pub mod Bytes
+pub mod Limits
+pub mod Image
+pub mod Create
+pub mod Search
+pub mod Messages
+pub mod Questions
+pub mod Calls
+pub mod Inspect
+pub mod Book
+pub mod Demand

@@ -1,0 +1,152 @@
+-- Document 01, "Messages": a message in the image, new space, and what an accepted add or delete leaves.
+-- The questions that come before stand in `Questions`; the calls, questions and effect together, in `Calls`.
+--     shown g img o           the text of the active message at offset o, nothing where there is none
+--     takeSpace g img t       the image with a new message t at X
+--     added g img key data mode, deleted g img i       the image that an accepted add or delete leaves
+-- Assumes nothing.
+use Prim.Native.Nat.{ℕ, zero, suc, _+_, _-_, _*_}
+use mathlib.Core.Bool.{Bool, true, false, cond, not, _&&_}
+use mathlib.Core.List.{[], _∷_, _++_}
+use mathlib.Core.Option.{Option, none, some}
+use lib.ListN.{length}
+use lib.Dec.{leb, eqb}
+use Rattle.bhtf.specs.Bytes.{Bytes, part, store, number, digits, zeros}
+use Rattle.bhtf.specs.Limits.{active, inactive, pointsField, freeField, pageField}
+use Rattle.bhtf.specs.Image.{field, setField, lastPage, Layout, slot, putSlot, keyOf, offsetOf, entry, blank, vacant, home}
+use Rattle.bhtf.specs.Search.{Probe, met, empty, exhausted, search, next, dist}
+
+-- ---- a message in the image: a letter, W bytes of length, the text
+unfoldable pub headSize : Layout → ℕ
+headSize g = g .W + 1
+
+unfoldable pub letterAt : Bytes → ℕ → ℕ
+letterAt img o = number (part img o 1)
+
+unfoldable pub lengthAt : Layout → Bytes → ℕ → ℕ
+lengthAt g img o = number (part img (o + 1) (g .W))
+
+unfoldable pub textAt : Layout → Bytes → ℕ → Bytes
+textAt g img o = part img (o + headSize g) (lengthAt g img o)
+
+-- "A message offset of 0 means no message. Otherwise it points at "a" (active) or "d" (inactive)"
+unfoldable pub isActive : Bytes → ℕ → Bool
+isActive img o = not (eqb o 0) && eqb (letterAt img o) active
+
+-- the text of a point's active message; none is the empty text
+unfoldable pub shown : Layout → Bytes → ℕ → Bytes
+shown g img o = cond (isActive img o) (textAt g img o) []
+
+-- the length "at the offset (0 for no offset)"
+unfoldable pub held : Layout → Bytes → ℕ → ℕ
+held g img o = cond (eqb o 0) 0 (lengthAt g img o)
+
+-- the bytes of an active message with the text t
+unfoldable pub message : Layout → Bytes → Bytes
+message g t = (active ∷ digits (g .W) (length t)) ++ t
+
+-- ---- effects
+
+-- "New space for m bytes is taken at X, and X grows by 4 + m." "A call that changes X rewrites M"
+unfoldable pub takeSpace : Layout → Bytes → Bytes → Bytes
+takeSpace g img t =
+    let x : ℕ = field img freeField in
+    let x′ : ℕ = x + headSize g + length t in
+    setField (setField (store img x (message g t)) freeField x′) pageField (lastPage (g .D) x′)
+
+-- "The message header, if active, becomes "d""
+unfoldable pub retire : Bytes → ℕ → Bytes
+retire img o = cond (isActive img o) (store img o (inactive ∷ [])) img
+
+-- "is written there as active, with the rest of the old bytes zeroed"
+unfoldable pub overwrite : Layout → Bytes → ℕ → Bytes → Bytes
+overwrite g img o t = store img o (message g t ++ zeros (held g img o - length t))
+
+-- The message to be placed in new space, if any. "Data of length 0 gives offset 0."
+unfoldable pub freshText : Bytes → Option Bytes
+freshText data′ = cond (eqb (length data′) 0) none (some data′)
+
+-- Of a point that is present with message offset o. Mode 2 takes new space where the data is longer than the length at
+-- the offset; mode 3 where there is data: "An active message is copied with the new bytes behind it into new space. ..
+-- Otherwise new space is taken for the new bytes only."
+unfoldable pub renewedText : Layout → Bytes → ℕ → Bytes → ℕ → Option Bytes
+renewedText g img o data′ mode =
+    cond (eqb mode 2) (cond (leb (length data′) (held g img o)) none (some data′))
+    (cond (eqb mode 3) (cond (eqb (length data′) 0) none (some (shown g img o ++ data′))) none)
+
+unfoldable pub placedText : Layout → Bytes → Probe → Bytes → ℕ → Option Bytes
+placedText g img (met i) data′ mode = renewedText g img (offsetOf g (slot g img i)) data′ mode
+placedText g img (empty i) data′ mode = freshText data′
+placedText g img exhausted data′ mode = freshText data′
+
+-- "Add, key absent: the entry goes to the empty slot where the search ended; C grows by 1."
+unfoldable pub enter : Layout → Bytes → ℕ → Bytes → ℕ → Bytes
+enter g img i key o = setField (putSlot g img i (entry key o)) pointsField (field img pointsField + 1)
+
+unfoldable pub inserted : Layout → Bytes → ℕ → Bytes → Option Bytes → Bytes
+inserted g img i key none = enter g img i key 0
+inserted g img i key (some t) = enter g (takeSpace g img t) i key (field img freeField)
+
+-- "the old header, if there is one, becomes "d" and new space is taken"
+unfoldable pub relocated : Layout → Bytes → ℕ → Bytes → Bytes → Bytes
+relocated g img i key t =
+    putSlot g (takeSpace g (retire img (offsetOf g (slot g img i))) t) i (entry key (field img freeField))
+
+-- Mode 2: "length 0 turns "a" into "d". A length at most that at the offset .. is written there as active".
+-- Mode 3: "length 0 changes nothing".
+unfoldable pub renewed : Layout → Bytes → ℕ → Bytes → Bytes → ℕ → Option Bytes → Bytes
+renewed g img i key data′ mode (some t) = relocated g img i key t
+renewed g img i key data′ mode none =
+    cond (eqb mode 2)
+    (cond (eqb (length data′) 0) (retire img (offsetOf g (slot g img i))) (overwrite g img (offsetOf g (slot g img i)) data′))
+    img
+
+unfoldable pub addedAt : Layout → Bytes → Probe → Bytes → Bytes → ℕ → Bytes
+addedAt g img (met i) key data′ mode = renewed g img i key data′ mode (renewedText g img (offsetOf g (slot g img i)) data′ mode)
+addedAt g img (empty i) key data′ mode = inserted g img i key (freshText data′)
+addedAt g img exhausted key data′ mode = img
+
+unfoldable pub added : Layout → Bytes → Bytes → Bytes → ℕ → Bytes
+added g img key data′ mode = addedAt g img (search g img key) key data′ mode
+
+-- ---- delete: Knuth's Algorithm R, run upwards
+
+-- "An entry whose home is not among the slots from the one after the hole up to its own": i is among the slots from a up to b
+unfoldable pub among : ℕ → ℕ → ℕ → ℕ → Bool
+among N a b i = leb (dist N a i) (dist N a b)
+
+-- the walk's state: the image, and the slot that is looked at next
+pub record Walked : Type 0 where
+  pub image : Bytes
+  pub at : ℕ
+
+-- "moves into the hole, and its old slot, zeroed, is the new hole"
+unfoldable pub moved : Layout → Bytes → ℕ → ℕ → Bytes
+moved g img hole j = putSlot g (putSlot g img hole (slot g img j)) j (blank g)
+
+-- "Look at the slots after it in turn, wrapping. .. The walk ends at the first empty slot, which may be the hole itself."
+-- The first number bounds the slots looked at; `walk-ends` shows that it is never what ends the walk.
+unfoldable pub walk : ℕ → Layout → Bytes → ℕ → ℕ → Walked
+walk zero g img hole j = record { image = img; at = j }
+walk (suc looks) g img hole j =
+    elim (vacant g (slot g img j))
+    [ true ↦ record { image = img; at = j }
+    | false ↦
+    elim (among (g .N) (next (g .N) hole) j (home g (keyOf g (slot g img j))))
+    [ true ↦ walk looks g img hole (next (g .N) j)
+    | false ↦ walk looks g (moved g img hole j) j (next (g .N) j)
+    ]
+    ]
+
+-- "the slot is zeroed and is the hole", and the walk from the slot after it
+unfoldable pub closed : Layout → Bytes → ℕ → Bytes
+closed g img i = walk (g .N * g .N) g (putSlot g img i (blank g)) i (next (g .N) i) .image
+
+-- "Delete: the message header, if active, becomes "d"; C falls by 1; the slot is zeroed and is the hole."
+unfoldable pub deletedAt : Layout → Bytes → ℕ → Bytes
+deletedAt g img i =
+    closed g (setField (retire img (offsetOf g (slot g img i))) pointsField (field img pointsField - 1)) i
+
+unfoldable pub deleted : Layout → Bytes → Probe → Bytes
+deleted g img (met i) = deletedAt g img i
+deleted g img (empty i) = img
+deleted g img exhausted = img
