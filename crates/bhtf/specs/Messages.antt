@@ -128,13 +128,13 @@ moved g img hole j = putSlot g (putSlot g img hole (slot g img j)) j (blank g)
 unfoldable pub walk : ℕ → Layout → Bytes → ℕ → ℕ → Walked
 walk zero g img hole j = record { image = img; at = j }
 walk (suc looks) g img hole j =
-    elim (vacant g (slot g img j))
-    [ true ↦ record { image = img; at = j }
-    | false ↦
-    elim (among (g .N) (next (g .N) hole) j (home g (keyOf g (slot g img j))))
-    [ true ↦ walk looks g img hole (next (g .N) j)
-    | false ↦ walk looks g (moved g img hole j) j (next (g .N) j)
-    ]
+    elim (vacant g (slot g img j)) [
+      | true ↦ record { image = img; at = j }
+      | false ↦
+          elim (among (g .N) (next (g .N) hole) j (home g (keyOf g (slot g img j)))) [
+            | true ↦ walk looks g img hole (next (g .N) j)
+            | false ↦ walk looks g (moved g img hole j) j (next (g .N) j)
+          ]
     ]
 
 -- "the slot is zeroed and is the hole", and the walk from the slot after it

@@ -24,9 +24,9 @@ pub data Probe : Type 0 where
 unfoldable pub probe : Layout → Bytes → Bytes → ℕ → ℕ → Probe
 probe g img key zero i = exhausted
 probe g img key (suc left) i =
-    elim (same (keyOf g (slot g img i)) key)
-    [ true ↦ met i
-    | false ↦ elim (vacant g (slot g img i)) [ true ↦ empty i | false ↦ probe g img key left (next (g .N) i) ]
+    elim (same (keyOf g (slot g img i)) key) [
+      | true ↦ met i
+      | false ↦ elim (vacant g (slot g img i)) [ true ↦ empty i | false ↦ probe g img key left (next (g .N) i) ]
     ]
 
 -- "Search: from home upwards"

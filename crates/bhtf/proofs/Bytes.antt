@@ -1,0 +1,187 @@
+-- Laws of bytes: what is read at the place of a store, below it and above it, its length; numbers of any width.
+-- Every write to an image is a `store`, so these laws carry all that is said of bytes. Callers do not unfold `store`.
+-- Assumes nothing.
+use mathlib.Core.Path.{_≡_, refl, sym, ap, ap₂, _∙_, subst}
+use Prim.Native.Nat.{ℕ, zero, suc, _+_, _-_, _*_, _/_, _%_, _^_, _≤_, _<_, min}
+use native.Mathlib.Nat.{add-zero, zero-add, add-suc, suc-add, mod-eq-of-lt, mod-one, mul-le-mul-right, mul-suc, pow-succ', le-of-suc-le-suc}
+use native.Mathlib.Numerals.{add-one, sub-one}
+use native.Mathlib.Omega.{arith}
+use mathlib.Core.Bool.{Bool, true, false, _&&_, true≢false, false≢true}
+use mathlib.Core.Logic.{_⊎_, inl, inr}
+use mathlib.Core.List.{List, [], _∷_, _++_, append-assoc}
+use lib.ListN.{length, take, drop, replicate, getD, length-append, length-take, length-drop, length-replicate, take-append-drop}
+use lib.Seq.{take-at, drop-at, take-append-le, drop-append-le, take-append-add, drop-append-add, drop-drop, take-take, length-take-le, take-all, take-length}
+use lib.Dec.{eqb, lit<}
+use lib.Pow.{pow-add, mod-pow-add}
+use borrow.Author.Tests.{eqb-true, eqb-false, eq-eqb}
+use Rattle.bhtf.proofs.Tests.{and-left, and-right}
+use Rattle.bhtf.specs.Bytes.{Bytes, part, store, number, digits, zeros, allZero, same}
+
+-- ---- part
+
+pub part-length : (b : Bytes) (p m : ℕ) → p + m ≤ length b → length (part b p m) ≡ m
+unfolding part
+part-length b p m h = length-take-le m (drop p b) (simp length-drop (omega arith))
+
+pub part-part : (b : Bytes) (p n q m : ℕ) → q + m ≤ n → part (part b p n) q m ≡ part b (p + q) m
+unfolding part
+part-part b p n q m h = go q n (drop p b) h ∙ ap (take m) (drop-drop q p b)
+  where
+    go : (q n : ℕ) (l : List ℕ) → q + m ≤ n → take m (drop q (take n l)) ≡ take m (drop q l)
+    go zero n l h = take-take m n l (omega arith)
+    go (suc q) zero l h = absurd (omega arith)
+    go (suc q) (suc n) [] h = refl
+    go (suc q) (suc n) (x ∷ l) h = go q n l (omega arith)
+
+-- ---- store
+
+-- what stands before a store, and its length
+head-length : (b : Bytes) (p : ℕ) → p ≤ length b → length (take p b) ≡ p
+head-length b p h = length-take-le p b h
+
+pub length-store : (b : Bytes) (p : ℕ) (v : Bytes) → p + length v ≤ length b → length (store b p v) ≡ length b
+unfolding store
+length-store b p v h =
+    length-append (take p b) (v ++ drop (length v) (drop p b))
+    ∙ ap₂ _+_ (head-length b p (omega arith)) (length-append v (drop (length v) (drop p b)))
+    ∙ rest
+  where
+    rest : p + (length v + length (drop (length v) (drop p b))) ≡ length b
+    rest = simp (length-drop) (omega arith)
+
+pub part-store-same : (b : Bytes) (p : ℕ) (v : Bytes) → p ≤ length b → part (store b p v) p (length v) ≡ v
+unfolding part store
+part-store-same b p v h =
+    ap (take (length v)) (drop-at (take p b) (v ++ drop (length v) (drop p b)) p (head-length b p h))
+    ∙ take-at v (drop (length v) (drop p b)) (length v) refl
+
+-- a part of what was stored
+pub part-store-inside : (b : Bytes) (p : ℕ) (v : Bytes) (k m : ℕ) → p ≤ length b → k + m ≤ length v
+    → part (store b p v) (p + k) m ≡ part v k m
+part-store-inside b p v k m h f =
+    sym (part-part (store b p v) p (length v) k m f) ∙ ap (λ (l : Bytes). part l k m) (part-store-same b p v h)
+
+pub part-store-below : (b : Bytes) (p : ℕ) (v : Bytes) (q m : ℕ) → p ≤ length b → q + m ≤ p
+    → part (store b p v) q m ≡ part b q m
+unfolding part store
+part-store-below b p v q m h f =
+    ap (take m) (drop-append-le q (take p b) (v ++ drop (length v) (drop p b)) (simp (head-length b p h) (omega arith)))
+    ∙ take-append-le m (drop q (take p b)) (v ++ drop (length v) (drop p b)) (simp (length-drop, head-length b p h) (omega arith))
+    ∙ inside
+  where
+    inside : take m (drop q (take p b)) ≡ take m (drop q b)
+    inside = unfold part in (part-part b 0 p q m f ∙ ap (λ (n : ℕ). take m (drop n b)) (zero-add q))
+
+pub part-store-above : (b : Bytes) (p : ℕ) (v : Bytes) (q m : ℕ) → p + length v ≤ length b → p + length v ≤ q
+    → part (store b p v) q m ≡ part b q m
+unfolding part store
+part-store-above b p v q m h f =
+    ap (take m)
+    (ap (λ (n : ℕ). drop n (take p b ++ (v ++ tail))) split₁
+    ∙ ap (λ (n : ℕ). drop (n + (length v + (q - (p + length v)))) (take p b ++ (v ++ tail))) (sym (head-length b p (omega arith)))
+    ∙ drop-append-add (take p b) (v ++ tail) (length v + (q - (p + length v)))
+    ∙ drop-append-add v tail (q - (p + length v))
+    ∙ drop-drop (q - (p + length v)) (length v) (drop p b)
+    ∙ drop-drop (length v + (q - (p + length v))) p b
+    ∙ ap (λ (n : ℕ). drop n b) (sym split₁))
+  where
+    tail : List ℕ
+    tail = drop (length v) (drop p b)
+
+    split₁ : q ≡ p + (length v + (q - (p + length v)))
+    split₁ = omega arith
+
+-- the m places from q on and the n places from p on have none in common
+abbrev pub Apart : ℕ → ℕ → ℕ → ℕ → Type 0
+Apart q m p n = (q + m ≤ p) ⊎ (p + n ≤ q)
+
+-- what is read apart from the place of a store
+pub part-store-other : (b : Bytes) (p : ℕ) (v : Bytes) (q m : ℕ) → p + length v ≤ length b → Apart q m p (length v)
+    → part (store b p v) q m ≡ part b q m
+part-store-other b p v q m h (inl f) = part-store-below b p v q m (omega arith) f
+part-store-other b p v q m h (inr f) = part-store-above b p v q m h f
+
+-- a store of what is there changes nothing
+pub store-part : (b : Bytes) (p m : ℕ) → p + m ≤ length b → store b p (part b p m) ≡ b
+unfolding store part
+store-part b p m h =
+    ap (λ (n : ℕ). take p b ++ (part b p m ++ drop n (drop p b))) (part-length b p m h)
+    ∙ ap (λ (l : Bytes). take p b ++ l) (whole m (drop p b))
+    ∙ take-append-drop p b
+  where
+    whole : (m : ℕ) (l : Bytes) → take m l ++ drop m l ≡ l
+    whole m l = take-append-drop m l
+
+-- ---- numbers of any width
+
+pub length-digits : (w n : ℕ) → length (digits w n) ≡ w
+unfolding digits
+length-digits zero n = refl
+length-digits (suc w) n = ap suc (length-digits w n)
+
+-- 256 ^ w is a power of two, so that the laws of digits in base two serve
+pow-256 : (w : ℕ) → 256 ^ w ≡ 2 ^ (8 * w)
+pow-256 zero = refl
+pow-256 (suc w) =
+    pow-succ' 256 w ∙ ap (λ (n : ℕ). 256 * n) (pow-256 w) ∙ sym (pow-add 2 8 (8 * w)) ∙ ap (λ (n : ℕ). 2 ^ n) (omega (arith, mul-suc 8 w))
+
+-- one digit more: the digit above, and what is below it
+digit-more : (n w : ℕ) → n / 256 ^ w % 256 * 256 ^ w + n % 256 ^ w ≡ n % 256 ^ suc w
+digit-more n w =
+    ap (λ (a : ℕ). n / a % 256 * a + n % a) (pow-256 w)
+    ∙ sym (mod-pow-add n 8 (8 * w))
+    ∙ ap (λ (a : ℕ). n % 2 ^ a) (omega (arith, mul-suc 8 w))
+    ∙ ap (λ (a : ℕ). n % a) (sym (pow-256 (suc w)))
+
+pub number-digits : (w n : ℕ) → number (digits w n) ≡ n % 256 ^ w
+unfolding number digits
+number-digits zero n = sym (mod-one n)
+number-digits (suc w) n =
+    ap₂ (λ (a b : ℕ). n / 256 ^ w % 256 * 256 ^ a + b) (length-digits w n) (number-digits w n) ∙ digit-more n w
+
+-- what fits is read back as it was
+pub number-digits-fits : (w n : ℕ) → n < 256 ^ w → number (digits w n) ≡ n
+number-digits-fits w n h = number-digits w n ∙ mod-eq-of-lt h
+
+-- every element is a byte
+abbrev pub AreBytes : Bytes → Type 0
+AreBytes b = (i : ℕ) → getD b i 0 < 256
+
+pub number-bound : (b : Bytes) → AreBytes b → number b < 256 ^ length b
+unfolding number
+number-bound [] h = lit< tt
+number-bound (x ∷ b) h =
+    let ih : number b < 256 ^ length b = number-bound b (λ i. h (suc i)) in
+    let top : x * 256 ^ length b ≤ 255 * 256 ^ length b = mul-le-mul-right (256 ^ length b) (le-of-suc-le-suc (h 0)) in
+    omega (arith, pow-succ' 256 (length b))
+
+-- ---- zeros and comparisons
+
+pub length-zeros : (n : ℕ) → length (zeros n) ≡ n
+unfolding zeros
+length-zeros n = length-replicate n 0
+
+pub allZero-zeros : (n : ℕ) → allZero (zeros n) ≡ true
+unfolding allZero zeros
+allZero-zeros zero = refl
+allZero-zeros (suc n) = allZero-zeros n
+
+pub allZero-zeros-eq : (b : Bytes) → allZero b ≡ true → b ≡ zeros (length b)
+unfolding allZero zeros
+allZero-zeros-eq [] h = refl
+allZero-zeros-eq (x ∷ b) h = ap₂ _∷_ (eqb-true x 0 (and-left (eqb x 0) (allZero b) h)) (allZero-zeros-eq b (and-right (eqb x 0) (allZero b) h))
+
+pub same-refl : (b : Bytes) → same b b ≡ true
+unfolding same
+same-refl [] = refl
+same-refl (x ∷ b) = rw (eq-eqb x x refl) (same-refl b)
+
+pub same-true : (a b : Bytes) → same a b ≡ true → a ≡ b
+unfolding same
+same-true [] [] h = refl
+same-true [] (y ∷ b) h = absurd (false≢true h)
+same-true (x ∷ a) [] h = absurd (false≢true h)
+same-true (x ∷ a) (y ∷ b) h = ap₂ _∷_ (eqb-true x y (and-left (eqb x y) (same a b) h)) (same-true a b (and-right (eqb x y) (same a b) h))
+
+pub same-false : (a b : Bytes) → same a b ≡ false → a ≡ b → ⊥
+same-false a b h e = true≢false (sym (same-refl a) ∙ ap (same a) e ∙ h)

@@ -1,0 +1,52 @@
+-- Tests on Bools and numbers: halves of a conjunction, and case splits by continuation, which keep the equation and which
+-- `omega` reads.
+--     by-bool b yes no      on b
+--     by-le a b yes no      on a ≤ b; by-eq on a ≡ b
+-- Assumes nothing.
+use mathlib.Core.Path.{_≡_, refl}
+use Prim.Native.Nat.{ℕ, _≤_, _<_}
+use native.Mathlib.Decide.{decLe, ℕ-discrete}
+use native.Mathlib.Nat.{lt-of-not-le}
+use mathlib.Core.Bool.{Bool, true, false, _&&_, _||_, not, true≢false, false≢true}
+use lib.Dec.{leb, ltb, eqb}
+use borrow.Author.Tests.{leb-true, leb-false, ltb-true, ltb-false, eqb-true, eqb-false}
+
+pub by-bool {ℓ} : {A : Type ℓ} (b : Bool) → (b ≡ true → A) → (b ≡ false → A) → A
+by-bool true yes′ no′ = yes′ refl
+by-bool false yes′ no′ = no′ refl
+
+pub by-le {ℓ} : {A : Type ℓ} (a b : ℕ) → (a ≤ b → A) → (b < a → A) → A
+by-le a b yes′ no′ = elim (decLe a b) [ yes h ↦ yes′ h | no h ↦ no′ (lt-of-not-le h) ]
+
+pub by-eq {ℓ} : {A : Type ℓ} (a b : ℕ) → (a ≡ b → A) → ((a ≡ b → ⊥) → A) → A
+by-eq a b yes′ no′ = elim (ℕ-discrete a b) [ yes h ↦ yes′ h | no h ↦ no′ h ]
+
+-- ---- conjunction, disjunction, negation
+pub and-left : (a b : Bool) → (a && b) ≡ true → a ≡ true
+and-left true b h = refl
+and-left false b h = h
+
+pub and-right : (a b : Bool) → (a && b) ≡ true → b ≡ true
+and-right true b h = h
+and-right false b h = absurd (false≢true h)
+
+pub and-true : (a b : Bool) → a ≡ true → b ≡ true → (a && b) ≡ true
+and-true true b h k = k
+and-true false b h k = h
+
+pub or-left : (a b : Bool) → a ≡ true → (a || b) ≡ true
+or-left true b h = refl
+or-left false b h = absurd (false≢true h)
+
+pub or-right : (a b : Bool) → b ≡ true → (a || b) ≡ true
+or-right true b h = refl
+or-right false b h = h
+
+-- a disjunction by cases, each with what held
+pub by-or {ℓ} : {A : Type ℓ} (a b : Bool) → (a || b) ≡ true → (a ≡ true → A) → (a ≡ false → b ≡ true → A) → A
+by-or true b h yes′ no′ = yes′ refl
+by-or false b h yes′ no′ = no′ refl h
+
+pub not-both : (b : Bool) → b ≡ true → b ≡ false → ⊥
+not-both true h k = true≢false k
+not-both false h k = false≢true h
