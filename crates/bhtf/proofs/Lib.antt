@@ -1,3 +1,6 @@
 pub mod Tests
 pub mod Bytes
 pub mod Slots
+pub mod Cyclic
+pub mod Total
+pub mod Table
