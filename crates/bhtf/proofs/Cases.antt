@@ -1,0 +1,171 @@
+-- Document 01, "The proved table", line by line, as theorems about the definitions. Each holds by computation.
+--     fresh L N          the image that create leaves of L bytes: K = 1, seed 0
+--     after, told        the image after a list of calls, and the numbers that they answered; used, of the book
+--     keys n i img       the keys of the n slots from i on
+-- Assumes nothing.
+use mathlib.Core.Path.{_≡_, refl}
+use Prim.Native.Nat.{ℕ, zero, suc, _+_, _-_}
+use mathlib.Core.List.{List, [], _∷_}
+use mathlib.Core.Bool.{Bool, true, false}
+use mathlib.Core.Option.{Option, none, some}
+use lib.ListN.{length}
+use Rattle.bhtf.specs.Limits.{minusOne, freeField, pointsField}
+use Rattle.bhtf.specs.Bytes.{Bytes, part, store, number, digits, zeros, allZero, same}
+use Rattle.bhtf.specs.Image.{Layout, field, setField, roundUp, dataStart, lastPage, hashStep, hashFrom, scramble, hash, layoutOf, home, slotSize, slotStart, slot, putSlot, keyOf, offsetOf, entry, blank, vacant}
+use Rattle.bhtf.specs.Create.{step, state, drawn, drawnBytes, slotsAsked, freshHeader, freshImage}
+use Rattle.bhtf.specs.Search.{next, dist, probe, search, isMet, isEmpty, slotOf}
+use Rattle.bhtf.specs.Messages.{headSize, letterAt, lengthAt, textAt, isActive, shown, held, message, takeSpace, retire, overwrite, freshText, renewedText, placedText, enter, inserted, relocated, renewed, addedAt, added, among, moved, walk, closed, deletedAt, deleted}
+use Rattle.bhtf.specs.Questions.{ask, firstNo, sizeAllowed, keyAllowed, slotsAllowed, tableFits, versionKnown, headerSound, nameAllowed, modeKnown, newInMode1, slotToTake, messageSound, metMessageSound, somePoint, lengthAllowed, spaceLeft, createAsks, opened, addAsks, lookupAsks, deleteAsks, createNumber, openNumber, addNumber, deleteNumber, lookupNumber}
+use Rattle.bhtf.specs.Calls.{Call, adding, deleting, looking, counting, Answer, plain, settled, create, add, delete, lookupText, lookup, countOf, count, perform, answers, imageAfter}
+use Rattle.bhtf.specs.Book.{Book, Terms, Entry, newBook, find, without, withEntry, stepOf, roomAsks, entered, addAbsent, replace, append, addPresent, addFound, guarded, bookAdd, deleteFound, bookDelete, lookupFound, bookLookup, bookCount, bookStep, bookAnswers, bookAfter}
+use Rattle.bhtf.specs.Demand.{fileText, textOf, bookText, termsOf}
+
+-- ---- what the cases look at
+
+pub fresh : ℕ → ℕ → Bytes
+unfolding part store number digits zeros allZero same field setField roundUp dataStart lastPage hashStep hashFrom scramble hash layoutOf home slotSize slotStart slot putSlot keyOf offsetOf entry blank vacant step state drawn drawnBytes slotsAsked freshHeader freshImage next dist probe search isMet isEmpty slotOf headSize letterAt lengthAt textAt isActive shown held message takeSpace retire overwrite freshText renewedText placedText enter inserted relocated renewed addedAt added among moved walk closed deletedAt deleted ask firstNo sizeAllowed keyAllowed slotsAllowed tableFits versionKnown headerSound nameAllowed modeKnown newInMode1 slotToTake messageSound metMessageSound somePoint lengthAllowed spaceLeft createAsks opened addAsks lookupAsks deleteAsks createNumber openNumber addNumber deleteNumber lookupNumber plain settled create add delete lookupText lookup countOf count perform answers imageAfter newBook find without withEntry stepOf roomAsks entered addAbsent replace append addPresent addFound guarded bookAdd deleteFound bookDelete lookupFound bookLookup bookCount bookStep bookAnswers bookAfter fileText textOf bookText termsOf
+fresh L N = create (zeros L) 1 N 0 .image
+
+pub after : List Call → Bytes → Bytes
+unfolding part store number digits zeros allZero same field setField roundUp dataStart lastPage hashStep hashFrom scramble hash layoutOf home slotSize slotStart slot putSlot keyOf offsetOf entry blank vacant step state drawn drawnBytes slotsAsked freshHeader freshImage next dist probe search isMet isEmpty slotOf headSize letterAt lengthAt textAt isActive shown held message takeSpace retire overwrite freshText renewedText placedText enter inserted relocated renewed addedAt added among moved walk closed deletedAt deleted ask firstNo sizeAllowed keyAllowed slotsAllowed tableFits versionKnown headerSound nameAllowed modeKnown newInMode1 slotToTake messageSound metMessageSound somePoint lengthAllowed spaceLeft createAsks opened addAsks lookupAsks deleteAsks createNumber openNumber addNumber deleteNumber lookupNumber plain settled create add delete lookupText lookup countOf count perform answers imageAfter newBook find without withEntry stepOf roomAsks entered addAbsent replace append addPresent addFound guarded bookAdd deleteFound bookDelete lookupFound bookLookup bookCount bookStep bookAnswers bookAfter fileText textOf bookText termsOf
+after calls img = imageAfter calls img
+
+numbers : List Answer → List ℕ
+numbers [] = []
+numbers (a ∷ more) = a .number ∷ numbers more
+
+pub told : List Call → Bytes → List ℕ
+unfolding part store number digits zeros allZero same field setField roundUp dataStart lastPage hashStep hashFrom scramble hash layoutOf home slotSize slotStart slot putSlot keyOf offsetOf entry blank vacant step state drawn drawnBytes slotsAsked freshHeader freshImage next dist probe search isMet isEmpty slotOf headSize letterAt lengthAt textAt isActive shown held message takeSpace retire overwrite freshText renewedText placedText enter inserted relocated renewed addedAt added among moved walk closed deletedAt deleted ask firstNo sizeAllowed keyAllowed slotsAllowed tableFits versionKnown headerSound nameAllowed modeKnown newInMode1 slotToTake messageSound metMessageSound somePoint lengthAllowed spaceLeft createAsks opened addAsks lookupAsks deleteAsks createNumber openNumber addNumber deleteNumber lookupNumber plain settled create add delete lookupText lookup countOf count perform answers imageAfter newBook find without withEntry stepOf roomAsks entered addAbsent replace append addPresent addFound guarded bookAdd deleteFound bookDelete lookupFound bookLookup bookCount bookStep bookAnswers bookAfter fileText textOf bookText termsOf numbers
+told calls img = numbers (answers calls img)
+
+pub keys : ℕ → ℕ → Bytes → List Bytes
+unfolding part store number digits zeros allZero same field setField roundUp dataStart lastPage hashStep hashFrom scramble hash layoutOf home slotSize slotStart slot putSlot keyOf offsetOf entry blank vacant step state drawn drawnBytes slotsAsked freshHeader freshImage next dist probe search isMet isEmpty slotOf headSize letterAt lengthAt textAt isActive shown held message takeSpace retire overwrite freshText renewedText placedText enter inserted relocated renewed addedAt added among moved walk closed deletedAt deleted ask firstNo sizeAllowed keyAllowed slotsAllowed tableFits versionKnown headerSound nameAllowed modeKnown newInMode1 slotToTake messageSound metMessageSound somePoint lengthAllowed spaceLeft createAsks opened addAsks lookupAsks deleteAsks createNumber openNumber addNumber deleteNumber lookupNumber plain settled create add delete lookupText lookup countOf count perform answers imageAfter newBook find without withEntry stepOf roomAsks entered addAbsent replace append addPresent addFound guarded bookAdd deleteFound bookDelete lookupFound bookLookup bookCount bookStep bookAnswers bookAfter fileText textOf bookText termsOf
+keys zero i img = []
+keys (suc n) i img = keyOf (layoutOf img) (slot (layoutOf img) img i) ∷ keys n (suc i) img
+
+pub used : List Call → ℕ
+unfolding part store number digits zeros allZero same field setField roundUp dataStart lastPage hashStep hashFrom scramble hash layoutOf home slotSize slotStart slot putSlot keyOf offsetOf entry blank vacant step state drawn drawnBytes slotsAsked freshHeader freshImage next dist probe search isMet isEmpty slotOf headSize letterAt lengthAt textAt isActive shown held message takeSpace retire overwrite freshText renewedText placedText enter inserted relocated renewed addedAt added among moved walk closed deletedAt deleted ask firstNo sizeAllowed keyAllowed slotsAllowed tableFits versionKnown headerSound nameAllowed modeKnown newInMode1 slotToTake messageSound metMessageSound somePoint lengthAllowed spaceLeft createAsks opened addAsks lookupAsks deleteAsks createNumber openNumber addNumber deleteNumber lookupNumber plain settled create add delete lookupText lookup countOf count perform answers imageAfter newBook find without withEntry stepOf roomAsks entered addAbsent replace append addPresent addFound guarded bookAdd deleteFound bookDelete lookupFound bookLookup bookCount bookStep bookAnswers bookAfter fileText textOf bookText termsOf
+used calls = bookAfter (termsOf 8192 1 4) calls newBook .used
+
+pub bookTold : List Call → List ℕ
+unfolding part store number digits zeros allZero same field setField roundUp dataStart lastPage hashStep hashFrom scramble hash layoutOf home slotSize slotStart slot putSlot keyOf offsetOf entry blank vacant step state drawn drawnBytes slotsAsked freshHeader freshImage next dist probe search isMet isEmpty slotOf headSize letterAt lengthAt textAt isActive shown held message takeSpace retire overwrite freshText renewedText placedText enter inserted relocated renewed addedAt added among moved walk closed deletedAt deleted ask firstNo sizeAllowed keyAllowed slotsAllowed tableFits versionKnown headerSound nameAllowed modeKnown newInMode1 slotToTake messageSound metMessageSound somePoint lengthAllowed spaceLeft createAsks opened addAsks lookupAsks deleteAsks createNumber openNumber addNumber deleteNumber lookupNumber plain settled create add delete lookupText lookup countOf count perform answers imageAfter newBook find without withEntry stepOf roomAsks entered addAbsent replace append addPresent addFound guarded bookAdd deleteFound bookDelete lookupFound bookLookup bookCount bookStep bookAnswers bookAfter fileText textOf bookText termsOf numbers
+bookTold calls = numbers (bookAnswers (termsOf 8192 1 4) calls newBook)
+
+-- a point with the one-byte name c and no message
+abbrev pub point : ℕ → Call
+point c = adding (c ∷ []) [] 1
+
+-- ---- the table
+
+-- "K = 4: N = 256 gives D = 4,096; 257 gives 8,192; 5,033 gives 45,056."
+pub data-256 : dataStart 4 256 ≡ 4096
+unfolding dataStart roundUp
+data-256 = refl
+
+pub data-257 : dataStart 4 257 ≡ 8192
+unfolding dataStart roundUp
+data-257 = refl
+
+pub data-5033 : dataStart 4 5033 ≡ 45056
+unfolding dataStart roundUp
+data-5033 = refl
+
+-- "X − D of 0, 4,096, 4,097 gives M −1, 0, 1."
+pub page-0 : lastPage 8192 8192 ≡ minusOne
+unfolding lastPage
+page-0 = refl
+
+pub page-4096 : lastPage 8192 (8192 + 4096) ≡ 0
+unfolding lastPage
+page-4096 = refl
+
+pub page-4097 : lastPage 8192 (8192 + 4097) ≡ 1
+unfolding lastPage
+page-4097 = refl
+
+-- "Seed 0, K = 1: the hash of byte 32 is 0x3962AE40, of byte 1 is 0x050C5D1F."
+pub hash-32 : hash (fresh 4096 4) (32 ∷ []) ≡ 0x3962AE40
+unfolding fresh
+hash-32 = refl
+
+pub hash-1 : hash (fresh 4096 4) (1 ∷ []) ≡ 0x050C5D1F
+unfolding fresh
+hash-1 = refl
+
+-- "Seed 0, K = 1, N = 4: adding bytes 1, 2, 3, 32 fills slots 3, 0, 1, 2; byte 33 then gives 10."
+abbrev pub four : List Call
+four = point 1 ∷ point 2 ∷ point 3 ∷ point 32 ∷ []
+
+pub four-slots : keys 4 0 (after four (fresh 4096 4)) ≡ (2 ∷ []) ∷ (3 ∷ []) ∷ (32 ∷ []) ∷ (1 ∷ []) ∷ []
+unfolding keys after fresh
+four-slots = refl
+
+pub four-told : told (point 1 ∷ point 2 ∷ point 3 ∷ point 32 ∷ point 33 ∷ []) (fresh 4096 4) ≡ 0 ∷ 0 ∷ 0 ∷ 0 ∷ 10 ∷ []
+unfolding told fresh
+four-told = refl
+
+-- "Deleting 1 leaves 2, 3, 32 in slots 3, 0, 1 and slot 2 empty."
+pub four-delete : keys 4 0 (after (point 1 ∷ point 2 ∷ point 3 ∷ point 32 ∷ deleting (1 ∷ []) ∷ []) (fresh 4096 4))
+    ≡ (3 ∷ []) ∷ (32 ∷ []) ∷ (0 ∷ []) ∷ (2 ∷ []) ∷ []
+unfolding keys after fresh
+four-delete = refl
+
+-- "Seed 0, K = 1, N = 3, an opened image with 33, 34, 32 in slots 0, 1, 2: deleting 33 leaves 32 in slot 0 and 34 in slot 2."
+pub three : Bytes
+unfolding fresh
+three =
+    let img : Bytes = fresh 4096 3 in
+    let g : Layout = layoutOf img in
+    setField (putSlot g (putSlot g (putSlot g img 0 (entry (33 ∷ []) 0)) 1 (entry (34 ∷ []) 0)) 2 (entry (32 ∷ []) 0)) pointsField 3
+
+pub three-delete : keys 3 0 (after (deleting (33 ∷ []) ∷ []) three) ≡ (32 ∷ []) ∷ (0 ∷ []) ∷ (34 ∷ []) ∷ []
+unfolding keys after three
+three-delete = refl
+
+-- "R = 4,096: 4,092 bytes fit, 4,093 give 13." K = 1, N = 4 and L = 8,192 give D = 4,096.
+pub room-4092 : told (adding (1 ∷ []) (zeros 4092) 1 ∷ []) (fresh 8192 4) ≡ 0 ∷ []
+unfolding told fresh
+room-4092 = refl
+
+pub room-4093 : told (adding (1 ∷ []) (zeros 4093) 1 ∷ []) (fresh 8192 4) ≡ 13 ∷ []
+unfolding told fresh
+room-4093 = refl
+
+pub book-4092 : bookTold (adding (1 ∷ []) (zeros 4092) 1 ∷ []) ≡ 0 ∷ []
+unfolding bookTold
+book-4092 = refl
+
+pub book-4093 : bookTold (adding (1 ∷ []) (zeros 4093) 1 ∷ []) ≡ 13 ∷ []
+unfolding bookTold
+book-4093 = refl
+
+-- "Replacing 5 bytes by 3, then 4: U is 9, 9, 17." U of the book, and X − D of the file.
+abbrev pub five : Call
+five = adding (1 ∷ []) (1 ∷ 2 ∷ 3 ∷ 4 ∷ 5 ∷ []) 1
+
+abbrev pub by-three : Call
+by-three = adding (1 ∷ []) (6 ∷ 7 ∷ 8 ∷ []) 2
+
+abbrev pub by-four : Call
+by-four = adding (1 ∷ []) (6 ∷ 7 ∷ 8 ∷ 9 ∷ []) 2
+
+pub used-5 : used (five ∷ []) ≡ 9
+unfolding used
+used-5 = refl
+
+pub used-3 : used (five ∷ by-three ∷ []) ≡ 9
+unfolding used
+used-3 = refl
+
+pub used-4 : used (five ∷ by-three ∷ by-four ∷ []) ≡ 17
+unfolding used
+used-4 = refl
+
+pub free-4 : field (after (five ∷ by-three ∷ by-four ∷ []) (fresh 8192 4)) freeField ≡ 4096 + 17
+unfolding after fresh
+free-4 = refl
+
+-- "The key of zeros gives 7."
+pub zeros-7 : told (point 0 ∷ deleting (0 ∷ []) ∷ looking (0 ∷ []) ∷ []) (fresh 4096 4) ≡ 7 ∷ 7 ∷ 7 ∷ []
+unfolding told fresh
+zeros-7 = refl
