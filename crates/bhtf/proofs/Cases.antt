@@ -14,42 +14,47 @@ use Rattle.bhtf.specs.Bytes.{Bytes, part, store, number, digits, zeros, 
 use Rattle.bhtf.specs.Image.{Layout, field, setField, roundUp, dataStart, lastPage, hashStep, hashFrom, scramble, hash, layoutOf, home, slotSize, slotStart, slot, putSlot, keyOf, offsetOf, entry, blank, vacant}
 use Rattle.bhtf.specs.Create.{step, state, drawn, drawnBytes, slotsAsked, freshHeader, freshImage}
 use Rattle.bhtf.specs.Search.{next, dist, probe, search, isMet, isEmpty, slotOf}
-use Rattle.bhtf.specs.Messages.{headSize, letterAt, lengthAt, textAt, isActive, shown, held, message, takeSpace, retire, overwrite, freshText, renewedText, placedText, enter, inserted, relocated, renewed, addedAt, added, among, moved, walk, closed, deletedAt, deleted}
-use Rattle.bhtf.specs.Questions.{ask, firstNo, sizeAllowed, keyAllowed, slotsAllowed, tableFits, versionKnown, headerSound, nameAllowed, modeKnown, newInMode1, slotToTake, messageSound, metMessageSound, somePoint, lengthAllowed, spaceLeft, createAsks, opened, addAsks, lookupAsks, deleteAsks, createNumber, openNumber, addNumber, deleteNumber, lookupNumber}
-use Rattle.bhtf.specs.Calls.{Call, adding, deleting, looking, counting, Answer, plain, settled, create, add, delete, lookupText, lookup, countOf, count, perform, answers, imageAfter}
-use Rattle.bhtf.specs.Book.{Book, Terms, Entry, newBook, find, without, withEntry, stepOf, roomAsks, entered, addAbsent, replace, append, addPresent, addFound, guarded, bookAdd, deleteFound, bookDelete, lookupFound, bookLookup, bookCount, bookStep, bookAnswers, bookAfter}
+use Rattle.bhtf.specs.Messages.{headSize, letterAt, lengthAt, textAt, isActive, shown, held, message, setFree, takeSpace, retire, overwrite, freshText, renewedText, placedText, enter, inserted, relocated, renewed, renewedAt, addedAt, added, among, moved, walk, closed, deletedAt, deleted}
+use Rattle.bhtf.specs.Questions.{ask, firstNo, sizeAllowed, keyAllowed, slotsAllowed, tableFits, versionKnown, headerSound, nameAllowed, modeKnown, newInMode1, slotToTake, messageSound, metMessageSound, somePoint, lengthAllowed, spaceLeft, createAsks, opened, named, pointAsks, addAsks, lookupAsks, deleteAsks, createNumber, openNumber, addNumber, deleteNumber, lookupNumber}
+use Rattle.bhtf.specs.Calls.{Call, adding, deleting, looking, counting, Answer, plain, settled, create, add, delete, lookupOffset, lookupStart, lookupLength, lookup, countOf, count, perform, answers, stateAfter}
+use Rattle.bhtf.specs.Book.{newBook, find, without, withEntry, stepOf, roomAsks, entered, placed, addAbsent, replace, append, addPresent, addFound, guarded, bookAdd, deleteFound, bookDelete, lookupFound, bookLookup, bookCount, bookStep}
 use Rattle.bhtf.specs.Demand.{fileText, textOf, bookText, termsOf}
 
 -- ---- what the cases look at
 
+-- unfolding this unfolds all that the table computes with
+pub definitions : ℕ
+unfolding part store number digits zeros allZero same field setField roundUp dataStart lastPage hashStep hashFrom scramble hash layoutOf home slotSize slotStart slot putSlot keyOf offsetOf entry blank vacant step state drawn drawnBytes slotsAsked freshHeader freshImage next dist probe search isMet isEmpty slotOf headSize letterAt lengthAt textAt isActive shown held message setFree takeSpace retire overwrite freshText renewedText placedText enter inserted relocated renewed renewedAt addedAt added among moved walk closed deletedAt deleted ask firstNo sizeAllowed keyAllowed slotsAllowed tableFits versionKnown headerSound nameAllowed modeKnown newInMode1 slotToTake messageSound metMessageSound somePoint lengthAllowed spaceLeft createAsks opened named pointAsks addAsks lookupAsks deleteAsks createNumber openNumber addNumber deleteNumber lookupNumber plain settled create add delete lookupOffset lookupStart lookupLength lookup countOf count perform answers stateAfter newBook find without withEntry stepOf roomAsks entered placed addAbsent replace append addPresent addFound guarded bookAdd deleteFound bookDelete lookupFound bookLookup bookCount bookStep fileText textOf bookText termsOf
+definitions = 0
+
 pub fresh : ℕ → ℕ → Bytes
-unfolding part store number digits zeros allZero same field setField roundUp dataStart lastPage hashStep hashFrom scramble hash layoutOf home slotSize slotStart slot putSlot keyOf offsetOf entry blank vacant step state drawn drawnBytes slotsAsked freshHeader freshImage next dist probe search isMet isEmpty slotOf headSize letterAt lengthAt textAt isActive shown held message takeSpace retire overwrite freshText renewedText placedText enter inserted relocated renewed addedAt added among moved walk closed deletedAt deleted ask firstNo sizeAllowed keyAllowed slotsAllowed tableFits versionKnown headerSound nameAllowed modeKnown newInMode1 slotToTake messageSound metMessageSound somePoint lengthAllowed spaceLeft createAsks opened addAsks lookupAsks deleteAsks createNumber openNumber addNumber deleteNumber lookupNumber plain settled create add delete lookupText lookup countOf count perform answers imageAfter newBook find without withEntry stepOf roomAsks entered addAbsent replace append addPresent addFound guarded bookAdd deleteFound bookDelete lookupFound bookLookup bookCount bookStep bookAnswers bookAfter fileText textOf bookText termsOf
-fresh L N = create (zeros L) 1 N 0 .image
+unfolding definitions
+fresh L N = create (zeros L) 1 N 0 .after
 
 pub after : List Call → Bytes → Bytes
-unfolding part store number digits zeros allZero same field setField roundUp dataStart lastPage hashStep hashFrom scramble hash layoutOf home slotSize slotStart slot putSlot keyOf offsetOf entry blank vacant step state drawn drawnBytes slotsAsked freshHeader freshImage next dist probe search isMet isEmpty slotOf headSize letterAt lengthAt textAt isActive shown held message takeSpace retire overwrite freshText renewedText placedText enter inserted relocated renewed addedAt added among moved walk closed deletedAt deleted ask firstNo sizeAllowed keyAllowed slotsAllowed tableFits versionKnown headerSound nameAllowed modeKnown newInMode1 slotToTake messageSound metMessageSound somePoint lengthAllowed spaceLeft createAsks opened addAsks lookupAsks deleteAsks createNumber openNumber addNumber deleteNumber lookupNumber plain settled create add delete lookupText lookup countOf count perform answers imageAfter newBook find without withEntry stepOf roomAsks entered addAbsent replace append addPresent addFound guarded bookAdd deleteFound bookDelete lookupFound bookLookup bookCount bookStep bookAnswers bookAfter fileText textOf bookText termsOf
-after calls img = imageAfter calls img
+unfolding definitions
+after calls img = stateAfter perform calls img
 
 numbers : List Answer → List ℕ
 numbers [] = []
 numbers (a ∷ more) = a .number ∷ numbers more
 
 pub told : List Call → Bytes → List ℕ
-unfolding part store number digits zeros allZero same field setField roundUp dataStart lastPage hashStep hashFrom scramble hash layoutOf home slotSize slotStart slot putSlot keyOf offsetOf entry blank vacant step state drawn drawnBytes slotsAsked freshHeader freshImage next dist probe search isMet isEmpty slotOf headSize letterAt lengthAt textAt isActive shown held message takeSpace retire overwrite freshText renewedText placedText enter inserted relocated renewed addedAt added among moved walk closed deletedAt deleted ask firstNo sizeAllowed keyAllowed slotsAllowed tableFits versionKnown headerSound nameAllowed modeKnown newInMode1 slotToTake messageSound metMessageSound somePoint lengthAllowed spaceLeft createAsks opened addAsks lookupAsks deleteAsks createNumber openNumber addNumber deleteNumber lookupNumber plain settled create add delete lookupText lookup countOf count perform answers imageAfter newBook find without withEntry stepOf roomAsks entered addAbsent replace append addPresent addFound guarded bookAdd deleteFound bookDelete lookupFound bookLookup bookCount bookStep bookAnswers bookAfter fileText textOf bookText termsOf numbers
-told calls img = numbers (answers calls img)
+unfolding definitions numbers
+told calls img = numbers (answers perform calls img)
 
 pub keys : ℕ → ℕ → Bytes → List Bytes
-unfolding part store number digits zeros allZero same field setField roundUp dataStart lastPage hashStep hashFrom scramble hash layoutOf home slotSize slotStart slot putSlot keyOf offsetOf entry blank vacant step state drawn drawnBytes slotsAsked freshHeader freshImage next dist probe search isMet isEmpty slotOf headSize letterAt lengthAt textAt isActive shown held message takeSpace retire overwrite freshText renewedText placedText enter inserted relocated renewed addedAt added among moved walk closed deletedAt deleted ask firstNo sizeAllowed keyAllowed slotsAllowed tableFits versionKnown headerSound nameAllowed modeKnown newInMode1 slotToTake messageSound metMessageSound somePoint lengthAllowed spaceLeft createAsks opened addAsks lookupAsks deleteAsks createNumber openNumber addNumber deleteNumber lookupNumber plain settled create add delete lookupText lookup countOf count perform answers imageAfter newBook find without withEntry stepOf roomAsks entered addAbsent replace append addPresent addFound guarded bookAdd deleteFound bookDelete lookupFound bookLookup bookCount bookStep bookAnswers bookAfter fileText textOf bookText termsOf
+unfolding definitions
 keys zero i img = []
 keys (suc n) i img = keyOf (layoutOf img) (slot (layoutOf img) img i) ∷ keys n (suc i) img
 
 pub used : List Call → ℕ
-unfolding part store number digits zeros allZero same field setField roundUp dataStart lastPage hashStep hashFrom scramble hash layoutOf home slotSize slotStart slot putSlot keyOf offsetOf entry blank vacant step state drawn drawnBytes slotsAsked freshHeader freshImage next dist probe search isMet isEmpty slotOf headSize letterAt lengthAt textAt isActive shown held message takeSpace retire overwrite freshText renewedText placedText enter inserted relocated renewed addedAt added among moved walk closed deletedAt deleted ask firstNo sizeAllowed keyAllowed slotsAllowed tableFits versionKnown headerSound nameAllowed modeKnown newInMode1 slotToTake messageSound metMessageSound somePoint lengthAllowed spaceLeft createAsks opened addAsks lookupAsks deleteAsks createNumber openNumber addNumber deleteNumber lookupNumber plain settled create add delete lookupText lookup countOf count perform answers imageAfter newBook find without withEntry stepOf roomAsks entered addAbsent replace append addPresent addFound guarded bookAdd deleteFound bookDelete lookupFound bookLookup bookCount bookStep bookAnswers bookAfter fileText textOf bookText termsOf
-used calls = bookAfter (termsOf 8192 1 4) calls newBook .used
+unfolding definitions
+used calls = stateAfter bookStep calls (newBook (termsOf 8192 1 4)) .used
 
 pub bookTold : List Call → List ℕ
-unfolding part store number digits zeros allZero same field setField roundUp dataStart lastPage hashStep hashFrom scramble hash layoutOf home slotSize slotStart slot putSlot keyOf offsetOf entry blank vacant step state drawn drawnBytes slotsAsked freshHeader freshImage next dist probe search isMet isEmpty slotOf headSize letterAt lengthAt textAt isActive shown held message takeSpace retire overwrite freshText renewedText placedText enter inserted relocated renewed addedAt added among moved walk closed deletedAt deleted ask firstNo sizeAllowed keyAllowed slotsAllowed tableFits versionKnown headerSound nameAllowed modeKnown newInMode1 slotToTake messageSound metMessageSound somePoint lengthAllowed spaceLeft createAsks opened addAsks lookupAsks deleteAsks createNumber openNumber addNumber deleteNumber lookupNumber plain settled create add delete lookupText lookup countOf count perform answers imageAfter newBook find without withEntry stepOf roomAsks entered addAbsent replace append addPresent addFound guarded bookAdd deleteFound bookDelete lookupFound bookLookup bookCount bookStep bookAnswers bookAfter fileText textOf bookText termsOf numbers
-bookTold calls = numbers (bookAnswers (termsOf 8192 1 4) calls newBook)
+unfolding definitions numbers
+bookTold calls = numbers (answers bookStep calls (newBook (termsOf 8192 1 4)))
 
 -- a point with the one-byte name c and no message
 abbrev pub point : ℕ → Call

@@ -4,4 +4,5 @@ pub mod Slots
 pub mod Cyclic
 pub mod Total
 pub mod Table
+pub mod Opened
 pub mod Cases

@@ -1,20 +1,20 @@
 -- The calls, each as a function from the image's bytes and the arguments to the answer and every byte afterwards.
 --     Answer        what a call answers: its number; count's C or lookup's length; lookup's bytes
---     Outcome       the image afterwards, and the answer
+--     Outcome S     the state afterwards (a file's: the image), and the answer
 --     create, add, delete, lookup, count     for any bytes, names, data and modes
---     run calls img     a list of calls, each on the image that the last one left
+--     answers, stateAfter     of a list of calls, each on the state that the last one left
 -- Assumes nothing.
-use Prim.Native.Nat.{ℕ, zero, suc}
-use mathlib.Core.Bool.{cond}
+use Prim.Native.Nat.{ℕ, zero, suc, _+_}
+use mathlib.Core.Bool.{cond, _&&_}
 use mathlib.Core.List.{List, [], _∷_}
 use lib.ListN.{length}
 use lib.Dec.{eqb}
-use Rattle.bhtf.specs.Bytes.{Bytes}
+use Rattle.bhtf.specs.Bytes.{Bytes, part}
 use Rattle.bhtf.specs.Limits.{pointsField}
-use Rattle.bhtf.specs.Image.{field, layoutOf, slot, offsetOf}
+use Rattle.bhtf.specs.Image.{field, Layout, layoutOf, slot, offsetOf}
 use Rattle.bhtf.specs.Create.{slotsAsked, freshImage}
 use Rattle.bhtf.specs.Search.{search, slotOf}
-use Rattle.bhtf.specs.Messages.{shown, added, deleted}
+use Rattle.bhtf.specs.Messages.{headSize, isActive, held, added, deleted}
 use Rattle.bhtf.specs.Questions.{createNumber, openNumber, addNumber, deleteNumber, lookupNumber}
 
 pub record Answer : Type 0 where
@@ -22,11 +22,11 @@ pub record Answer : Type 0 where
   pub amount : ℕ
   pub text : Bytes
 
-pub record Outcome : Type 0 where
-  pub image : Bytes
+pub record Outcome (S : Type 0) : Type 0 where
+  pub after : S
   pub answer : Answer
 
--- "An accepted create, add or delete answers 0"; a refused call "shows an empty message"
+-- "An accepted create, add or delete answers 0"; of a refused call the part is "the image's first 0 bytes"
 unfoldable pub plain : ℕ → Answer
 plain n = record { number = n; amount = 0; text = [] }
 
@@ -34,38 +34,47 @@ plain n = record { number = n; amount = 0; text = [] }
 unfoldable pub settled : ℕ → Bytes → Bytes → Bytes
 settled n img after = cond (eqb n 0) after img
 
-unfoldable pub create : Bytes → ℕ → ℕ → ℕ → Outcome
+unfoldable pub create : Bytes → ℕ → ℕ → ℕ → Outcome Bytes
 create img K N seed =
     let n : ℕ = createNumber (length img) K (slotsAsked N) in
-    record { image = settled n img (freshImage (length img) K (slotsAsked N) seed); answer = plain n }
+    record { after = settled n img (freshImage (length img) K (slotsAsked N) seed); answer = plain n }
 
-unfoldable pub add : Bytes → Bytes → Bytes → ℕ → Outcome
+unfoldable pub add : Bytes → Bytes → Bytes → ℕ → Outcome Bytes
 add img key data′ mode =
     let n : ℕ = addNumber img key data′ mode in
-    record { image = settled n img (added (layoutOf img) img key data′ mode); answer = plain n }
+    record { after = settled n img (added (layoutOf img) img key data′ mode); answer = plain n }
 
-unfoldable pub delete : Bytes → Bytes → Outcome
+unfoldable pub delete : Bytes → Bytes → Outcome Bytes
 delete img key =
     let n : ℕ = deleteNumber img key in
-    record { image = settled n img (deleted (layoutOf img) img (search (layoutOf img) img key)); answer = plain n }
+    record { after = settled n img (deleted (layoutOf img) img (search (layoutOf img) img key)); answer = plain n }
 
--- "Lookup answers the message length, 0 for none, and hands back the message bytes"
-unfoldable pub lookupText : Bytes → Bytes → Bytes
-lookupText img key =
-    let g = layoutOf img in
-    cond (eqb (lookupNumber img key) 0) (shown g img (offsetOf g (slot g img (slotOf (search g img key))))) []
+-- the point's message offset, where lookup is accepted and the message active; else 0
+unfoldable pub lookupOffset : Bytes → Bytes → ℕ
+lookupOffset img key =
+    let g : Layout = layoutOf img in
+    let o : ℕ = offsetOf g (slot g img (slotOf (search g img key))) in
+    cond (eqb (lookupNumber img key) 0 && isActive img o) o 0
 
-unfoldable pub lookup : Bytes → Bytes → Outcome
+-- "Lookup answers the message length, 0 for none, and hands back the message bytes as a part of the lent image. With no message,
+-- or refused, the part is the image's first 0 bytes." Where the part starts, and its length.
+unfoldable pub lookupStart : Bytes → Bytes → ℕ
+lookupStart img key = cond (eqb (lookupOffset img key) 0) 0 (lookupOffset img key + headSize (layoutOf img))
+
+unfoldable pub lookupLength : Bytes → Bytes → ℕ
+lookupLength img key = held (layoutOf img) img (lookupOffset img key)
+
+unfoldable pub lookup : Bytes → Bytes → Outcome Bytes
 lookup img key =
-    let t : Bytes = lookupText img key in
-    record { image = img; answer = record { number = lookupNumber img key; amount = length t; text = t } }
+    let m : ℕ = lookupLength img key in
+    record { after = img; answer = record { number = lookupNumber img key; amount = m; text = part img (lookupStart img key) m } }
 
 -- "count answers C, and 0 beside the number when refused"
 unfoldable pub countOf : Bytes → ℕ
 countOf img = cond (eqb (openNumber img) 0) (field img pointsField) 0
 
-unfoldable pub count : Bytes → Outcome
-count img = record { image = img; answer = record { number = openNumber img; amount = countOf img; text = [] } }
+unfoldable pub count : Bytes → Outcome Bytes
+count img = record { after = img; answer = record { number = openNumber img; amount = countOf img; text = [] } }
 
 -- ---- lists of calls
 
@@ -76,17 +85,17 @@ pub data Call : Type 0 where
   looking : Bytes → Call
   counting : Call
 
-unfoldable pub perform : Call → Bytes → Outcome
+unfoldable pub perform : Call → Bytes → Outcome Bytes
 perform (adding key data′ mode) img = add img key data′ mode
 perform (deleting key) img = delete img key
 perform (looking key) img = lookup img key
 perform counting img = count img
 
--- the answers of a list of calls, in order, and the image after the last
-unfoldable pub answers : List Call → Bytes → List Answer
-answers [] img = []
-answers (c ∷ cs) img = perform c img .answer ∷ answers cs (perform c img .image)
+-- the answers of a list of calls, in order, and the state after the last; of the file and of the book alike
+unfoldable pub answers : {S : Type 0} → (Call → S → Outcome S) → List Call → S → List Answer
+answers do′ [] s = []
+answers do′ (c ∷ cs) s = do′ c s .answer ∷ answers do′ cs (do′ c s .after)
 
-unfoldable pub imageAfter : List Call → Bytes → Bytes
-imageAfter [] img = img
-imageAfter (c ∷ cs) img = imageAfter cs (perform c img .image)
+unfoldable pub stateAfter : {S : Type 0} → (Call → S → Outcome S) → List Call → S → S
+stateAfter do′ [] s = s
+stateAfter do′ (c ∷ cs) s = stateAfter do′ cs (do′ c s .after)

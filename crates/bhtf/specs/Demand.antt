@@ -13,8 +13,8 @@ use Rattle.bhtf.specs.Image.{layoutOf, dataStart}
 use Rattle.bhtf.specs.Create.{slotsAsked}
 use Rattle.bhtf.specs.Search.{search, isMet}
 use Rattle.bhtf.specs.Questions.{nameAllowed}
-use Rattle.bhtf.specs.Calls.{create, lookup, Call, answers, imageAfter}
-use Rattle.bhtf.specs.Book.{Book, Terms, Entry, newBook, find, bookAnswers, bookAfter}
+use Rattle.bhtf.specs.Calls.{create, lookup, perform, Call, answers, stateAfter}
+use Rattle.bhtf.specs.Book.{Book, Terms, Entry, newBook, find, bookStep}
 
 -- "The file finds a point when its name has K bytes, not all zero, and the search meets it; its message is what lookup shows."
 unfoldable pub fileText : Bytes → Bytes → Option Bytes
@@ -34,13 +34,16 @@ bookText b name = textOf (find name (b .entries))
 unfoldable pub termsOf : ℕ → ℕ → ℕ → Terms
 termsOf L K N = record { K = K; N = N; R = L - dataStart K N; head = lengthWidth + 1; most = mostLength }
 
--- For every slice, K, N and seed that create accepts, and every list of calls, the file's answers are the book's, in order;
--- and after the list the file finds exactly the book's points with the book's texts.
+-- On a list of calls the image's answers are the book's, in order; and after the list the file finds exactly the book's points
+-- with the book's texts.
+pub Agrees : Bytes → Book → List Call → Type 0
+Agrees img b calls =
+    (answers perform calls img ≡ answers bookStep calls b)
+    × ((name : Bytes) → fileText (stateAfter perform calls img) name ≡ bookText (stateAfter bookStep calls b) name)
+
+-- Demand 3: for every slice, K, N and seed that create accepts, and for every list of calls, refused ones included
 pub Agreement : Type 0
 Agreement =
     (img : Bytes) (K N seed : ℕ) → create img K N seed .answer .number ≡ 0
     → (calls : List Call)
-    → (answers calls (create img K N seed .image) ≡ bookAnswers (termsOf (length img) K (slotsAsked N)) calls newBook)
-    × ((name : Bytes)
-    → fileText (imageAfter calls (create img K N seed .image)) name
-    ≡ bookText (bookAfter (termsOf (length img) K (slotsAsked N)) calls newBook) name)
+    → Agrees (create img K N seed .after) (newBook (termsOf (length img) K (slotsAsked N))) calls

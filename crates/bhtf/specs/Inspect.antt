@@ -5,9 +5,9 @@ use mathlib.Core.Bool.{Bool, true, false, cond, not, _&&_}
 use mathlib.Core.Option.{Option, none, some}
 use mathlib.Core.List.{[]}
 use lib.Dec.{eqb, ltb}
-use Rattle.bhtf.specs.Bytes.{Bytes}
+use Rattle.bhtf.specs.Bytes.{Bytes, part}
 use Rattle.bhtf.specs.Limits.{pointsField}
-use Rattle.bhtf.specs.Image.{field, Layout, layoutOf, slot, keyOf, offsetOf, vacant}
+use Rattle.bhtf.specs.Image.{field, Layout, layoutOf, slotStart, slot, keyOf, offsetOf, vacant}
 use Rattle.bhtf.specs.Search.{Probe, met, empty, exhausted, search}
 use Rattle.bhtf.specs.Questions.{messageSound, openNumber}
 
@@ -30,7 +30,7 @@ takenFrom g img (suc left) i = cond (taken g img i) 1 0 + takenFrom g img left (
 -- end. The end and a refusal show the image's first 0 bytes."
 pub data Stop : Type 0 where
   refused : ℕ → Stop
-  at : ℕ → Stop
+  stopped : ℕ → Stop
   end : Stop
 
 unfoldable pub nextTaken : Layout → Bytes → ℕ → Option ℕ
@@ -38,15 +38,30 @@ nextTaken g img i = lowest (taken g img) (g .N - i) i
 
 unfoldable pub stopAt : Option ℕ → Stop
 stopAt none = end
-stopAt (some i) = at i
+stopAt (some i) = stopped i
 
 unfoldable pub keyWalk : Bytes → ℕ → Stop
 keyWalk img i = cond (eqb (openNumber img) 0) (stopAt (nextTaken (layoutOf img) img i)) (refused (openNumber img))
 
+-- the walk's number
+unfoldable pub stopNumber : Stop → ℕ
+stopNumber (refused n) = n
+stopNumber (stopped i) = 0
+stopNumber end = 0
+
+-- where the part that the walk shows starts, and its length
+unfoldable pub keyStart : Bytes → Stop → ℕ
+keyStart img (refused n) = 0
+keyStart img (stopped i) = slotStart (layoutOf img) i
+keyStart img end = 0
+
+unfoldable pub keyLength : Bytes → Stop → ℕ
+keyLength img (refused n) = 0
+keyLength img (stopped i) = layoutOf img .K
+keyLength img end = 0
+
 unfoldable pub keyShown : Bytes → Stop → Bytes
-keyShown img (refused n) = []
-keyShown img (at i) = keyOf (layoutOf img) (slot (layoutOf img) img i)
-keyShown img end = []
+keyShown img s = part img (keyStart img s) (keyLength img s)
 
 -- ---- the check
 
@@ -84,3 +99,10 @@ check img =
     cond (eqb (openNumber img) 0)
     (verdictOf (countSound (layoutOf img) img) (lowest (slotFails (layoutOf img) img) (layoutOf img .N) 0))
     (refused (openNumber img))
+
+-- the check's number
+unfoldable pub verdictNumber : Verdict → ℕ
+verdictNumber (refused n) = n
+verdictNumber sound = 0
+verdictNumber (slotBad i) = 0
+verdictNumber countBad = 0

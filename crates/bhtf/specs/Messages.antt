@@ -46,12 +46,15 @@ message g t = (active ∷ digits (g .W) (length t)) ++ t
 
 -- ---- effects
 
--- "New space for m bytes is taken at X, and X grows by 4 + m." "A call that changes X rewrites M"
+-- "A call that changes X rewrites M"
+unfoldable pub setFree : Layout → Bytes → ℕ → Bytes
+setFree g img x = setField (setField img freeField x) pageField (lastPage (g .D) x)
+
+-- "New space for m bytes is taken at X, and X grows by 4 + m."
 unfoldable pub takeSpace : Layout → Bytes → Bytes → Bytes
 takeSpace g img t =
     let x : ℕ = field img freeField in
-    let x′ : ℕ = x + headSize g + length t in
-    setField (setField (store img x (message g t)) freeField x′) pageField (lastPage (g .D) x′)
+    setFree g (store img x (message g t)) (x + headSize g + length t)
 
 -- "The message header, if active, becomes "d""
 unfoldable pub retire : Bytes → ℕ → Bytes
@@ -61,9 +64,9 @@ retire img o = cond (isActive img o) (store img o (inactive ∷ [])) img
 unfoldable pub overwrite : Layout → Bytes → ℕ → Bytes → Bytes
 overwrite g img o t = store img o (message g t ++ zeros (held g img o - length t))
 
--- The message to be placed in new space, if any. "Data of length 0 gives offset 0."
-unfoldable pub freshText : Bytes → Option Bytes
-freshText data′ = cond (eqb (length data′) 0) none (some data′)
+-- The message to be placed in new space, if any: of a point that is absent. "Data of length 0 gives offset 0."
+unfoldable pub freshText : Bytes → ℕ → Option Bytes
+freshText data′ mode = cond (eqb (length data′) 0) none (some data′)
 
 -- Of a point that is present with message offset o. Mode 2 takes new space where the data is longer than the length at
 -- the offset; mode 3 where there is data: "An active message is copied with the new bytes behind it into new space. ..
@@ -75,8 +78,8 @@ renewedText g img o data′ mode =
 
 unfoldable pub placedText : Layout → Bytes → Probe → Bytes → ℕ → Option Bytes
 placedText g img (met i) data′ mode = renewedText g img (offsetOf g (slot g img i)) data′ mode
-placedText g img (empty i) data′ mode = freshText data′
-placedText g img exhausted data′ mode = freshText data′
+placedText g img (empty i) data′ mode = freshText data′ mode
+placedText g img exhausted data′ mode = freshText data′ mode
 
 -- "Add, key absent: the entry goes to the empty slot where the search ended; C grows by 1."
 unfoldable pub enter : Layout → Bytes → ℕ → Bytes → ℕ → Bytes
@@ -87,22 +90,23 @@ inserted g img i key none = enter g img i key 0
 inserted g img i key (some t) = enter g (takeSpace g img t) i key (field img freeField)
 
 -- "the old header, if there is one, becomes "d" and new space is taken"
-unfoldable pub relocated : Layout → Bytes → ℕ → Bytes → Bytes → Bytes
-relocated g img i key t =
-    putSlot g (takeSpace g (retire img (offsetOf g (slot g img i))) t) i (entry key (field img freeField))
+unfoldable pub relocated : Layout → Bytes → ℕ → ℕ → Bytes → Bytes → Bytes
+relocated g img i o key t = putSlot g (takeSpace g (retire img o) t) i (entry key (field img freeField))
 
 -- Mode 2: "length 0 turns "a" into "d". A length at most that at the offset .. is written there as active".
 -- Mode 3: "length 0 changes nothing".
-unfoldable pub renewed : Layout → Bytes → ℕ → Bytes → Bytes → ℕ → Option Bytes → Bytes
-renewed g img i key data′ mode (some t) = relocated g img i key t
-renewed g img i key data′ mode none =
-    cond (eqb mode 2)
-    (cond (eqb (length data′) 0) (retire img (offsetOf g (slot g img i))) (overwrite g img (offsetOf g (slot g img i)) data′))
-    img
+unfoldable pub renewed : Layout → Bytes → ℕ → ℕ → Bytes → Bytes → ℕ → Option Bytes → Bytes
+renewed g img i o key data′ mode (some t) = relocated g img i o key t
+renewed g img i o key data′ mode none =
+    cond (eqb mode 2) (cond (eqb (length data′) 0) (retire img o) (overwrite g img o data′)) img
+
+-- of a point that is present in slot i with message offset o
+unfoldable pub renewedAt : Layout → Bytes → ℕ → ℕ → Bytes → Bytes → ℕ → Bytes
+renewedAt g img i o key data′ mode = renewed g img i o key data′ mode (renewedText g img o data′ mode)
 
 unfoldable pub addedAt : Layout → Bytes → Probe → Bytes → Bytes → ℕ → Bytes
-addedAt g img (met i) key data′ mode = renewed g img i key data′ mode (renewedText g img (offsetOf g (slot g img i)) data′ mode)
-addedAt g img (empty i) key data′ mode = inserted g img i key (freshText data′)
+addedAt g img (met i) key data′ mode = renewedAt g img i (offsetOf g (slot g img i)) key data′ mode
+addedAt g img (empty i) key data′ mode = inserted g img i key (freshText data′ mode)
 addedAt g img exhausted key data′ mode = img
 
 unfoldable pub added : Layout → Bytes → Bytes → Bytes → ℕ → Bytes

@@ -47,7 +47,7 @@ unfoldable pub versionKnown : Bytes → Bool
 versionKnown img = same (part img 0 5) magic && eqb (getD img 5 0) major && eqb (getD img 6 0) minor && leb (getD img 7 0) patch
 
 -- "6. Is K from 1 to 32, N from 1 to 65,536, C at most N, F ≤ E ≤ 255, are the scramble and table offsets as above, is D by its
--- formula, and D ≤ X ≤ L?" No field within these bounds has its top bit set: `headerSound-top-bit`.
+-- formula, and D ≤ X ≤ L?" After question 1 no field within these bounds has its top bit set: `top-bit`.
 unfoldable pub headerSound : Bytes → Bool
 headerSound img =
     keyAllowed (field img keyField)
@@ -70,9 +70,9 @@ modeKnown mode = leb 1 mode && leb mode 3
 unfoldable pub newInMode1 : Probe → ℕ → Bool
 newInMode1 s mode = not (eqb mode 1 && isMet s)
 
--- "10. If the key is absent, is a slot empty and C below N?"
-unfoldable pub slotToTake : Layout → Bytes → Probe → Bool
-slotToTake g img s = isMet s || (isEmpty s && ltb (field img pointsField) (g .N))
+-- "10. If the key is absent, is a slot empty and C below N?" of a number of points
+unfoldable pub slotToTake : ℕ → ℕ → Probe → Bool
+slotToTake points N s = isMet s || (isEmpty s && ltb points N)
 
 -- "11. If the key is present with an offset other than 0: is it at least D, the letter "a" or "d", m at least 1, the
 -- message's end at most X?" of the offset o
@@ -99,10 +99,10 @@ unfoldable pub lengthAllowed : Layout → Option Bytes → Bool
 lengthAllowed g none = true
 lengthAllowed g (some t) = leb (length t) (g .most)
 
--- "13. Does that space end at or below L?"
-unfoldable pub spaceLeft : Layout → Bytes → Option Bytes → Bool
-spaceLeft g img none = true
-spaceLeft g img (some t) = leb (field img freeField + headSize g + length t) (length img)
+-- "13. Does that space end at or below L?" of space that is taken at a place
+unfoldable pub spaceLeft : Layout → ℕ → ℕ → Option Bytes → Bool
+spaceLeft g place L none = true
+spaceLeft g place L (some t) = leb (place + headSize g + length t) L
 
 -- "14. Is the key present?" is `isMet`.
 
@@ -114,16 +114,22 @@ createAsks L K N = ask 1 (sizeAllowed L) ∷ ask 2 (keyAllowed K) ∷ ask 3 (slo
 unfoldable pub opened : Bytes → List Question → List Question
 opened img more = ask 1 (sizeAllowed (length img)) ∷ ask 5 (versionKnown img) ∷ ask 6 (headerSound img) ∷ more
 
-unfoldable pub addAsks : Layout → Bytes → Probe → Bytes → Bytes → ℕ → List Question
-addAsks g img s key data′ mode =
-    ask 7 (nameAllowed (g .K) key)
-    ∷ ask 8 (modeKnown mode)
-    ∷ ask 9 (newInMode1 s mode)
-    ∷ ask 10 (slotToTake g img s)
+-- 7 and 8, before all that looks at the table
+unfoldable pub named : ℕ → Bytes → ℕ → List Question → List Question
+named K key mode more = ask 7 (nameAllowed K key) ∷ ask 8 (modeKnown mode) ∷ more
+
+-- 9 to 13
+unfoldable pub pointAsks : Layout → Bytes → Probe → Bytes → ℕ → List Question
+pointAsks g img s data′ mode =
+    ask 9 (newInMode1 s mode)
+    ∷ ask 10 (slotToTake (field img pointsField) (g .N) s)
     ∷ ask 11 (metMessageSound g img s)
     ∷ ask 12 (lengthAllowed g (placedText g img s data′ mode))
-    ∷ ask 13 (spaceLeft g img (placedText g img s data′ mode))
+    ∷ ask 13 (spaceLeft g (field img freeField) (length img) (placedText g img s data′ mode))
     ∷ []
+
+unfoldable pub addAsks : Layout → Bytes → Probe → Bytes → Bytes → ℕ → List Question
+addAsks g img s key data′ mode = named (g .K) key mode (pointAsks g img s data′ mode)
 
 unfoldable pub lookupAsks : Layout → Bytes → Probe → Bytes → List Question
 lookupAsks g img s key = ask 7 (nameAllowed (g .K) key) ∷ ask 14 (isMet s) ∷ ask 11 (metMessageSound g img s) ∷ []
