@@ -21,6 +21,10 @@ use Rattle.bhtf.proofs.Slots.{Room}
 
 -- ---- the first no
 
+pub firstNo-none : firstNo [] ≡ 0
+unfolding firstNo
+firstNo-none = refl
+
 -- a question answered yes is passed over
 pub firstNo-yes : (n : ℕ) (b : Bool) (qs : List Question) → b ≡ true → firstNo (ask n b ∷ qs) ≡ firstNo qs
 unfolding firstNo ask
@@ -125,3 +129,91 @@ opened-facts img h =
       free-low = leb-true fD fX (and-left _ _ is-g);
       free-high = leb-true fX L (and-right (leb fD fX) _ is-g);
     }
+
+-- and back: each fact is a question's yes
+pub facts-opened : (img : Bytes) → Opened img → openNumber img ≡ 0
+unfolding openNumber opened sizeAllowed headerSound keyAllowed slotsAllowed
+facts-opened img o =
+    let L = length img in
+    let fK = field img keyField in
+    let fN = field img slotsField in
+    let fE = field img lastField in
+    let fX = field img freeField in
+    firstNo-yes 1 _ _
+    (and-true (eqb (L % pageSize) 0 && leb pageSize L) _
+    (and-true (eqb (L % pageSize) 0) _ (eq-eqb _ _ (o .page)) (le-leb _ _ (o .size-low))) (le-leb _ _ (o .size-high)))
+    ∙ firstNo-yes 5 _ _ (o .version)
+    ∙ firstNo-yes 6 _ _
+    (and-true _ (leb (field img dataField) fX && leb fX L)
+    (and-true _ (eqb (field img dataField) (dataStart fK fN))
+    (and-true _ (eqb (field img scrambleField) scrambleStart && eqb (field img tableField) tableStart)
+    (and-true _ (leb (field img firstField) fE && leb fE mostCharacter)
+    (and-true _ (leb (field img pointsField) fN)
+    (and-true (leb 1 fK && leb fK mostKey) (leb 1 fN && leb fN mostSlots)
+    (and-true (leb 1 fK) _ (le-leb _ _ (o .key-low)) (le-leb _ _ (o .key-high)))
+    (and-true (leb 1 fN) _ (le-leb _ _ (o .slots-low)) (le-leb _ _ (o .slots-high))))
+    (le-leb _ _ (o .points)))
+    (and-true (leb (field img firstField) fE) _ (le-leb _ _ (o .first)) (le-leb _ _ (o .last))))
+    (and-true (eqb (field img scrambleField) scrambleStart) _ (eq-eqb _ _ (o .scramble-at)) (eq-eqb _ _ (o .table-at))))
+    (eq-eqb _ _ (o .data-at)))
+    (and-true (leb (field img dataField) fX) _ (le-leb _ _ (o .free-low)) (le-leb _ _ (o .free-high))))
+    ∙ firstNo-none
+
+-- ---- what follows
+
+-- the table lies below the data area, and both in the image
+pub opened-room : (img : Bytes) → Opened img → Room (layoutOf img) (length img)
+unfolding layoutOf dataStart slotSize
+opened-room img o =
+    record {
+      table = subst (λ (d : ℕ). tableStart + field img slotsField * (field img keyField + 4) ≤ d) (sym (o .data-at)) (roundUp-least (tableStart + field img slotsField * (field img keyField + 4)));
+      area = omega (arith, o .free-low, o .free-high);
+    }
+
+-- "Of the fields named here, one with its top bit set fails": none that passes is 2^31 or more
+pub record SmallFields (img : Bytes) : Type 0 where
+  pub key : field img keyField < 2 ^ 31
+  pub slots : field img slotsField < 2 ^ 31
+  pub points : field img pointsField < 2 ^ 31
+  pub first : field img firstField < 2 ^ 31
+  pub last : field img lastField < 2 ^ 31
+  pub scramble-at : field img scrambleField < 2 ^ 31
+  pub table-at : field img tableField < 2 ^ 31
+  pub data-at : field img dataField < 2 ^ 31
+  pub free : field img freeField < 2 ^ 31
+
+pub top-bit : (img : Bytes) → openNumber img ≡ 0 → SmallFields img
+top-bit img h =
+    let o = opened-facts img h in
+    record {
+      key = omega (arith, o);
+      slots = omega (arith, o);
+      points = omega (arith, o);
+      first = omega (arith, o);
+      last = omega (arith, o);
+      scramble-at = omega (arith, o);
+      table-at = omega (arith, o);
+      data-at = omega (arith, o);
+      free = omega (arith, o);
+    }
+
+-- ---- a call's number: the opening's where that refuses, else that of the questions after it
+pub firstNo-opened : (img : Bytes) (more : List Question) → openNumber img ≡ 0 → firstNo (opened img more) ≡ firstNo more
+unfolding openNumber opened
+firstNo-opened img more h =
+    let h5 = firstNo-tail 1 (sizeAllowed (length img)) _ (λ z. omega arith) h in
+    let h6 = firstNo-tail 5 (versionKnown img) _ (λ z. omega arith) h5 in
+    firstNo-yes 1 (sizeAllowed (length img)) _ (firstNo-head 1 _ _ (λ z. omega arith) h)
+    ∙ firstNo-yes 5 (versionKnown img) _ (firstNo-head 5 _ _ (λ z. omega arith) h5)
+    ∙ firstNo-yes 6 (headerSound img) more (firstNo-head 6 _ [] (λ z. omega arith) h6)
+
+pub firstNo-refused : (img : Bytes) (more : List Question) → (openNumber img ≡ 0 → ⊥) → firstNo (opened img more) ≡ openNumber img
+unfolding openNumber opened
+firstNo-refused img more h =
+    by-bool (sizeAllowed (length img))
+    (λ a. firstNo-yes 1 _ _ a ∙ by-bool (versionKnown img)
+    (λ b. firstNo-yes 5 _ _ b ∙ by-bool (headerSound img)
+    (λ c. absurd (h (firstNo-yes 1 _ _ a ∙ firstNo-yes 5 _ _ b ∙ firstNo-yes 6 _ [] c ∙ firstNo-none)))
+    (λ c. firstNo-no 6 _ more c ∙ sym (firstNo-yes 1 _ _ a ∙ firstNo-yes 5 _ _ b ∙ firstNo-no 6 _ [] c)))
+    (λ b. firstNo-no 5 _ _ b ∙ sym (firstNo-yes 1 _ _ a ∙ firstNo-no 5 _ _ b)))
+    (λ a. firstNo-no 1 _ _ a ∙ sym (firstNo-no 1 _ _ a))
