@@ -1,0 +1,6 @@
+// An image's header and its places:
+//     places      slot numbers and file offsets, as two types
+//     shape       the numbers of a header that place an image's bytes and that no call changes
+//     questions   questions 1 to 6
+pub mod places;
+pub mod shape;

@@ -1,0 +1,58 @@
+// A slot's number and an absolute offset are two types; only the functions here turn one into a number or into the other.
+ghost use mathlib.Core.Path.{_≡_};
+ghost use Prim.Native.Nat.{_+_, _*_, _≤_, _<_};
+ghost use Rattle.bhtf.specs.Search.{next};
+
+// A slot of the table.
+pub struct Slot(usize);
+
+// An absolute offset in the image.
+pub struct Offset(usize);
+
+impl Slot {
+    pub fn new(number: usize) -> Slot
+        ensures { λ r. ⌜ r .0 ≡ number ⌝ }
+    {
+        Slot(number)
+    }
+
+    pub fn number(self) -> usize
+        ensures { λ r. ⌜ r ≡ self .0 ⌝ }
+    {
+        self.0
+    }
+
+    // Where the slot's bytes begin.
+    pub fn start(self, key_size: usize) -> Offset
+        requires { ⌜ (self .0 < 1048576) × (key_size ≤ 32) ⌝ }
+        ensures { λ r. ⌜ r .0 ≡ 2048 + self .0 * (key_size + 4) ⌝ }
+    {
+        Offset(2048 + self.0 * (key_size + 4))
+    }
+
+    // The slot after this one, wrapping to the first.
+    pub fn next(self, slots: usize) -> Slot
+        requires { ⌜ self .0 < slots ⌝ }
+        ensures { λ r. ⌜ r .0 ≡ next slots (self .0) ⌝ }
+    {
+        if self.0 + 1 < slots {
+            Slot(self.0 + 1)
+        } else {
+            Slot(0)
+        }
+    }
+}
+
+impl Offset {
+    pub fn new(at: usize) -> Offset
+        ensures { λ r. ⌜ r .0 ≡ at ⌝ }
+    {
+        Offset(at)
+    }
+
+    pub fn at(self) -> usize
+        ensures { λ r. ⌜ r ≡ self .0 ⌝ }
+    {
+        self.0
+    }
+}
