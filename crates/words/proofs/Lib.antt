@@ -1,0 +1,4 @@
+pub mod Compare
+pub mod Copied
+pub mod Modulo
+pub mod Numbers
