@@ -2,6 +2,8 @@
 //     fields    numbers of 4 and 3 bytes, read and written by shifts and masks
 //     runs      runs of bytes zeroed, copied and compared
 //     arith     multiplication modulo 2^32, and the generator's step
+//     hashing   the hash of a key
 pub mod arith;
 pub mod fields;
+pub mod hashing;
 pub mod runs;

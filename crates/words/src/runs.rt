@@ -1,7 +1,8 @@
 // Runs of bytes: zeroed, copied, compared.
 ghost use mathlib.Core.Path.{_≡_};
 ghost use lib.ListN.{length};
-ghost use Rattle.bhtf.specs.Bytes.{zeros, allZero, same};
+ghost use Prim.Native.Nat.{_+_, _≤_};
+ghost use Rattle.bhtf.specs.Bytes.{part, store, zeros, allZero, same};
 
 // Makes every byte zero.
 pub fn zero(s: &mut [u8])
@@ -22,6 +23,18 @@ pub fn copy(dst: &mut [u8], src: &[u8])
     let mut i = 0;
     while i < dst.len() {
         dst[i] = src[i];
+        i += 1;
+    }
+}
+
+// Copies the n bytes from `from` on to `to`, above them.
+pub fn copy_up(s: &mut [u8], from: usize, to: usize, n: usize)
+    requires { ⌜ (from + n ≤ to) × (to + n ≤ length (now s)) ⌝ }
+    ensures { λ _. ⌜ now (s .exit) ≡ store (now (s .entry)) to (part (now (s .entry)) from n) ⌝ }
+{
+    let mut i = 0;
+    while i < n {
+        s[to + i] = s[from + i];
         i += 1;
     }
 }
