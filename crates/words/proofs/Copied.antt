@@ -1,0 +1,60 @@
+-- What a loop that copies or zeroes byte by byte leaves, as one list.
+--     copied-more      one more byte of s, copied over d from the front
+--     copied-all, zeroed-all     all of them
+--     copied-up-more, copied-up-all     the same for a run copied upwards within one list
+-- Assumes nothing.
+use Prim.Native.Nat.{ℕ, zero, suc, _+_, _<_, _≤_}
+use native.Mathlib.Nat.{not-suc-le-zero, le-of-suc-le-suc}
+use native.Mathlib.Numerals.{add-one}
+use native.Mathlib.Omega.{arith}
+use mathlib.Core.List.{List, [], _∷_, _++_, append-assoc, append-nil}
+use mathlib.Core.Path.{_≡_, refl, sym, ap, _∙_, subst}
+use lib.ListN.{length, getD, set, take, drop, replicate, length-append, length-drop, length-take, List·getD-append}
+use lib.Seq.{take-length, drop-length, length-take-le, drop-drop, getD-take, getD-drop, paste, paste-zero, paste-suc}
+use Rattle.bhtf.specs.Bytes.{Bytes, part, store, zeros}
+
+copied-suc : (s d : Bytes) (i : ℕ) → i < length s → i < length d
+    → set (take i s ++ drop i d) i (getD s i 0) ≡ take (suc i) s ++ drop (suc i) d
+copied-suc [] d i p q = absurd (not-suc-le-zero p)
+copied-suc (a ∷ s) [] i p q = absurd (not-suc-le-zero q)
+copied-suc (a ∷ s) (b ∷ d) zero p q = refl
+copied-suc (a ∷ s) (b ∷ d) (suc i) p q = ap (λ (t : Bytes). a ∷ t) (copied-suc s d i (le-of-suc-le-suc p) (le-of-suc-le-suc q))
+
+pub copied-more : (s d : Bytes) (i : ℕ) → i < length s → i < length d
+    → set (take i s ++ drop i d) i (getD s i 0) ≡ take (i + 1) s ++ drop (i + 1) d
+copied-more s d i p q = rw add-one (copied-suc s d i p q)
+
+pub copied-all : (s d : Bytes) (i : ℕ) → i ≡ length s → i ≡ length d → take i s ++ drop i d ≡ s
+copied-all s d i p q = ap (λ (t : Bytes). take i s ++ t) (rw (q, drop-length d)) ∙ append-nil (take i s) ∙ rw (p, take-length s)
+
+pub zeroed-all : (d : Bytes) (i : ℕ) → i ≡ length d → replicate i 0 ++ drop i d ≡ zeros (length d)
+unfolding zeros
+zeroed-all d i p = rw (p, drop-length d) (append-nil (replicate (length d) 0))
+
+-- ---- upwards within one list: what is read has not been written yet
+getD-paste-below : (d : Bytes) (at : ℕ) (s : Bytes) (n k : ℕ) → k < at → at ≤ length d
+    → getD (paste d at s n) k 0 ≡ getD d k 0
+getD-paste-below d at s n k p q =
+    let l : length (take at d) ≡ at = length-take-le at d q in
+    List·getD-append (take at d ++ take n s) (drop (at + n) d) 0 k (rw length-append (omega arith))
+    ∙ List·getD-append (take at d) (take n s) 0 k (omega arith)
+    ∙ getD-take at d k 0 p
+
+module _ (s : Bytes) (from to n : ℕ) (apart : from + n ≤ to) (room : to + n ≤ length s) where
+  pub copied-up-more : (i : ℕ) → i < n
+      → set (paste s to (drop from s) i) (to + i) (getD (paste s to (drop from s) i) (from + i) 0)
+      ≡ paste s to (drop from s) (i + 1)
+  copied-up-more i p =
+      let e : getD (paste s to (drop from s) i) (from + i) 0 ≡ getD (drop from s) i 0 =
+      getD-paste-below s to (drop from s) i (from + i) (omega arith) (omega arith) ∙ sym (getD-drop from s i 0) in
+      ap (λ (b : ℕ). set (paste s to (drop from s) i) (to + i) b) e
+      ∙ paste-suc s to (drop from s) i 0 (omega arith) (rw length-drop (omega arith))
+      ∙ ap (λ (k : ℕ). paste s to (drop from s) k) (sym (add-one i))
+
+  pub copied-up-all : paste s to (drop from s) n ≡ store s to (part s from n)
+  unfolding store part
+  copied-up-all =
+      let l : length (take n (drop from s)) ≡ n = length-take-le n (drop from s) (rw length-drop (omega arith)) in
+      append-assoc (take to s) (take n (drop from s)) (drop (to + n) s)
+      ∙ ap (λ (t : Bytes). take to s ++ (take n (drop from s) ++ t))
+      (sym (drop-drop n to s) ∙ ap (λ (k : ℕ). drop k (drop to s)) (sym l))

@@ -1,0 +1,107 @@
+-- Numbers of 4 and 3 bytes as shifts and masks make them, and stores of so many bytes as one `store`.
+--     part-cons, part-four, part-three        a part, byte by byte
+--     number-four, number-three               the number of so many bytes, written out
+--     or-four, or-three                       the same number, by shifts and ors
+--     store-sets, store-four, store-three     stores of bytes one after the other
+--     digits-four, digits-three               the digits, by shifts and masks
+-- Assumes nothing.
+use Prim.Native.Nat.{ℕ, zero, suc, _+_, _*_, _/_, _%_, _^_, _<_, _≤_}
+use native.Mathlib.Nat.{mod-eq-of-lt, div-one}
+use native.Mathlib.Numerals.{add-one}
+use native.Mathlib.Omega.{arith}
+use mathlib.Core.List.{List, [], _∷_, _++_, append-assoc}
+use mathlib.Core.Path.{_≡_, refl, sym, ap, _∙_}
+use lib.ListN.{length, getD, set, take, drop}
+use lib.Seq.{drop-cons, drop-drop, sets, sets-eq}
+use lib.Bits.{bitAnd, bitOr, and-mask, or-shifted}
+use Rattle.bhtf.specs.Bytes.{Bytes, part, store, number, digits}
+
+-- ---- part
+pub part-cons : (s : Bytes) (at n : ℕ) → at < length s → part s at (suc n) ≡ getD s at 0 ∷ part s (at + 1) n
+unfolding part
+part-cons s at n h = rw (add-one, drop-cons s at 0 h)
+
+pub part-zero : (s : Bytes) (at : ℕ) → part s at 0 ≡ []
+unfolding part
+part-zero s at = refl
+
+pub part-three : (s : Bytes) (at : ℕ) → at + 3 ≤ length s
+    → part s at 3 ≡ getD s at 0 ∷ getD s (at + 1) 0 ∷ getD s (at + 2) 0 ∷ []
+part-three s at h =
+    let e₂ : at + 1 + 1 ≡ at + 2 = omega arith in
+    part-cons s at 2 (omega arith)
+    ∙ ap (λ (t : Bytes). getD s at 0 ∷ t)
+    (part-cons s (at + 1) 1 (omega arith)
+    ∙ ap (λ (t : Bytes). getD s (at + 1) 0 ∷ t)
+    (rw e₂ (part-cons s (at + 2) 0 (omega arith)) ∙ ap (λ (t : Bytes). getD s (at + 2) 0 ∷ t) (part-zero s (at + 2 + 1))))
+
+pub part-four : (s : Bytes) (at : ℕ) → at + 4 ≤ length s
+    → part s at 4 ≡ getD s at 0 ∷ getD s (at + 1) 0 ∷ getD s (at + 2) 0 ∷ getD s (at + 3) 0 ∷ []
+part-four s at h =
+    let e₂ : at + 1 + 1 ≡ at + 2 = omega arith in
+    let e₃ : at + 1 + 2 ≡ at + 3 = omega arith in
+    part-cons s at 3 (omega arith)
+    ∙ ap (λ (t : Bytes). getD s at 0 ∷ t) (rw (← e₂, ← e₃) (part-three s (at + 1) (omega arith)))
+
+-- ---- number
+pub number-four : (a b c d : ℕ) → number (a ∷ b ∷ c ∷ d ∷ []) ≡ a * 16777216 + (b * 65536 + (c * 256 + d))
+unfolding number
+number-four a b c d = omega arith
+
+pub number-three : (a b c : ℕ) → number (a ∷ b ∷ c ∷ []) ≡ a * 65536 + (b * 256 + c)
+unfolding number
+number-three a b c = omega arith
+
+pub or-three : (a b c : ℕ) → a < 65536 → b < 256 → c < 256
+    → bitOr (bitOr (a * 65536 % 4294967296) (b * 256 % 4294967296)) c ≡ a * 65536 + (b * 256 + c)
+or-three a b c p q r =
+    let e : (a * 256 + b) * 256 ≡ a * 65536 + b * 256 = omega arith in
+    let f : bitOr (a * 65536) (b * 256) ≡ (a * 256 + b) * 256 = or-shifted a 16 (b * 256) (omega arith) ∙ sym e in
+    let g : bitOr ((a * 256 + b) * 256) c ≡ (a * 256 + b) * 256 + c = or-shifted (a * 256 + b) 8 c (omega arith) in
+    rw (mod-eq-of-lt {n = a * 65536} {m = 4294967296} (omega arith), mod-eq-of-lt {n = b * 256} {m = 4294967296} (omega arith), f, g) (omega arith)
+
+pub or-four : (a b c d : ℕ) → a < 256 → b < 256 → c < 256 → d < 256
+    → bitOr (bitOr (bitOr (a * 16777216 % 4294967296) (b * 65536 % 4294967296)) (c * 256 % 4294967296)) d
+    ≡ a * 16777216 + (b * 65536 + (c * 256 + d))
+or-four a b c d p q r s =
+    let e : (a * 256 + b) * 65536 ≡ a * 16777216 + b * 65536 = omega arith in
+    let f : bitOr (a * 16777216) (b * 65536) ≡ (a * 256 + b) * 65536 = or-shifted a 24 (b * 65536) (omega arith) ∙ sym e in
+    let m : (a * 256 + b) * 65536 ≡ (a * 256 + b) * 65536 % 4294967296 = sym (mod-eq-of-lt {n = (a * 256 + b) * 65536} {m = 4294967296} (omega arith)) in
+    rw (mod-eq-of-lt {n = a * 16777216} {m = 4294967296} (omega arith), mod-eq-of-lt {n = b * 65536} {m = 4294967296} (omega arith), f)
+    (ap (λ (t : ℕ). bitOr (bitOr t (c * 256 % 4294967296)) d) m
+    ∙ or-three (a * 256 + b) c d (omega arith) r s
+    ∙ omega arith)
+
+-- ---- store
+pub store-sets : (vs s : Bytes) (at : ℕ) → at + length vs ≤ length s → sets s at vs ≡ store s at vs
+unfolding store
+store-sets vs s at h =
+    sets-eq vs s at h
+    ∙ append-assoc (take at s) vs (drop (at + length vs) s)
+    ∙ ap (λ (t : Bytes). take at s ++ (vs ++ t)) (sym (drop-drop (length vs) at s))
+
+pub store-three : (s : Bytes) (at a b c : ℕ) → at + 3 ≤ length s
+    → set (set (set s at a) (at + 1) b) (at + 2) c ≡ store s at (a ∷ b ∷ c ∷ [])
+store-three s at a b c h =
+    let e₁ : at + 1 ≡ suc at = omega arith in
+    let e₂ : at + 2 ≡ suc (suc at) = omega arith in
+    rw (e₁, e₂) (store-sets (a ∷ b ∷ c ∷ []) s at h)
+
+pub store-four : (s : Bytes) (at a b c d : ℕ) → at + 4 ≤ length s
+    → set (set (set (set s at a) (at + 1) b) (at + 2) c) (at + 3) d ≡ store s at (a ∷ b ∷ c ∷ d ∷ [])
+store-four s at a b c d h =
+    let e₁ : at + 1 ≡ suc at = omega arith in
+    let e₂ : at + 2 ≡ suc (suc at) = omega arith in
+    let e₃ : at + 3 ≡ suc (suc (suc at)) = omega arith in
+    rw (e₁, e₂, e₃) (store-sets (a ∷ b ∷ c ∷ d ∷ []) s at h)
+
+-- ---- digits
+pub digits-three : (v : ℕ) → v < 16777216 → digits 3 v ≡ v / 65536 ∷ bitAnd (v / 256) 255 ∷ bitAnd v 255 ∷ []
+unfolding digits
+digits-three v h = rw (and-mask (v / 256) 8, and-mask v 8, div-one v, mod-eq-of-lt {n = v / 65536} {m = 256} (omega arith))
+
+pub digits-four : (v : ℕ) → v < 4294967296
+    → digits 4 v ≡ v / 16777216 ∷ bitAnd (v / 65536) 255 ∷ bitAnd (v / 256) 255 ∷ bitAnd v 255 ∷ []
+unfolding digits
+digits-four v h =
+    rw (and-mask (v / 65536) 8, and-mask (v / 256) 8, and-mask v 8, div-one v, mod-eq-of-lt {n = v / 16777216} {m = 256} (omega arith))
