@@ -6,3 +6,4 @@ pub mod Total
 pub mod Table
 pub mod Spread
 pub mod Walk
+pub mod Frames
