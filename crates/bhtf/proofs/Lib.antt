@@ -7,3 +7,4 @@ pub mod Table
 pub mod Spread
 pub mod Walk
 pub mod Frames
+pub mod Delete
