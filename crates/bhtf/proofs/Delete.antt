@@ -5,21 +5,21 @@
 --     sound-closed           the invariant afterwards
 --     gone-closed            the key stands nowhere afterwards
 -- Assumes nothing.
-use mathlib.Core.Path.{_≡_, refl, sym, ap, ap₂, _∙_, subst}
-use Prim.Native.Nat.{ℕ, zero, suc, _+_, _≤_, _<_}
+use mathlib.Core.Path.{_≡_, refl, sym, ap, _∙_, subst}
+use Prim.Native.Nat.{ℕ, _+_, _≤_, _<_}
 use native.Mathlib.Omega.{arith}
-use mathlib.Core.Bool.{Bool, true, false}
+use mathlib.Core.Bool.{true, false}
 use lib.ListN.{length}
 use Rattle.bhtf.specs.Bytes.{Bytes}
 use Rattle.bhtf.specs.Image.{Layout, slot, putSlot, keyOf, blank, vacant, home}
 use Rattle.bhtf.specs.Search.{next, dist}
-use Rattle.bhtf.specs.Messages.{moved, Walked, walk, closed}
+use Rattle.bhtf.specs.Messages.{moved, closed}
 use Rattle.bhtf.proofs.Tests.{by-le, by-eq, not-both}
 use Rattle.bhtf.proofs.Slots.{Room}
 use Rattle.bhtf.proofs.Cyclic.{dist-lt, dist-self, dist-zero, dist-same, dist-back, dist-from-next, dist-next-self, round3}
 use Rattle.bhtf.proofs.Table.{Taken, keyAt, homeAt, Sound}
 use Rattle.bhtf.proofs.Spread.{home-lt, slot-moved-hole, slot-moved-other}
-use Rattle.bhtf.proofs.Walk.{Going, stays, ended, Keeps, hole-other, stays-near, goes-far, closed-induct}
+use Rattle.bhtf.proofs.Walk.{Going, stays, hole-other, stays-near, goes-far, closed-induct}
 use Rattle.bhtf.proofs.Frames.{Stands, taken-same, by-moved, stands-walked, zeroed-other, zeroed-same, zeroed-taken}
 
 pub record Mending (g : Layout) (img : Bytes) (h j : ℕ) : Type 0 where

@@ -4,23 +4,21 @@
 --     Stands g img s       some taken slot holds the bytes s
 --     stands-closed        what stands, but for the deleted entry, is what stood
 -- Assumes nothing.
-use mathlib.Core.Path.{_≡_, refl, sym, ap, ap₂, _∙_, subst}
-use Prim.Native.Nat.{ℕ, zero, suc, _+_, _≤_, _<_}
-use native.Mathlib.Nat.{add-zero}
+use mathlib.Core.Path.{_≡_, refl, sym, ap, _∙_}
+use Prim.Native.Nat.{ℕ, _+_, _≤_, _<_}
 use native.Mathlib.Omega.{arith}
-use mathlib.Core.Bool.{Bool, true, false, cond}
+use mathlib.Core.Bool.{true, false}
 use mathlib.Core.Logic.{_↔_}
 use lib.ListN.{length}
 use Rattle.bhtf.specs.Bytes.{Bytes, part, number}
 use Rattle.bhtf.specs.Limits.{tableStart}
 use Rattle.bhtf.specs.Image.{field, Layout, slotSize, slot, putSlot, keyOf, blank, vacant}
-use Rattle.bhtf.specs.Search.{next, dist}
-use Rattle.bhtf.specs.Messages.{moved, Walked, walk, closed}
+use Rattle.bhtf.specs.Messages.{moved, closed}
 use Rattle.bhtf.proofs.Tests.{by-eq, not-both}
 use Rattle.bhtf.proofs.Slots.{Room, length-slot, slot-putSlot-same, slot-putSlot-other, part-putSlot-header, part-putSlot-data, length-blank, vacant-blank}
 use Rattle.bhtf.proofs.Table.{Taken, keyAt, weigh, weight}
 use Rattle.bhtf.proofs.Spread.{over, over-putSlot, over-moved, room-half, slot-moved-from, slot-moved-hole, slot-moved-other}
-use Rattle.bhtf.proofs.Walk.{Going, Keeps, hole-other, closed-induct}
+use Rattle.bhtf.proofs.Walk.{Going, hole-other, closed-induct}
 
 -- ---- the bytes outside the table
 module _ (g : Layout) (img : Bytes) (r : Room g (length img)) (h j : ℕ) (lh : h < g .N) (lj : j < g .N) (p m : ℕ) where

@@ -4,21 +4,18 @@
 --     over-putSlot, over-moved        what such a sum is after a write, and after a move into the hole
 --     slot-moved-hole, -from, -other  the slots after a move
 -- Assumes nothing.
-use mathlib.Core.Path.{_≡_, refl, sym, ap, ap₂, _∙_, subst}
-use Prim.Native.Nat.{ℕ, zero, suc, _+_, _-_, _*_, _%_, _≤_, _<_}
+use mathlib.Core.Path.{_≡_, sym, ap, _∙_, subst}
+use Prim.Native.Nat.{ℕ, _+_, _-_, _*_, _≤_, _<_}
 use native.Mathlib.Nat.{mod-lt}
 use native.Mathlib.Omega.{arith}
 use mathlib.Core.Bool.{Bool, true, false, cond}
 use lib.ListN.{length}
-use lib.Dec.{ltb}
-use borrow.Author.Tests.{ltb-true, ltb-false}
 use Rattle.bhtf.specs.Bytes.{Bytes}
 use Rattle.bhtf.specs.Image.{Layout, slotSize, slot, putSlot, keyOf, blank, vacant, home}
-use Rattle.bhtf.specs.Search.{next, dist}
-use Rattle.bhtf.specs.Messages.{among, moved}
-use Rattle.bhtf.proofs.Tests.{by-eq, not-both}
+use Rattle.bhtf.specs.Search.{dist}
+use Rattle.bhtf.specs.Messages.{moved}
 use Rattle.bhtf.proofs.Slots.{Room, length-slot, length-putSlot, slot-putSlot-same, slot-putSlot-other, length-blank, vacant-blank}
-use Rattle.bhtf.proofs.Cyclic.{dist-lt, round3, among-dist}
+use Rattle.bhtf.proofs.Cyclic.{dist-lt, round3}
 use Rattle.bhtf.proofs.Total.{total, total-change, total-bound}
 use Rattle.bhtf.proofs.Table.{Taken, keyAt, homeAt}
 

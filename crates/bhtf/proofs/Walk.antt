@@ -5,16 +5,15 @@
 --     turn-stop, turn-skip, turn-move     one turn of the walk with `looks` looks
 --     walk-more, walk-ends, closed-looks, closed-ends     enough looks are enough
 -- Assumes nothing.
-use mathlib.Core.Path.{_≡_, refl, sym, ap, ap₂, _∙_, subst}
+use mathlib.Core.Path.{_≡_, refl, sym, ap, _∙_, subst}
 use Prim.Native.Nat.{ℕ, zero, suc, _+_, _-_, _*_, _≤_, _<_}
 use native.Mathlib.Nat.{mul-suc}
 use native.Mathlib.Omega.{arith}
-use mathlib.Core.Bool.{Bool, true, false, cond}
+use mathlib.Core.Bool.{Bool, true, false}
 use lib.ListN.{length}
-use lib.Dec.{ltb}
 use borrow.Author.Tests.{ltb-true, ltb-false}
 use Rattle.bhtf.specs.Bytes.{Bytes}
-use Rattle.bhtf.specs.Image.{Layout, slotSize, slot, putSlot, keyOf, blank, vacant, home}
+use Rattle.bhtf.specs.Image.{Layout, slot, putSlot, blank, vacant}
 use Rattle.bhtf.specs.Search.{next, dist}
 use Rattle.bhtf.specs.Messages.{among, moved, Walked, walk, closed}
 use Rattle.bhtf.proofs.Tests.{by-bool, not-both}
@@ -35,6 +34,10 @@ stays g img h j = among (g .N) (next (g .N) h) j (homeAt g img j)
 
 unfoldable pub left : Layout → Bytes → ℕ → ℕ → ℕ
 left g img h j = spread g img + dist (g .N) j h
+
+pub left-is : (g : Layout) (img : Bytes) (h j : ℕ) → left g img h j ≡ spread g img + dist (g .N) j h
+unfolding left
+left-is g img h j = refl
 
 abbrev pub looks : Layout → Bytes → ℕ → ℕ → ℕ
 looks g img h j = suc (left g img h j)
@@ -111,6 +114,9 @@ module _ (g : Layout) (img : Bytes) (h j : ℕ) (s : Going g img h j) (t : Taken
 module _ (g : Layout) (img : Bytes) (h j : ℕ) where
   pub turn-stop : vacant g (slot g img j) ≡ true → walk (looks g img h j) g img h j ≡ ended img j
   turn-stop v = walk-stop (looks g img h j) g img h j v
+
+  pub turn-image : vacant g (slot g img j) ≡ true → walk (looks g img h j) g img h j .image ≡ img
+  turn-image v = ap (λ (w : Walked). w .image) (turn-stop v)
 
   pub turn-skip : Going g img h j → Taken g img j → stays g img h j ≡ true
       → walk (looks g img h j) g img h j ≡ walk (looks g img h (next (g .N) j)) g img h (next (g .N) j)
