@@ -6,3 +6,7 @@ pub mod Total
 pub mod Table
 pub mod Opened
 pub mod Cases
+pub mod Spread
+pub mod Walk
+pub mod Frames
+pub mod Delete
