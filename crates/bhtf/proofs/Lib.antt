@@ -4,3 +4,4 @@ pub mod Slots
 pub mod Cyclic
 pub mod Total
 pub mod Table
+pub mod Probe
