@@ -5,3 +5,4 @@ pub mod Cyclic
 pub mod Total
 pub mod Table
 pub mod Probe
+pub mod Insert
