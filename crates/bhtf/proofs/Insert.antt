@@ -6,23 +6,23 @@
 --     replace-..     a slot put where the search met the key
 --     count-taken    the number of taken slots, as a weight
 -- Assumes nothing.
-use mathlib.Core.Path.{_≡_, refl, sym, ap, ap₂, _∙_, subst}
-use Prim.Native.Nat.{ℕ, zero, suc, _+_, _≤_, _<_}
+use mathlib.Core.Path.{_≡_, refl, sym, ap, _∙_, subst}
+use Prim.Native.Nat.{ℕ, zero, suc, _+_, _<_}
 use native.Mathlib.Nat.{add-zero, zero-add}
 use native.Mathlib.Omega.{arith}
 use mathlib.Core.Bool.{Bool, true, false, cond, not}
-use mathlib.Core.Option.{Option, none, some}
+use mathlib.Core.Option.{none, some}
 use mathlib.Core.Logic.{_↔_}
 use lib.ListN.{length}
 use Rattle.bhtf.specs.Bytes.{Bytes, allZero}
 use Rattle.bhtf.specs.Image.{Layout, slot, putSlot, slotSize, keyOf, vacant, home}
-use Rattle.bhtf.specs.Search.{Probe, met, empty, exhausted, dist, search}
+use Rattle.bhtf.specs.Search.{met, empty, exhausted, dist, search}
 use Rattle.bhtf.specs.Inspect.{taken, takenFrom}
-use Rattle.bhtf.proofs.Tests.{by-bool, by-eq, not-both}
+use Rattle.bhtf.proofs.Tests.{by-eq, not-both}
 use Rattle.bhtf.proofs.Slots.{Room, slot-putSlot-same, slot-putSlot-other}
 use Rattle.bhtf.proofs.Total.{total, total-same, total-change}
-use Rattle.bhtf.proofs.Table.{Taken, keyAt, homeAt, Sound, slotMet, entryOf, weigh, weight}
-use Rattle.bhtf.proofs.Probe.{Passed, vacant-key, search-met, search-empty, by-search, met-taken, search-finds, search-keys}
+use Rattle.bhtf.proofs.Table.{Taken, keyAt, Sound, slotMet, entryOf, weigh, weight}
+use Rattle.bhtf.proofs.Probe.{vacant-key, search-met, search-empty, by-search, met-taken, search-finds, search-keys}
 
 -- some taken slot holds the bytes s
 abbrev pub Stands : Layout → Bytes → Bytes → Type 0
@@ -44,18 +44,19 @@ module _ (g : Layout) (img key : Bytes) where
   entry-exhausted e = ap (slotMet g img) e
 
 module _ (g : Layout) (img key : Bytes) (pos : 0 < g .N) where
+  -- the search meets the key, or the key has no entry
+  by-entry {ℓ} : {A : Type ℓ} → ((i : ℕ) → search g img key ≡ met i → A) → (entryOf g img key ≡ none → A) → A
+  by-entry yes′ no′ =
+      by-search g img key pos yes′ (λ i e. no′ (entry-empty g img key i e)) (λ e. no′ (entry-exhausted g img key e))
+
   pub entry-slot : (s : Bytes) → entryOf g img key ≡ some s
       → (i : ℕ) × (i < g .N) × (search g img key ≡ met i) × (slot g img i ≡ s)
   entry-slot s e =
-      by-search g img key pos
-      (λ i f. let q : some (slot g img i) ≡ some s = sym (entry-met g img key i f) ∙ e in
+      by-entry
+      (λ i f.
+      let q : some (slot g img i) ≡ some s = sym (entry-met g img key i f) ∙ e in
       (i, search-met g img key pos i f .0, f, cc))
-      (λ i f. let q : none ≡ some s = sym (entry-empty g img key i f) ∙ e in
-      let z : _≡_ {A = ℕ} 0 1 = cc in
-      absurd (omega arith))
-      (λ f. let q : none ≡ some s = sym (entry-exhausted g img key f) ∙ e in
-      let z : _≡_ {A = ℕ} 0 1 = cc in
-      absurd (omega arith))
+      (λ n. let z : _≡_ {A = ℕ} 0 1 = cc in absurd (omega arith))
 
   -- where a key that is not all zero is met, its slot stands in the table
   pub met-stands : (i : ℕ) → allZero key ≡ false → search g img key ≡ met i → Stands g img (slot g img i)
@@ -70,11 +71,9 @@ module _ (g : Layout) (img key : Bytes) (pos : 0 < g .N) where
   pub entry-absent : ((k : ℕ) → k < g .N → Taken g img k → keyAt g img k ≡ key → ⊥) → allZero key ≡ false
       → entryOf g img key ≡ none
   entry-absent n z =
-      by-search g img key pos
-      (λ i e.
-      absurd (n i (search-met g img key pos i e .0) (met-taken g img key pos i z e) (search-met g img key pos i e .1)))
-      (λ i e. entry-empty g img key i e)
-      (λ e. entry-exhausted g img key e)
+      by-entry
+      (λ i e. absurd (n i (search-met g img key pos i e .0) (met-taken g img key pos i z e) (search-met g img key pos i e .1)))
+      (λ none′. none′)
 
 -- a sound image's taken slot is what its key's search meets
 pub entry-taken : (g : Layout) (img : Bytes) (i : ℕ) → 0 < g .N → Sound g img → i < g .N → Taken g img i
@@ -87,23 +86,19 @@ pub same-entries : (g : Layout) (img img′ key : Bytes) → 0 < g .N → Sound 
     → ((s : Bytes) → keyOf g s ≡ key → Stands g img s ↔ Stands g img′ s)
     → entryOf g img′ key ≡ entryOf g img key
 same-entries g img img′ key pos sound sound′ z both =
-    by-search g img key pos
+    by-entry g img key pos
     (λ i e.
-    entry-stands g img′ key pos (slot g img i) sound′ (search-met g img key pos i e .1)
-    (both (slot g img i) (search-met g img key pos i e .1) .0 (met-stands g img key pos i z e))
+    let k : keyAt g img i ≡ key = search-met g img key pos i e .1 in
+    entry-stands g img′ key pos (slot g img i) sound′ k (both (slot g img i) k .0 (met-stands g img key pos i z e))
     ∙ sym (entry-met g img key i e))
-    (λ i e. absent (entry-empty g img key i e))
-    (λ e. absent (entry-exhausted g img key e))
-  where
-    absent : entryOf g img key ≡ none → entryOf g img′ key ≡ entryOf g img key
-    absent e =
-        by-search g img′ key pos
-        (λ j f.
-        entry-met g img′ key j f
-        ∙ sym (entry-stands g img key pos (slot g img′ j) sound (search-met g img′ key pos j f .1)
-        (both (slot g img′ j) (search-met g img′ key pos j f .1) .1 (met-stands g img′ key pos j z f))))
-        (λ j f. entry-empty g img′ key j f ∙ sym e)
-        (λ f. entry-exhausted g img′ key f ∙ sym e)
+    (λ n.
+    by-entry g img′ key pos
+    (λ j f.
+    let k : keyAt g img′ j ≡ key = search-met g img′ key pos j f .1 in
+    entry-met g img′ key j f
+    ∙ sym (entry-stands g img key pos (slot g img′ j) sound k
+    (both (slot g img′ j) k .1 (met-stands g img′ key pos j z f))))
+    (λ n′. n′ ∙ sym n))
 
 -- ---- a table without one key, in which the slots of every other key stand as before
 
@@ -205,7 +200,7 @@ module _ (g : Layout) (img key : Bytes) (i : ℕ) (s : Bytes) (room : Room g (le
         paths = λ a b al bl ta d.
             by-eq b i (λ q. new-taken b q)
             (λ n. still-taken b n (by-eq a i
-            (λ q. search-empty g img key pos i e .3 b bl
+            (λ q. search-empty g img key pos i e .2 b bl
             (subst (λ (x : ℕ). dist (g .N) (home g key) b < dist (g .N) (home g key) x) q
             (subst (λ (x : Bytes). dist (g .N) (home g x) b < dist (g .N) (home g x) a) (key-here a q) d)) .0)
             (λ q. sound .paths a b al bl (old-taken a q ta)

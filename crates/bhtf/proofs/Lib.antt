@@ -6,3 +6,4 @@ pub mod Total
 pub mod Table
 pub mod Probe
 pub mod Insert
+pub mod Verdict

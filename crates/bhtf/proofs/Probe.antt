@@ -6,18 +6,18 @@
 --     search-keys, search-frame, entryOf-frame      a search depends on the slots' keys alone
 -- Assumes nothing.
 use mathlib.Core.Path.{_≡_, refl, sym, ap, _∙_, subst}
-use Prim.Native.Nat.{ℕ, zero, suc, _+_, _≤_, _<_}
+use Prim.Native.Nat.{ℕ, zero, suc, _+_, _<_}
 use native.Mathlib.Nat.{mod-lt}
 use native.Mathlib.Omega.{arith}
-use mathlib.Core.Bool.{Bool, true, false}
-use mathlib.Core.Option.{Option, none, some}
+use mathlib.Core.Bool.{true, false}
+use mathlib.Core.Option.{some}
 use Rattle.bhtf.specs.Bytes.{Bytes, allZero, same}
 use Rattle.bhtf.specs.Image.{Layout, slot, keyOf, vacant, home}
 use Rattle.bhtf.specs.Search.{Probe, met, empty, exhausted, next, dist, probe, search, isMet}
 use Rattle.bhtf.proofs.Tests.{by-bool, by-le, by-eq, not-both}
-use Rattle.bhtf.proofs.Bytes.{same-refl, same-true, same-false}
+use Rattle.bhtf.proofs.Bytes.{same-true, same-false}
 use Rattle.bhtf.proofs.Cyclic.{next-lt, dist-lt, dist-self, dist-same, dist-next}
-use Rattle.bhtf.proofs.Table.{Taken, keyAt, homeAt, Sound, slotMet, entryOf}
+use Rattle.bhtf.proofs.Table.{Taken, keyAt, Sound, slotMet, entryOf}
 
 pub home-lt : (g : Layout) (key : Bytes) → 0 < g .N → home g key < g .N
 unfolding home
@@ -57,8 +57,8 @@ abbrev Says : Layout → Bytes → Bytes → Probe → Type 0
 Says g img key (met i) =
     (i < g .N) × (keyAt g img i ≡ key) × Passed g img key (dist (g .N) (home g key) i)
 Says g img key (empty i) =
-    (i < g .N) × (vacant g (slot g img i) ≡ true) × (keyAt g img i ≡ key → ⊥)
-    × Passed g img key (dist (g .N) (home g key) i)
+    (i < g .N) × (vacant g (slot g img i) ≡ true)
+    × Passed g img key (dist (g .N) (home g key) i) × (keyAt g img i ≡ key → ⊥)
 Says g img key exhausted = Passed g img key (g .N)
 
 -- one slot more is passed
@@ -89,7 +89,7 @@ probe-says g img key hl (suc left) d i s l e p =
     (λ n.
     let other : keyAt g img i ≡ key → ⊥ = same-false (keyAt g img i) key n in
     by-bool (vacant g (slot g img i))
-    (λ v. rw (turn-empty g img key left i n v) (l, v, other, so-far))
+    (λ v. rw (turn-empty g img key left i n v) (l, v, so-far, other))
     (λ v.
     rw (turn-on g img key left i n v)
     (ih (passed-more g img key d i hl l at v other p)
@@ -108,8 +108,8 @@ module _ (g : Layout) (img key : Bytes) (pos : 0 < g .N) where
   search-met i e = subst (λ (p : Probe). Says g img key p) e (search-says g img key pos)
 
   pub search-empty : (i : ℕ) → search g img key ≡ empty i
-      → (i < g .N) × (vacant g (slot g img i) ≡ true) × (keyAt g img i ≡ key → ⊥)
-      × Passed g img key (dist (g .N) (home g key) i)
+      → (i < g .N) × (vacant g (slot g img i) ≡ true)
+      × Passed g img key (dist (g .N) (home g key) i) × (keyAt g img i ≡ key → ⊥)
   search-empty i e = subst (λ (p : Probe). Says g img key p) e (search-says g img key pos)
 
   pub search-exhausted : search g img key ≡ exhausted
@@ -156,7 +156,7 @@ module _ (g : Layout) (img key : Bytes) (pos : 0 < g .N) where
           (λ q. not-both (vacant g (slot g img j)) (f .1)
           (s .paths i j l (f .0) t
           (subst (λ (b : Bytes). dist (g .N) (home g b) j < dist (g .N) (home g b) i) (sym k) (omega arith)))))
-          (λ lt. f .3 i l lt .1 k)
+          (λ lt. f .2 i l lt .1 k)
 
   pub search-absent : ((k : ℕ) → k < g .N → Taken g img k → keyAt g img k ≡ key → ⊥) → allZero key ≡ false
       → isMet (search g img key) ≡ false
