@@ -10,3 +10,6 @@ pub mod Spread
 pub mod Walk
 pub mod Frames
 pub mod Delete
+pub mod Probe
+pub mod Insert
+pub mod Verdict
