@@ -9,11 +9,11 @@ use Rattle.layout.specs.declared.shape.Shape.{Shape}
 unfoldable pub shapeOf : Bytes → Shape
 shapeOf img =
     record {
-      key_size = field img keyField;
+      key = field img keyField;
       slots = field img slotsField;
-      data = record { 0 = field img dataField };
+      area = record { 0 = field img dataField };
       multiplier = field img multiplierField;
       start = field img startField;
       first = field img firstField;
-      last = field img lastField
+      last = field img lastField;
     }

@@ -23,11 +23,11 @@ impl Slot {
     }
 
     // Where the slot's bytes begin.
-    pub fn start(self, key_size: usize) -> Offset
-        requires { ⌜ (self .0 < 1048576) × (key_size ≤ 32) ⌝ }
-        ensures { λ r. ⌜ r .0 ≡ 2048 + self .0 * (key_size + 4) ⌝ }
+    pub fn start(self, size: usize) -> Offset
+        requires { ⌜ (self .0 < 1048576) × (size ≤ 32) ⌝ }
+        ensures { λ r. ⌜ r .0 ≡ 2048 + self .0 * (size + 4) ⌝ }
     {
-        Offset(2048 + self.0 * (key_size + 4))
+        Offset(2048 + self.0 * (size + 4))
     }
 
     // The slot after this one, wrapping to the first.

@@ -7,9 +7,9 @@ ghost use lib.ListN.{length};
 ghost use Rattle.layout.specs.Shapes.{shapeOf};
 
 pub struct Shape {
-    pub key_size: usize,
+    pub key: usize,
     pub slots: usize,
-    pub data: Offset,
+    pub area: Offset,
     pub multiplier: u32,
     pub start: u32,
     pub first: u32,
@@ -20,17 +20,17 @@ pub fn read_shape(image: &[u8]) -> Shape
     requires { ⌜ 60 ≤ length (now image) ⌝ }
     ensures { λ r. ⌜ r ≡ shapeOf (now (image .entry)) ⌝ }
 {
-    let key_size = read_u32(image, 12) as usize;
+    let key = read_u32(image, 12) as usize;
     let slots = read_u32(image, 16) as usize;
     let multiplier = read_u32(image, 24);
     let start = read_u32(image, 28);
     let first = read_u32(image, 32);
     let last = read_u32(image, 36);
-    let data = Offset::new(read_u32(image, 48) as usize);
+    let area = Offset::new(read_u32(image, 48) as usize);
     Shape {
-        key_size,
+        key,
         slots,
-        data,
+        area,
         multiplier,
         start,
         first,
