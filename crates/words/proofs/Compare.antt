@@ -30,7 +30,8 @@ unfolding same
 same-lengths [] [] h = absurd (h refl)
 same-lengths [] (c ∷ b) h = refl
 same-lengths (c ∷ a) [] h = refl
-same-lengths (c ∷ a) (d ∷ b) h = ap (λ (t : Bool). eqb c d && t) (same-lengths a b (λ e. h (ap suc e))) ∙ and-false (eqb c d)
+same-lengths (c ∷ a) (d ∷ b) h =
+    ap (λ (t : Bool). eqb c d && t) (same-lengths a b (λ e. h (ap suc e))) ∙ and-false (eqb c d)
 
 pub same-end : (a b : Bytes) (i : ℕ) → i ≡ length a → i ≡ length b → same (drop i a) (drop i b) ≡ true
 unfolding same
