@@ -6,11 +6,11 @@
 --     digits-four, digits-three               the digits, by shifts and masks
 --     bytes-part, number-part-bound           a part of bytes is of bytes, and bounds its number
 -- Assumes nothing.
-use Prim.Native.Nat.{ℕ, zero, suc, _+_, _*_, _/_, _%_, _^_, _<_, _≤_}
+use Prim.Native.Nat.{ℕ, suc, _+_, _*_, _/_, _%_, _^_, _<_, _≤_}
 use native.Mathlib.Nat.{mod-eq-of-lt, div-one}
 use native.Mathlib.Numerals.{add-one}
 use native.Mathlib.Omega.{arith}
-use mathlib.Core.List.{List, [], _∷_, _++_, append-assoc}
+use mathlib.Core.List.{[], _∷_, _++_, append-assoc}
 use mathlib.Core.Path.{_≡_, refl, sym, ap, _∙_}
 use lib.ListN.{length, getD, set, take, drop, List·getD-eq-default, length-take}
 use lib.Seq.{drop-cons, drop-drop, sets, sets-eq, getD-take, getD-drop}
