@@ -5,3 +5,7 @@ pub mod Retire
 pub mod Space
 pub mod Overwrite
 pub mod Slots
+pub mod Entries
+pub mod Reflect
+pub mod Simple
+pub mod Place

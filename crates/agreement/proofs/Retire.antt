@@ -32,7 +32,7 @@ use Rattle.agreement.proofs.File.{Allowed, valueOf, pointOf, pointOf-so
 
 -- ---- retire
 
-active-offset : (img : Bytes) (o : ℕ) → isActive img o ≡ true → o ≡ 0 → ⊥
+pub active-offset : (img : Bytes) (o : ℕ) → isActive img o ≡ true → o ≡ 0 → ⊥
 unfolding isActive
 active-offset img o h z = not-both (eqb o 0) (eq-eqb o 0 z) (not-true (eqb o 0) (and-left (not (eqb o 0)) _ h))
 
@@ -44,7 +44,7 @@ retire-inactive : (img : Bytes) (o : ℕ) → isActive img o ≡ false → retir
 unfolding retire
 retire-inactive img o h = rw h refl
 
-shown-inactive : (g : Layout) (img : Bytes) (o : ℕ) → isActive img o ≡ false → shown g img o ≡ []
+pub shown-inactive : (g : Layout) (img : Bytes) (o : ℕ) → isActive img o ≡ false → shown g img o ≡ []
 unfolding shown
 shown-inactive g img o h = rw h refl
 
