@@ -9,3 +9,4 @@ pub mod Entries
 pub mod Reflect
 pub mod Simple
 pub mod Place
+pub mod Add
