@@ -10,3 +10,5 @@ pub mod Reflect
 pub mod Simple
 pub mod Place
 pub mod Add
+pub mod Fresh
+pub mod Theorem

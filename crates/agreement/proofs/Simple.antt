@@ -180,7 +180,7 @@ module _ (g : Layout) (img : Bytes) (b : Book) (r : Reflects g img b) (key : Byt
         let o : lookupOffset img key ≡ 0 = offset-is ∙ ap (λ (t : Bool). cond t at 0) h in
         rw (lookup-met a i m, o, shown-inactive g img at h) refl
 
-    lookup-shows : lookup img key .answer
+    pub lookup-shows : lookup img key .answer
         ≡ record { number = 0; amount = length (shown g img (offsetOf g (slot g img i))); text = shown g img (offsetOf g (slot g img i)) }
     lookup-shows = by-bool (isActive img at) active-text inactive-text
 
