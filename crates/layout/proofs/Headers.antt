@@ -4,7 +4,7 @@
 --     was-no, was-yes                   a test's answer by the callee's contract
 --     open-1, open-5, open-6, open-0    the number of questions 1, 5 and 6, by where they end
 -- Assumes nothing.
-use mathlib.Core.Path.{_≡_, refl, sym, _∙_}
+use mathlib.Core.Path.{_≡_, sym, _∙_}
 use Prim.Native.Nat.{ℕ, _%_, _≤_}
 use mathlib.Core.Bool.{Bool, true, false, not, _&&_}
 use lib.ListN.{length}
@@ -19,11 +19,11 @@ use Rattle.bhtf.proofs.Opened.{firstNo-none, firstNo-yes, firstNo-no}
 use Rattle.layout.specs.Ranges.{rangesSound}
 
 -- ---- `if !f(..)`, with r what f answered
-pub was-no : (r : Bool) {b : Bool} → r ≡ b → not r ≡ true → b ≡ false
-was-no r e t = sym e ∙ not-true r t
+pub was-no : {r b : Bool} → r ≡ b → not r ≡ true → b ≡ false
+was-no {r} e t = sym e ∙ not-true r t
 
-pub was-yes : (r : Bool) {b : Bool} → r ≡ b → not r ≡ false → b ≡ true
-was-yes r e t = sym e ∙ not-false r t
+pub was-yes : {r b : Bool} → r ≡ b → not r ≡ false → b ≡ true
+was-yes {r} e t = sym e ∙ not-false r t
 
 module _ (img : Bytes) where
   -- ---- question 6
@@ -72,4 +72,6 @@ module _ (img : Bytes) where
 -- an allowed length holds the header
 pub size-least : (L : ℕ) → sizeAllowed L ≡ true → pageSize ≤ L
 unfolding sizeAllowed
-size-least L h = leb-true _ _ (and-right (eqb (L % pageSize) 0) (leb pageSize L) (and-left (eqb (L % pageSize) 0 && leb pageSize L) (leb L mostImage) h))
+size-least L h =
+    let page = eqb (L % pageSize) 0 in
+    leb-true _ _ (and-right page (leb pageSize L) (and-left (page && leb pageSize L) (leb L mostImage) h))

@@ -3,7 +3,8 @@
 use mathlib.Core.Bool.{Bool, _&&_}
 use lib.Dec.{leb, eqb}
 use Rattle.bhtf.specs.Bytes.{Bytes}
-use Rattle.bhtf.specs.Limits.{mostCharacter, keyField, slotsField, pointsField, firstField, lastField, scrambleField, tableField, scrambleStart, tableStart}
+use Rattle.bhtf.specs.Limits.{mostCharacter, scrambleStart, tableStart}
+use Rattle.bhtf.specs.Limits.{keyField, slotsField, pointsField, firstField, lastField, scrambleField, tableField}
 use Rattle.bhtf.specs.Image.{field}
 use Rattle.bhtf.specs.Questions.{keyAllowed, slotsAllowed}
 

@@ -7,7 +7,8 @@ ghost use mathlib.Core.Path.{_≡_};
 ghost use Prim.Native.Nat.{_≤_};
 ghost use lib.ListN.{length};
 ghost use Rattle.bhtf.specs.Image.{dataStart};
-ghost use Rattle.bhtf.specs.Questions.{sizeAllowed, keyAllowed, slotsAllowed, versionKnown, headerSound, openNumber, nameAllowed, modeKnown};
+ghost use Rattle.bhtf.specs.Questions.{sizeAllowed, keyAllowed, slotsAllowed, versionKnown, headerSound, openNumber};
+ghost use Rattle.bhtf.specs.Questions.{nameAllowed, modeKnown};
 ghost use Rattle.layout.specs.Ranges.{rangesSound};
 
 // Question 1, of an image's length.

@@ -12,7 +12,7 @@ ranges-sound-requires : tie.Need-ranges-sound-requires
 ranges-sound-requires c κs = search needs
 
 returns : tie.Need-returns
-returns c = sym (header-refused _ (was-no (c .before .ranges-sound .result) (c .before .ranges-sound .ensures) (c .if1 .taken)))
+returns c = sym (header-refused _ (was-no (c .before .ranges-sound .ensures) (c .if1 .taken)))
 
 read-u32-requires : tie.Need-read-u32-requires
 read-u32-requires c κs = search needs
@@ -42,7 +42,7 @@ data-start-requires : tie.Need-data-start-requires
 data-start-requires c κs =
     let E = c .before .before .before .before in
     let img = E .before .before .before .args .image .now in
-    let h : rangesSound img ≡ true = was-yes (E .before .ranges-sound .result) (E .before .ranges-sound .ensures) (E .if1 .left) in
+    let h : rangesSound img ≡ true = was-yes (E .before .ranges-sound .ensures) (E .if1 .left) in
     let k = c .before .before .before .read-u32 .ensures in
     let n = c .before .before .read-u322 .ensures in
     (omega (arith, ranges-key img h), omega (arith, ranges-slots img h))
@@ -51,7 +51,7 @@ returns-2 : tie.Need-returns-2
 returns-2 c =
     let E = c .before .before .before .before .before in
     let img = E .before .before .before .args .image .now in
-    let h : rangesSound img ≡ true = was-yes (E .before .ranges-sound .result) (E .before .ranges-sound .ensures) (E .if1 .left) in
+    let h : rangesSound img ≡ true = was-yes (E .before .ranges-sound .ensures) (E .if1 .left) in
     cc (header-rest img h)
 
 pub header-sound-spec : {M : Type 1} → statement M

@@ -10,18 +10,23 @@ size-allowed-requires : tie.Need-size-allowed-requires
 size-allowed-requires c κs = search needs
 
 returns : tie.Need-returns
-returns c = sym (open-1 _ (was-no (c .before .size-allowed .result) (c .before .size-allowed .ensures) (c .if1 .taken)))
+returns c = sym (open-1 _ (was-no (c .before .size-allowed .ensures) (c .if1 .taken)))
 
 version-known-requires : tie.Need-version-known-requires
-version-known-requires c κs = omega (arith, size-least _ (was-yes (c .before .size-allowed .result) (c .before .size-allowed .ensures) (c .if1 .left)))
+version-known-requires c κs = omega (arith, size-least _ (was-yes (c .before .size-allowed .ensures) (c .if1 .left)))
 
 returns-2 : tie.Need-returns-2
 returns-2 c =
     let A = c .before .before in
-    sym (open-5 _ (was-yes (A .before .size-allowed .result) (A .before .size-allowed .ensures) (A .if1 .left)) (was-no (c .before .version-known .result) (c .before .version-known .ensures) (c .if2 .taken)))
+    sym
+    (open-5 _
+    (was-yes (A .before .size-allowed .ensures) (A .if1 .left))
+    (was-no (c .before .version-known .ensures) (c .if2 .taken)))
 
 header-sound-requires : tie.Need-header-sound-requires
-header-sound-requires c κs = omega (arith, size-least _ (was-yes (c .before .before .before .size-allowed .result) (c .before .before .before .size-allowed .ensures) (c .before .before .if1 .left)))
+header-sound-requires c κs =
+    let A = c .before .before in
+    omega (arith, size-least _ (was-yes (A .before .size-allowed .ensures) (A .if1 .left)))
 
 returns-3 : tie.Need-returns-3
 returns-3 c =
@@ -29,9 +34,9 @@ returns-3 c =
     let B = c .before .before in
     sym
     (open-6 _
-    (was-yes (A .before .size-allowed .result) (A .before .size-allowed .ensures) (A .if1 .left))
-    (was-yes (B .before .version-known .result) (B .before .version-known .ensures) (B .if2 .left))
-    (was-no (c .before .header-sound .result) (c .before .header-sound .ensures) (c .if3 .taken)))
+    (was-yes (A .before .size-allowed .ensures) (A .if1 .left))
+    (was-yes (B .before .version-known .ensures) (B .if2 .left))
+    (was-no (c .before .header-sound .ensures) (c .if3 .taken)))
 
 returns-4 : tie.Need-returns-4
 returns-4 c =
@@ -39,9 +44,9 @@ returns-4 c =
     let B = c .before .before in
     sym
     (open-0 _
-    (was-yes (A .before .size-allowed .result) (A .before .size-allowed .ensures) (A .if1 .left))
-    (was-yes (B .before .version-known .result) (B .before .version-known .ensures) (B .if2 .left))
-    (was-yes (c .before .header-sound .result) (c .before .header-sound .ensures) (c .if3 .left)))
+    (was-yes (A .before .size-allowed .ensures) (A .if1 .left))
+    (was-yes (B .before .version-known .ensures) (B .if2 .left))
+    (was-yes (c .before .header-sound .ensures) (c .if3 .left)))
 
 pub open-number-spec : {M : Type 1} → statement M
 open-number-spec =
