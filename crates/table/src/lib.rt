@@ -1,0 +1,3 @@
+// The table of an image's points:
+//     search   from a name to its slot
+pub mod search;
