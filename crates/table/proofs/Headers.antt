@@ -2,19 +2,21 @@
 --     Header img s        the bounds, by name; `header` gives them of an opened image
 --     layout-key, layout-slots, layout-area, slot-place      the layout's numbers are the shape's
 --     Placed, placed-opened, placed-room      the table lies in the image; Spot, spot: what a function that goes to slot i needs
---     key-part, offset-part, slot-part       the part that code cuts out is the slot's key, offset, bytes
+--     key-part, offset-part, slot-part, put-slot       the part that code cuts out is the slot's key, offset, bytes
 -- Assumes nothing.
 use mathlib.Core.Path.{_≡_, refl, sym, ap, ap₂, _∙_, subst}
 use Prim.Native.Nat.{ℕ, zero, suc, _+_, _-_, _*_, _%_, _≤_, _<_}
 use native.Mathlib.Nat.{zero-add, suc-add, suc-mul, mul-le-mul-right}
 use native.Mathlib.Omega.{arith}
-use mathlib.Core.List.{[], _∷_}
-use lib.ListN.{length, take, drop}
-use lib.Seq.{take-take, drop-drop}
-use Rattle.bhtf.specs.Bytes.{Bytes, part, number}
+use mathlib.Core.List.{[], _∷_, _++_, append-nil}
+use lib.ListN.{length, take, drop, length-drop}
+use lib.Seq.{take-take, drop-drop, take-at, drop-at, drop-length}
+use borrow.Rule.Slice.PartMut.{putMid}
+use Rattle.bhtf.specs.Bytes.{Bytes, part, store, number, digits}
 use Rattle.bhtf.specs.Limits.{slotsField, multiplierField, startField, firstField, lastField}
-use Rattle.bhtf.specs.Image.{field, hashFrom, hash, scramble, home, Layout, layoutOf, slotSize, slotStart, slot, keyOf, offsetOf}
+use Rattle.bhtf.specs.Image.{field, setField, hashFrom, hash, scramble, home, Layout, layoutOf, slotSize, slotStart, slot, putSlot, keyOf, offsetOf, entry}
 use Rattle.bhtf.specs.Questions.{openNumber}
+use Rattle.bhtf.proofs.Bytes.{length-digits}
 use Rattle.bhtf.proofs.Slots.{Room}
 use Rattle.bhtf.proofs.Opened.{Opened, opened-facts, opened-room}
 use Rattle.bhtf.proofs.Table.{keyAt}
@@ -138,6 +140,14 @@ module _ (img : Bytes) (s : Shape) (is : s ≡ shapeOf img) (i a : ℕ) (at : a 
       ap₂ (λ (m p : ℕ). take m (drop p img)) m place
       ∙ sym (take-take (layoutOf img .K) (layoutOf img .K + 4) (drop (slotStart (layoutOf img) i) img) (omega arith))
 
+  -- bytes put in the slot's place
+  pub put-slot : (e : ℕ) (v : Bytes) → e ≡ a + (s .key + 4) → length v ≡ s .key + 4
+      → putMid a (e - a) img v ≡ putSlot (layoutOf img) img i v
+  unfolding putSlot store
+  put-slot e v h l =
+      let m : e - a ≡ length v = omega arith in
+      ap₂ (λ (m p : ℕ). take p img ++ (v ++ drop m (drop p img))) m place
+
   pub offset-part : part img (a + s .key) 4 ≡ drop (layoutOf img .K) (slot (layoutOf img) img i)
   unfolding slot slotSize part
   offset-part =
@@ -170,3 +180,15 @@ home-is img s is key h =
         let m : 512 + count - 512 ≡ count = omega arith in
         ap (λ (n : ℕ). hashFrom (field img multiplierField) (field img firstField) (field img lastField)
         (take n (drop 512 img)) (field img startField) key) m
+
+-- ---- an entry: the key, and the offset behind it
+pub entry-written : (key rest : Bytes) (o : ℕ) → length rest ≡ 4 → setField (key ++ rest) (length key) o ≡ entry key o
+unfolding setField store entry
+entry-written key rest o l =
+    ap₂ (λ (a b : Bytes). a ++ (digits 4 o ++ drop (length (digits 4 o)) b))
+    (take-at key rest (length key) refl) (drop-at key rest (length key) refl)
+    ∙ ap (λ (b : Bytes). key ++ (digits 4 o ++ b)) nothing
+    ∙ ap (λ (b : Bytes). key ++ b) (append-nil (digits 4 o))
+  where
+    nothing : drop (length (digits 4 o)) rest ≡ []
+    nothing = ap (λ (n : ℕ). drop n rest) (length-digits 4 o ∙ sym l) ∙ drop-length rest

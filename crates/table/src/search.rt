@@ -3,17 +3,20 @@ use layout::places::Offset;
 use layout::places::Slot;
 use layout::shape::Shape;
 use words::fields::read_u32;
+use words::fields::write_u32;
 use words::hashing::hash;
 use words::runs::all_zero;
+use words::runs::copy;
 use words::runs::same_bytes;
 ghost use mathlib.Core.Path.{_≡_};
-ghost use Prim.Native.Nat.{_<_};
-ghost use Rattle.bhtf.specs.Image.{layoutOf, home};
+ghost use Prim.Native.Nat.{_+_, _^_, _<_};
+ghost use lib.ListN.{length};
+ghost use Rattle.bhtf.specs.Image.{layoutOf, home, entry, putSlot};
 ghost use Rattle.bhtf.specs.Questions.{openNumber};
 ghost use Rattle.bhtf.specs.Search.{search};
 ghost use Rattle.layout.specs.Shapes.{shapeOf};
 ghost use Rattle.table.specs.Probes.{probeOf};
-ghost use Rattle.table.specs.Slots.{keyIn, offsetIn};
+ghost use Rattle.table.specs.Slots.{keyIn, offsetIn, Placed};
 
 // How a search ended: the key was met, an empty slot was met, or all slots were read.
 pub enum Found {
@@ -83,4 +86,25 @@ pub fn search(image: &[u8], shape: Shape, key: &[u8]) -> Found
         left -= 1;
     }
     Found::Exhausted
+}
+
+// Writes an entry over a slot's bytes.
+pub fn write_entry(part: &mut [u8], key: &[u8], offset: Offset)
+    requires { ⌜ (length (now part) ≡ length (now key) + 4) × (offset .0 < 2 ^ 32) ⌝ }
+    ensures { λ _. ⌜ now (part .exit) ≡ entry (now (key .entry)) (offset .0) ⌝ }
+{
+    let size = key.len();
+    copy(&mut part[..size], key);
+    write_u32(part, size, offset.at() as u32);
+}
+
+// Puts an entry into slot i.
+pub fn put_entry(image: &mut [u8], shape: Shape, i: Slot, key: &[u8], offset: Offset)
+    requires { ⌜ Placed (now image) shape × (i .0 < shape .slots) × (length (now key) ≡ shape .key) × (offset .0 < 2 ^ 32) ⌝ }
+    ensures { λ _. ⌜ now (image .exit) ≡ putSlot (layoutOf (now (image .entry))) (now (image .entry)) (i .0) (entry (now (key .entry)) (offset .0)) ⌝ }
+{
+    let size = shape.key;
+    let a = i.start(size).at();
+    let e = a + (size + 4);
+    write_entry(&mut image[a..e], key, offset);
 }

@@ -6,68 +6,51 @@ use mathlib.Core.Path.{_∙_}
 use Rattle.table.proofs.Headers.{header, home-is}
 use Rattle.table.proofs.search.home.Statement.{statement}
 use Rattle.table.proofs.search.home.Tie as tie
-use Rattle.table.proofs.search.home.Reads as reads
-use Rattle.table.proofs.search.home.Lts as lts
-use Rattle.layout.proofs.places.Slot.new.Reads as new-reads
-use Rattle.words.proofs.hashing.hash.Reads as hash-reads
 
--- src/search.rt:34:27
 sub-end : tie.Need-sub-end
 sub-end c =
     let S = c .before .before in
     omega (arith, header (S .args .image .now) (S .args .shape) (S .pre .0) (S .pre .1))
 
--- src/search.rt:34:27
 add-end : tie.Need-add-end
 add-end c =
     let S = c .before .before in
     omega (arith, header (S .args .image .now) (S .args .shape) (S .pre .0) (S .pre .1))
 
--- src/search.rt:34:26
 cast-end : tie.Need-cast-end
 cast-end c = search needs
 
--- src/search.rt:34:21
 mul-end : tie.Need-mul-end
 mul-end c = search needs
 
--- src/search.rt:34:15
 add-end-2 : tie.Need-add-end-2
 add-end-2 c = search needs
 
--- src/search.rt:36:9
 sub-hash : tie.Need-sub-hash
 sub-hash c = search needs
 
--- src/search.rt:36:9
 part-hash-start : tie.Need-part-hash-start
 part-hash-start c = search needs
 
--- src/search.rt:36:9
 part-hash-end : tie.Need-part-hash-end
 part-hash-end c =
     let S = c .before .before in
     omega (arith, header (S .args .image .now) (S .args .shape) (S .pre .0) (S .pre .1))
 
--- src/search.rt:35:9
 hash-requires : tie.Need-hash-requires
 hash-requires c κs = search needs
 
--- src/search.rt:43:16
 cast-new : tie.Need-cast-new
 cast-new c = search needs
 
--- src/search.rt:43:15
 rem-new : tie.Need-rem-new
 rem-new c =
     let S = c .before .before .before .before in
     omega (arith, header (S .args .image .now) (S .args .shape) (S .pre .0) (S .pre .1))
 
--- src/search.rt:43:5
 new-requires : tie.Need-new-requires
 new-requires c κs = search needs
 
--- src/search.rt:27:1
 returns : tie.Need-returns
 returns c =
     let S = c .before .before .before .before .before in

@@ -7,42 +7,31 @@ use Rattle.table.proofs.Headers.{spot, key-part}
 use borrow.Author.Needs.{needs}
 use Rattle.table.proofs.search.key_of.Statement.{statement}
 use Rattle.table.proofs.search.key_of.Tie as tie
-use Rattle.table.proofs.search.key_of.Reads as reads
-use Rattle.table.proofs.search.key_of.Lts as lts
-use Rattle.layout.proofs.places.Offset.at.Reads as at-reads
-use Rattle.layout.proofs.places.Slot.start.Reads as start-reads
 
--- src/search.rt:51:13
 start-requires : tie.Need-start-requires
 start-requires c κs =
     let S = c .before in
     omega (arith, spot (S .args .image .now) (S .args .shape) (S .args .i .0) (S .pre .0) (S .pre .1) (S .pre .2))
 
--- src/search.rt:51:9
 at-requires : tie.Need-at-requires
 at-requires c κs = search needs
 
--- src/search.rt:52:13
 add-e : tie.Need-add-e
 add-e c =
     let S = c .before .before .before in
     omega (arith, spot (S .args .image .now) (S .args .shape) (S .args .i .0) (S .pre .0) (S .pre .1) (S .pre .2), c .at .ensures, c .before .start .ensures)
 
--- src/search.rt:53:5
 sub-result : tie.Need-sub-result
 sub-result c = search needs
 
--- src/search.rt:53:5
 part-result-start : tie.Need-part-result-start
 part-result-start c = search needs
 
--- src/search.rt:53:5
 part-result-end : tie.Need-part-result-end
 part-result-end c =
     let S = c .before .before .before in
     omega (arith, spot (S .args .image .now) (S .args .shape) (S .args .i .0) (S .pre .0) (S .pre .1) (S .pre .2), c .at .ensures, c .before .start .ensures)
 
--- src/search.rt:46:1
 returns : tie.Need-returns
 returns c =
     let S = c .before .before .before .before in

@@ -12,13 +12,6 @@ use Rattle.table.proofs.Headers.{header, layout-slots}
 use Rattle.table.proofs.Turns.{search-start, read-met, read-empty, read-on, read-all}
 use Rattle.table.proofs.search.search.Statement.{statement}
 use Rattle.table.proofs.search.search.Tie as tie
-use Rattle.table.proofs.search.search.Reads as reads
-use Rattle.table.proofs.search.search.Lts as lts
-use Rattle.layout.proofs.places.Slot.next.Reads as next-reads
-use Rattle.table.proofs.search.home.Reads as home-reads
-use Rattle.table.proofs.search.key_of.Reads as key-of-reads
-use Rattle.words.proofs.runs.all_zero.Reads as all-zero-reads
-use Rattle.words.proofs.runs.same_bytes.Reads as same-bytes-reads
 
 abbrev Inv-loop : tie.InvT-loop
 Inv-loop image shape key slots i₀ left₀ i left =
@@ -27,11 +20,9 @@ Inv-loop image shape key slots i₀ left₀ i left =
 abbrev μ-loop : tie.MeasureT-loop
 μ-loop image shape key slots i₀ left₀ i left = left
 
--- src/search.rt:74:9
 home-requires : tie.Need-home-requires Inv-loop μ-loop
 home-requires c κs = c .before .before .pre
 
--- src/search.rt:76:5
 loop-holds : tie.Need-loop-holds Inv-loop μ-loop
 loop-holds c =
     let S = c .before .before .before in
@@ -43,17 +34,14 @@ loop-holds c =
           ∙ ap₂ (λ (m i : ℕ). probe (layoutOf (S .args .image .now)) (S .args .image .now) (S .args .key .now) m i) n (sym at),
     )
 
--- src/search.rt:77:13
 key-of-requires : tie.Need-key-of-requires Inv-loop μ-loop
 key-of-requires c κs =
     let S = c .before .before .before .before .before in
     (S .pre .0, S .pre .1, c .before .loop .inv .0)
 
--- src/search.rt:78:12
 same-bytes-requires : tie.Need-same-bytes-requires Inv-loop μ-loop
 same-bytes-requires c κs = tt
 
--- src/search.rt:79:13
 returns : tie.Need-returns Inv-loop μ-loop
 unfolding probeOf
 returns c =
@@ -64,11 +52,9 @@ returns c =
     sym (L .loop .inv .1 ∙ read-met (layoutOf (S .args .image .now)) (S .args .image .now) (S .args .key .now) (L .loop .left) (L .loop .i .0) some′ (K .result .now) (K .ensures)
     (sym (c .before .same-bytes .ensures) ∙ c .if1 .taken))
 
--- src/search.rt:81:12
 all-zero-requires : tie.Need-all-zero-requires Inv-loop μ-loop
 all-zero-requires c κs = tt
 
--- src/search.rt:82:13
 returns-2 : tie.Need-returns-2 Inv-loop μ-loop
 unfolding probeOf
 returns-2 c =
@@ -79,19 +65,15 @@ returns-2 c =
     sym (L .loop .inv .1 ∙ read-empty (layoutOf (S .args .image .now)) (S .args .image .now) (S .args .key .now) (L .loop .left) (L .loop .i .0) some′ (K .result .now) (K .ensures)
     (sym (c .before .before .before .same-bytes .ensures) ∙ c .before .before .if1 .left) (sym (c .before .all-zero .ensures) ∙ c .if2 .taken))
 
--- src/search.rt:84:9
 next-requires : tie.Need-next-requires Inv-loop μ-loop
 next-requires c κs = c .before .before .before .before .before .before .loop .inv .0
 
--- src/search.rt:85:9
 sub-left : tie.Need-sub-left Inv-loop μ-loop
 sub-left c = omega arith
 
--- src/search.rt:76:5
 loop-less : tie.Need-loop-less Inv-loop μ-loop
 loop-less c = omega arith
 
--- src/search.rt:76:5
 loop-again : tie.Need-loop-again Inv-loop μ-loop
 loop-again c =
     let L = c .before .before .before .before .before .before .before in
@@ -108,7 +90,6 @@ loop-again c =
           ∙ ap (λ (i : ℕ). probe (layoutOf (S .args .image .now)) (S .args .image .now) (S .args .key .now) (L .loop .left - 1) i) (ap (λ (m : ℕ). next m (L .loop .i .0)) n ∙ sym at),
     )
 
--- src/search.rt:67:1
 returns-3 : tie.Need-returns-3 Inv-loop μ-loop
 unfolding probeOf
 returns-3 c =
