@@ -7,10 +7,10 @@ use Prim.Native.Nat.{ℕ, zero, suc, _+_, _<_, _≤_}
 use native.Mathlib.Nat.{not-suc-le-zero, le-of-suc-le-suc}
 use native.Mathlib.Numerals.{add-one}
 use native.Mathlib.Omega.{arith}
-use mathlib.Core.List.{List, [], _∷_, _++_, append-assoc, append-nil}
-use mathlib.Core.Path.{_≡_, refl, sym, ap, _∙_, subst}
-use lib.ListN.{length, getD, set, take, drop, replicate, length-append, length-drop, length-take, List·getD-append}
-use lib.Seq.{take-length, drop-length, length-take-le, drop-drop, getD-take, getD-drop, paste, paste-zero, paste-suc}
+use mathlib.Core.List.{[], _∷_, _++_, append-assoc, append-nil}
+use mathlib.Core.Path.{_≡_, refl, sym, ap, _∙_}
+use lib.ListN.{length, getD, set, take, drop, replicate, length-append, length-drop, List·getD-append}
+use lib.Seq.{take-length, drop-length, length-take-le, drop-drop, getD-take, getD-drop, paste, paste-suc}
 use Rattle.bhtf.specs.Bytes.{Bytes, part, store, zeros}
 
 copied-suc : (s d : Bytes) (i : ℕ) → i < length s → i < length d
@@ -18,14 +18,16 @@ copied-suc : (s d : Bytes) (i : ℕ) → i < length s → i < length d
 copied-suc [] d i p q = absurd (not-suc-le-zero p)
 copied-suc (a ∷ s) [] i p q = absurd (not-suc-le-zero q)
 copied-suc (a ∷ s) (b ∷ d) zero p q = refl
-copied-suc (a ∷ s) (b ∷ d) (suc i) p q = ap (λ (t : Bytes). a ∷ t) (copied-suc s d i (le-of-suc-le-suc p) (le-of-suc-le-suc q))
+copied-suc (a ∷ s) (b ∷ d) (suc i) p q =
+    ap (λ (t : Bytes). a ∷ t) (copied-suc s d i (le-of-suc-le-suc p) (le-of-suc-le-suc q))
 
 pub copied-more : (s d : Bytes) (i : ℕ) → i < length s → i < length d
     → set (take i s ++ drop i d) i (getD s i 0) ≡ take (i + 1) s ++ drop (i + 1) d
 copied-more s d i p q = rw add-one (copied-suc s d i p q)
 
 pub copied-all : (s d : Bytes) (i : ℕ) → i ≡ length s → i ≡ length d → take i s ++ drop i d ≡ s
-copied-all s d i p q = ap (λ (t : Bytes). take i s ++ t) (rw (q, drop-length d)) ∙ append-nil (take i s) ∙ rw (p, take-length s)
+copied-all s d i p q =
+    ap (λ (t : Bytes). take i s ++ t) (rw (q, drop-length d)) ∙ append-nil (take i s) ∙ rw (p, take-length s)
 
 pub zeroed-all : (d : Bytes) (i : ℕ) → i ≡ length d → replicate i 0 ++ drop i d ≡ zeros (length d)
 unfolding zeros

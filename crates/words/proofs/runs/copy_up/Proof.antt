@@ -1,4 +1,4 @@
--- `words::runs::copy_up` meets its contract: after i turns the first i bytes have been copied, and none that is still to be read.
+-- `words::runs::copy_up` meets its contract: i bytes are written, and none that is still to be read.
 -- Assumes nothing.
 use Prim.Native.Nat.{ℕ, _+_, _≤_, _-_}
 use native.Mathlib.Omega.{arith}
