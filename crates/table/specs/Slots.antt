@@ -6,7 +6,7 @@ use Prim.Native.Nat.{ℕ, _+_, _*_, _≤_}
 use lib.ListN.{length}
 use mathlib.Core.Bool.{Bool}
 use Rattle.bhtf.specs.Bytes.{Bytes}
-use Rattle.bhtf.specs.Image.{layoutOf, slot, keyOf, offsetOf, vacant}
+use Rattle.bhtf.specs.Image.{layoutOf, slot, keyOf, offsetOf, vacant, home}
 use Rattle.layout.specs.Shapes.{shapeOf}
 use Rattle.layout.specs.declared.shape.Shape.{Shape}
 
@@ -24,3 +24,7 @@ vacantIn img i = vacant (layoutOf img) (slot (layoutOf img) img i)
 
 abbrev pub offsetIn : Bytes → ℕ → ℕ
 offsetIn img i = offsetOf (layoutOf img) (slot (layoutOf img) img i)
+
+-- the home of its entry
+abbrev pub homeIn : Bytes → ℕ → ℕ
+homeIn img i = home (layoutOf img) (keyIn img i)
