@@ -26,7 +26,7 @@ use Rattle.bhtf.proofs.Table.{entryOf, weight, weigh, Taken}
 use Rattle.bhtf.proofs.Probe.{by-search, search-exhausted}
 use Rattle.bhtf.proofs.Insert.{entry-met, weigh-taken}
 use Rattle.agreement.proofs.File.{Allowed, valueOf, File, file-some, file-slots, Change}
-use Rattle.agreement.proofs.Stretch.{sound-lies}
+use Rattle.bhtf.proofs.Stretch.{sound-lies}
 use Rattle.agreement.proofs.Data.{file-above}
 use Rattle.agreement.proofs.Retire.{retire-change, retire-field, retire-point}
 use Rattle.agreement.proofs.Overwrite.{overwrite-change, overwrite-field, overwrite-point}

@@ -28,7 +28,7 @@ use Rattle.bhtf.proofs.Slots.{Room}
 use Rattle.bhtf.proofs.Opened.{Opened, opened-room}
 use Rattle.bhtf.proofs.Kept.{Kept, kept-trans, kept-layout, opened-kept}
 use Rattle.bhtf.proofs.Table.{Sound, entryOf, weight}
-use Rattle.agreement.proofs.Stretch.{size, Lies, sound-lies, lies-sound, none-sound, SameOn, same-on-trans, letterAt-same, lengthAt-same, shown-same, held-same, lies-same}
+use Rattle.bhtf.proofs.Stretch.{size, Lies, sound-lies, lies-sound, none-sound, SameOn, same-on-trans, letterAt-same, lengthAt-same, shown-same, held-same, lies-same}
 
 -- ---- names
 

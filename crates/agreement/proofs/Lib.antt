@@ -1,4 +1,3 @@
-pub mod Stretch
 pub mod File
 pub mod Data
 pub mod Retire

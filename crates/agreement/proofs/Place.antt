@@ -23,7 +23,7 @@ use Rattle.bhtf.proofs.Opened.{firstNo-head, firstNo-tail}
 use Rattle.bhtf.proofs.Table.{entryOf}
 use Rattle.bhtf.proofs.Probe.{search-frame}
 use Rattle.bhtf.proofs.Insert.{entry-met, entry-empty}
-use Rattle.agreement.proofs.Stretch.{lies-sound}
+use Rattle.bhtf.proofs.Stretch.{lies-sound}
 use Rattle.agreement.proofs.File.{Allowed, valueOf, pointOf, pointOf-none, File, file-some, file-room, file-data, Change, file-change, change-trans, change-any}
 use Rattle.agreement.proofs.Retire.{retire-change, retire-slot, retire-field}
 use Rattle.agreement.proofs.Space.{written-value, space-change, space-file, space-slot, space-entry, space-free, space-points, space-written, space-some, space-lies, space-away}

@@ -25,7 +25,7 @@ use Rattle.bhtf.proofs.Opened.{firstNo-none, firstNo-yes, firstNo-no, facts-ope
 use Rattle.bhtf.proofs.Table.{entryOf, weight}
 use Rattle.bhtf.proofs.Probe.{by-search, search-frame}
 use Rattle.bhtf.proofs.Insert.{entry-met, entry-empty, entry-exhausted}
-use Rattle.agreement.proofs.Stretch.{sound-lies}
+use Rattle.bhtf.proofs.Stretch.{sound-lies}
 use Rattle.agreement.proofs.File.{Allowed, valueOf, pointOf, pointOf-some, pointOf-none, File, file-some, Change, file-change, change-trans}
 use Rattle.agreement.proofs.Data.{point-end}
 use Rattle.agreement.proofs.Retire.{active-offset, shown-active, shown-inactive, retire-change, retire-slot, retire-entry, retire-field, retire-value}

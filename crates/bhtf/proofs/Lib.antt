@@ -14,3 +14,6 @@ pub mod Delete
 pub mod Probe
 pub mod Insert
 pub mod Verdict
+pub mod Outcomes
+pub mod Stretch
+pub mod Effects
