@@ -18,52 +18,78 @@ open-number-requires c κs = search needs
 
 put-refused-requires : tie.Need-put-refused-requires
 put-refused-requires c κs =
-    let S = c .before .before .before .before .before in
+    let I = c .before in
+    let O = I .before in
+    let S = O .before .before .before in
     let img = S .args .image .now in
-    omega (arith, S .pre, ap length (listed-closed img (c .before .before .open-number .result) (c .before .before .open-number .ensures) (c .before .if1 .taken)))
+    let text = listed-closed img (O .open-number .result) (O .open-number .ensures) (I .if1 .taken) in
+    omega (arith, S .pre, ap length text)
 
 same-length : tie.Need-same-length
 same-length c = search needs
 
 returns : tie.Need-returns
 returns c =
-    let S = c .before .before .before .before .before .before .before .before in
+    let P = c .before .before in
+    let I = P .before .before in
+    let O = I .before in
+    let S = O .before .before .before in
     let img = S .args .image .now in
-    put-same (sym (listed-closed img (c .before .before .before .before .before .open-number .result) (c .before .before .before .before .before .open-number .ensures) (c .before .before .before .before .if1 .taken))) (c .before .before .put-refused .ensures)
+    let text = listed-closed img (O .open-number .result) (O .open-number .ensures) (I .if1 .taken) in
+    put-same (sym text) (P .put-refused .ensures)
 
 slice-aggregate-put-bytes : tie.Need-slice-aggregate-put-bytes
 slice-aggregate-put-bytes c = search needs
 
 put-bytes-requires : tie.Need-put-bytes-requires
 put-bytes-requires c κs =
-    let S = c .before .before .before .before .before .before in
+    let I = c .before .before in
+    let O = I .before in
+    let S = O .before .before .before in
     let img = S .args .image .now in
-    omega (arith, S .pre, ap length (listed-open img (layoutOf img .N) (sym (c .before .before .before .open-number .ensures) ∙ c .before .before .if1 .left) refl), length-append heading (lines (layoutOf img) img (layoutOf img .N) 0))
+    let open₀ = sym (O .open-number .ensures) ∙ I .if1 .left in
+    let text = listed-open img (layoutOf img .N) open₀ refl in
+    omega (arith, S .pre, ap length text, length-append heading (lines (layoutOf img) img (layoutOf img .N) 0))
 
 read-shape-requires : tie.Need-read-shape-requires
 read-shape-requires c κs =
-    let S = c .before .before .before .before .before .before .before .before .before in
+    let I = c .before .before .before .before .before in
+    let O = I .before in
+    let S = O .before .before .before in
     let img = S .args .image .now in
-    omega (arith, opened-facts img (sym (c .before .before .before .before .before .before .open-number .ensures) ∙ c .before .before .before .before .before .if1 .left) .size-low)
+    let open₀ = sym (O .open-number .ensures) ∙ I .if1 .left in
+    omega (arith, opened-facts img open₀ .size-low)
 
 put-lines-requires : tie.Need-put-lines-requires
 put-lines-requires c κs =
-    let S = c .before .before .before .before .before .before .before .before .before .before .before in
+    let R = c .before in
+    let P = R .before .before .before in
+    let I = P .before .before .before in
+    let O = I .before in
+    let S = O .before .before .before in
     let img = S .args .image .now in
-    let all = listed-open img (c .before .read-shape .result .slots) (sym (c .before .before .before .before .before .before .before .before .open-number .ensures) ∙ c .before .before .before .before .before .before .before .if1 .left)
-    (layout-slots img (c .before .read-shape .result) (c .before .read-shape .ensures)) in
-    (sym (c .before .before .before .before .before .before .before .before .open-number .ensures) ∙ c .before .before .before .before .before .before .before .if1 .left, c .before .read-shape .ensures, omega (arith, S .pre, ap length all, length-append heading (lines (layoutOf img) img (c .before .read-shape .result .slots) 0), c .before .before .before .before .put-bytes .ensures .ends, c .before .before .before .before .put-bytes .kept .0))
+    let open₀ = sym (O .open-number .ensures) ∙ I .if1 .left in
+    let shape = R .read-shape .result in
+    let text = listed-open img (shape .slots) open₀ (layout-slots img shape (R .read-shape .ensures)) in
+    let room = length-append heading (lines (layoutOf img) img (shape .slots) 0) in
+    (open₀, R .read-shape .ensures, omega (arith, S .pre, ap length text, room, P .put-bytes .ensures .ends, P .put-bytes .kept .0))
 
 same-length-2 : tie.Need-same-length-2
 same-length-2 c = search needs
 
 returns-2 : tie.Need-returns-2
 returns-2 c =
-    let S = c .before .before .before .before .before .before .before .before .before .before .before .before .before .before in
+    let L = c .before .before in
+    let R = L .before .before in
+    let P = R .before .before .before in
+    let I = P .before .before .before in
+    let O = I .before in
+    let S = O .before .before .before in
     let img = S .args .image .now in
-    let all = listed-open img (c .before .before .before .before .read-shape .result .slots) (sym (c .before .before .before .before .before .before .before .before .before .before .before .open-number .ensures) ∙ c .before .before .before .before .before .before .before .before .before .before .if1 .left)
-    (layout-slots img (c .before .before .before .before .read-shape .result) (c .before .before .before .before .read-shape .ensures)) in
-    put-same (sym all) (put-on (c .before .before .before .before .before .before .before .put-bytes .ensures) (c .before .before .put-lines .ensures) (omega (arith, S .pre, ap length all)))
+    let open₀ = sym (O .open-number .ensures) ∙ I .if1 .left in
+    let shape = R .read-shape .result in
+    let text = listed-open img (shape .slots) open₀ (layout-slots img shape (R .read-shape .ensures)) in
+    put-same (sym text) (put-on (P .put-bytes .ensures) (L .put-lines .ensures) (omega (arith, S .pre, ap length text)))
 
 pub list-spec : {M : Type 1} → statement M
 list-spec =

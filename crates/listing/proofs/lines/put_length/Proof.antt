@@ -25,87 +25,129 @@ slice-aggregate-put-bytes c = search needs
 
 put-bytes-requires : tie.Need-put-bytes-requires
 put-bytes-requires c κs =
-    let S = c .before .before .before .before .before .before .before in
+    let T = c .before .before in
+    let M = T .before in
+    let O = M .before in
+    let S = O .before .before .before in
     let img = S .args .image .now in
     let g = layoutOf img in
-    let o = c .before .before .before .before .offset-of in
     let at = offsetIn img (S .args .i .0) in
-    omega (arith, S .pre .3, ap length (text-bad g img (o .result .0) at (o .ensures) (sym (c .before .before .before .message-sound .ensures) ∙ not-true _ (c .before .before .if1 .taken))))
+    let text = text-bad g img (O .offset-of .result .0) at (O .offset-of .ensures)
+    (sym (M .message-sound .ensures) ∙ not-true _ (T .if1 .taken)) in
+    omega (arith, S .pre .3, ap length text)
 
 same-length : tie.Need-same-length
 same-length c = search needs
 
 returns : tie.Need-returns
 returns c =
-    let S = c .before .before .before .before .before .before .before .before .before .before in
+    let P = c .before .before in
+    let T = P .before .before .before in
+    let M = T .before in
+    let O = M .before in
+    let S = O .before .before .before in
     let img = S .args .image .now in
     let g = layoutOf img in
-    let o = c .before .before .before .before .before .before .before .offset-of in
     let at = offsetIn img (S .args .i .0) in
-    put-same (sym (text-bad g img (o .result .0) at (o .ensures) (sym (c .before .before .before .before .before .before .message-sound .ensures) ∙ not-true _ (c .before .before .before .before .before .if1 .taken))))
-    (c .before .before .put-bytes .ensures)
+    let text = text-bad g img (O .offset-of .result .0) at (O .offset-of .ensures)
+    (sym (M .message-sound .ensures) ∙ not-true _ (T .if1 .taken)) in
+    put-same (sym text) (P .put-bytes .ensures)
 
 is-active-requires : tie.Need-is-active-requires
 is-active-requires c κs =
-    let S = c .before .before .before .before .before in
+    let M = c .before in
+    let O = M .before in
+    let S = O .before .before .before in
     let img = S .args .image .now in
-    omega (arith, message-head img (opened-facts img (S .pre .0)) (c .before .before .offset-of .result .0) (sym (c .before .message-sound .ensures) ∙ not-false _ (c .if1 .left)))
+    let head = message-head img (opened-facts img (S .pre .0)) (O .offset-of .result .0)
+    (sym (M .message-sound .ensures) ∙ not-false _ (c .if1 .left)) in
+    omega (arith, head)
 
 put-decimal-requires : tie.Need-put-decimal-requires
 put-decimal-requires c κs =
-    let S = c .before .before .before .before .before .before .before .before in
+    let U = c .before in
+    let A = U .before in
+    let E = A .before in
+    let M = E .before in
+    let O = M .before in
+    let S = O .before .before .before in
     let img = S .args .image .now in
     let g = layoutOf img in
-    let o = c .before .before .before .before .before .offset-of in
     let at = offsetIn img (S .args .i .0) in
-    omega (arith, S .pre .3, ap length (text-none g img (o .result .0) at (o .ensures) (sym (c .before .before .before .before .message-sound .ensures) ∙ not-false _ (c .before .before .before .if1 .left)) (sym (c .before .before .is-active .ensures) ∙ not-true _ (c .before .if2 .taken))))
+    let text = text-none g img (O .offset-of .result .0) at (O .offset-of .ensures)
+    (sym (M .message-sound .ensures) ∙ not-false _ (E .if1 .left))
+    (sym (A .is-active .ensures) ∙ not-true _ (U .if2 .taken)) in
+    omega (arith, S .pre .3, ap length text)
 
 same-length-2 : tie.Need-same-length-2
 same-length-2 c = search needs
 
 returns-2 : tie.Need-returns-2
 returns-2 c =
-    let S = c .before .before .before .before .before .before .before .before .before .before .before in
+    let P = c .before .before in
+    let U = P .before .before in
+    let A = U .before in
+    let E = A .before in
+    let M = E .before in
+    let O = M .before in
+    let S = O .before .before .before in
     let img = S .args .image .now in
     let g = layoutOf img in
-    let o = c .before .before .before .before .before .before .before .before .offset-of in
     let at = offsetIn img (S .args .i .0) in
-    put-same (sym (text-none g img (o .result .0) at (o .ensures) (sym (c .before .before .before .before .before .before .before .message-sound .ensures) ∙ not-false _ (c .before .before .before .before .before .before .if1 .left)) (sym (c .before .before .before .before .before .is-active .ensures) ∙ not-true _ (c .before .before .before .before .if2 .taken))))
-    (c .before .before .put-decimal .ensures)
+    let text = text-none g img (O .offset-of .result .0) at (O .offset-of .ensures)
+    (sym (M .message-sound .ensures) ∙ not-false _ (E .if1 .left))
+    (sym (A .is-active .ensures) ∙ not-true _ (U .if2 .taken)) in
+    put-same (sym text) (P .put-decimal .ensures)
 
 length-at-requires : tie.Need-length-at-requires
 length-at-requires c κs =
-    let S = c .before .before .before .before .before .before .before .before in
+    let U = c .before in
+    let A = U .before in
+    let E = A .before in
+    let M = E .before in
+    let O = M .before in
+    let S = O .before .before .before in
     let img = S .args .image .now in
-    message-head img (opened-facts img (S .pre .0)) (c .before .before .before .before .before .offset-of .result .0) (sym (c .before .before .before .before .message-sound .ensures) ∙ not-false _ (c .before .before .before .if1 .left))
+    let head = message-head img (opened-facts img (S .pre .0)) (O .offset-of .result .0)
+    (sym (M .message-sound .ensures) ∙ not-false _ (E .if1 .left)) in
+    head
 
 put-decimal-requires-2 : tie.Need-put-decimal-requires-2
 put-decimal-requires-2 c κs =
-    let S = c .before .before .before .before .before .before .before .before .before in
+    let U = c .before .before in
+    let A = U .before in
+    let E = A .before in
+    let M = E .before in
+    let O = M .before in
+    let S = O .before .before .before in
     let img = S .args .image .now in
     let g = layoutOf img in
-    let o = c .before .before .before .before .before .before .offset-of in
     let at = offsetIn img (S .args .i .0) in
-    omega (
-      arith,
-      S .pre .3,
-      ap length (text-active g img (o .result .0) at (o .ensures) (sym (c .before .before .before .before .before .message-sound .ensures) ∙ not-false _ (c .before .before .before .before .if1 .left))
-          (sym (c .before .before .before .is-active .ensures) ∙ not-false _ (c .before .before .if2 .left)) (c .length-at .result) (c .length-at .ensures)),
-    )
+    let text = text-active g img (O .offset-of .result .0) at (O .offset-of .ensures)
+    (sym (M .message-sound .ensures) ∙ not-false _ (E .if1 .left))
+    (sym (A .is-active .ensures) ∙ not-false _ (U .if2 .left)) (c .length-at .result) (c .length-at .ensures) in
+    omega (arith, S .pre .3, ap length text)
 
 same-length-3 : tie.Need-same-length-3
 same-length-3 c = search needs
 
 returns-3 : tie.Need-returns-3
 returns-3 c =
-    let S = c .before .before .before .before .before .before .before .before .before .before .before .before in
+    let P = c .before .before in
+    let L = P .before in
+    let U = L .before .before in
+    let A = U .before in
+    let E = A .before in
+    let M = E .before in
+    let O = M .before in
+    let S = O .before .before .before in
     let img = S .args .image .now in
     let g = layoutOf img in
-    let o = c .before .before .before .before .before .before .before .before .before .offset-of in
     let at = offsetIn img (S .args .i .0) in
-    put-same (sym (text-active g img (o .result .0) at (o .ensures) (sym (c .before .before .before .before .before .before .before .before .message-sound .ensures) ∙ not-false _ (c .before .before .before .before .before .before .before .if1 .left))
-    (sym (c .before .before .before .before .before .before .is-active .ensures) ∙ not-false _ (c .before .before .before .before .before .if2 .left)) (c .before .before .before .length-at .result) (c .before .before .before .length-at .ensures)))
-    (c .before .before .put-decimal2 .ensures)
+    let text = text-active g img (O .offset-of .result .0) at (O .offset-of .ensures)
+    (sym (M .message-sound .ensures) ∙ not-false _ (E .if1 .left))
+    (sym (A .is-active .ensures) ∙ not-false _ (U .if2 .left)) (L .length-at .result) (L .length-at .ensures) in
+    put-same (sym text) (P .put-decimal2 .ensures)
 
 pub put-length-spec : {M : Type 1} → statement M
 put-length-spec =

@@ -18,13 +18,24 @@ put-bytes-requires c κs =
 
 put-decimal-requires : tie.Need-put-decimal-requires
 put-decimal-requires c κs =
-    let S = c .before .before .before .before .before .before .before in
-    omega (arith, S .pre, refused-length (S .args .number), c .before .before .before .put-bytes .ensures .ends, c .before .before .before .put-bytes .kept .0)
+    let A = c .before .before .before in
+    let S = A .before .before .before .before in
+    omega (arith, S .pre, refused-length (S .args .number), A .put-bytes .ensures .ends, A .put-bytes .kept .0)
 
 put-byte-requires : tie.Need-put-byte-requires
 put-byte-requires c κs =
-    let S = c .before .before .before .before .before .before .before .before .before .before .before in
-    omega (arith, S .pre, refused-length (S .args .number), c .before .before .before .before .before .before .before .put-bytes .ensures .ends, c .before .before .before .before .before .before .before .put-bytes .kept .0, c .before .before .before .put-decimal .ensures .ends, c .before .before .before .put-decimal .kept .0)
+    let B = c .before .before .before in
+    let A = B .before .before .before .before in
+    let S = A .before .before .before .before in
+    omega (
+      arith,
+      S .pre,
+      refused-length (S .args .number),
+      A .put-bytes .ensures .ends,
+      A .put-bytes .kept .0,
+      B .put-decimal .ensures .ends,
+      B .put-decimal .kept .0,
+    )
 
 same-length : tie.Need-same-length
 same-length c = search needs
@@ -32,8 +43,11 @@ same-length c = search needs
 returns : tie.Need-returns
 unfolding refusedText
 returns c =
-    let S = c .before .before .before .before .before .before .before .before .before .before .before .before .before .before in
-    put-three (c .before .before .before .before .before .before .before .before .before .before .put-bytes .ensures) (c .before .before .before .before .before .before .put-decimal .ensures) (c .before .before .put-byte .ensures) (omega (arith, S .pre))
+    let C = c .before .before in
+    let B = C .before .before .before .before in
+    let A = B .before .before .before .before in
+    let S = A .before .before .before .before in
+    put-three (A .put-bytes .ensures) (B .put-decimal .ensures) (C .put-byte .ensures) (omega (arith, S .pre))
 
 pub put-refused-spec : {M : Type 1} → statement M
 put-refused-spec =

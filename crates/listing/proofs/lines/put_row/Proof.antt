@@ -16,27 +16,36 @@ is-taken-requires c κs = search needs
 
 returns : tie.Need-returns
 returns c =
-    let S = c .before .before .before .before in
+    let T = c .before in
+    let S = T .before .before .before in
     let img = S .args .image .now in
     let i = S .args .i .0 in
-    put-same (sym (row-vacant (layoutOf img) img i (sym (c .before .is-taken .ensures) ∙ not-true _ (c .if1 .taken)))) (put-none (S .args .out .now) (S .args .at))
+    let text = row-vacant (layoutOf img) img i (sym (T .is-taken .ensures) ∙ not-true _ (c .if1 .taken)) in
+    put-same (sym text) (put-none (S .args .out .now) (S .args .at))
 
 put-line-requires : tie.Need-put-line-requires
 put-line-requires c κs =
-    let S = c .before .before .before .before .before in
+    let E = c .before in
+    let T = E .before in
+    let S = T .before .before .before in
     let img = S .args .image .now in
     let i = S .args .i .0 in
-    (S .pre .0, S .pre .1, S .pre .2, omega (arith, S .pre .3, ap length (row-taken (layoutOf img) img i (sym (c .before .before .is-taken .ensures) ∙ not-false _ (c .before .if1 .left)))))
+    let text = row-taken (layoutOf img) img i (sym (T .is-taken .ensures) ∙ not-false _ (E .if1 .left)) in
+    (S .pre .0, S .pre .1, S .pre .2, omega (arith, S .pre .3, ap length text))
 
 same-length : tie.Need-same-length
 same-length c = search needs
 
 returns-2 : tie.Need-returns-2
 returns-2 c =
-    let S = c .before .before .before .before .before .before .before .before in
+    let P = c .before .before in
+    let E = P .before .before in
+    let T = E .before in
+    let S = T .before .before .before in
     let img = S .args .image .now in
     let i = S .args .i .0 in
-    put-same (sym (row-taken (layoutOf img) img i (sym (c .before .before .before .before .before .is-taken .ensures) ∙ not-false _ (c .before .before .before .before .if1 .left)))) (c .before .before .put-line .ensures)
+    let text = row-taken (layoutOf img) img i (sym (T .is-taken .ensures) ∙ not-false _ (E .if1 .left)) in
+    put-same (sym text) (P .put-line .ensures)
 
 pub put-row-spec : {M : Type 1} → statement M
 put-row-spec =
