@@ -11,3 +11,5 @@ pub mod Place
 pub mod Add
 pub mod Fresh
 pub mod Theorem
+pub mod Reached
+pub mod Users

@@ -70,11 +70,20 @@ from-reflected g img b r calls = (
   λ name. points-agree g (stateAfter perform calls img) (stateAfter bookStep calls b) (reflects-after g calls img b r) name,
 )
 
+-- create's image and the new book are in the relation
+pub reflects-created : (img : Bytes) (K N seed : ℕ) → create img K N seed .answer .number ≡ 0
+    → (g : Layout) × Reflects g (create img K N seed .after) (newBook (termsOf (length img) K (slotsAsked N)))
+unfolding create plain
+reflects-created img K N seed ok =
+    let fresh = freshImage (length img) K (slotsAsked N) seed in (
+      layoutOf fresh,
+      subst (λ (i : Bytes). Reflects (layoutOf fresh) i (newBook (termsOf (length img) K (slotsAsked N))))
+          (sym (settled-yes (createNumber (length img) K (slotsAsked N)) img fresh ok))
+          (fresh-reflects (length img) K (slotsAsked N) seed (accepted (length img) K (slotsAsked N) ok) (slotsAsked-some N)),
+    )
+
 pub agreement : Agreement
-unfolding Agreement create plain
+unfolding Agreement
 agreement img K N seed ok calls =
-    let acc = accepted (length img) K (slotsAsked N) ok in
-    let r = fresh-reflects (length img) K (slotsAsked N) seed acc (slotsAsked-some N) in
-    subst (λ (i : Bytes). Agrees i (newBook (termsOf (length img) K (slotsAsked N))) calls)
-    (sym (settled-yes (createNumber (length img) K (slotsAsked N)) img (freshImage (length img) K (slotsAsked N) seed) ok))
-    (from-reflected _ _ _ r calls)
+    let c = reflects-created img K N seed ok in
+    from-reflected (c .0) _ _ (c .1) calls
