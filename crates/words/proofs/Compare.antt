@@ -3,11 +3,11 @@
 --     same-lengths, same-end         runs of different lengths are not the same; nothing left is
 --     allZero-step, allZero-other    a zero byte at i leaves the rest; another one ends it
 -- Assumes nothing.
-use Prim.Native.Nat.{ℕ, zero, suc, _+_, _<_}
+use Prim.Native.Nat.{ℕ, suc, _+_, _<_}
 use native.Mathlib.Numerals.{add-one}
 use mathlib.Core.Bool.{Bool, true, false, _&&_, and-false}
-use mathlib.Core.List.{List, [], _∷_}
-use mathlib.Core.Path.{_≡_, refl, sym, ap, _∙_}
+use mathlib.Core.List.{[], _∷_}
+use mathlib.Core.Path.{_≡_, refl, ap, _∙_}
 use lib.ListN.{length, getD, drop}
 use lib.Seq.{drop-cons, drop-length}
 use lib.Dec.{eqb}
@@ -30,7 +30,8 @@ unfolding same
 same-lengths [] [] h = absurd (h refl)
 same-lengths [] (c ∷ b) h = refl
 same-lengths (c ∷ a) [] h = refl
-same-lengths (c ∷ a) (d ∷ b) h = ap (λ (t : Bool). eqb c d && t) (same-lengths a b (λ e. h (ap suc e))) ∙ and-false (eqb c d)
+same-lengths (c ∷ a) (d ∷ b) h =
+    ap (λ (t : Bool). eqb c d && t) (same-lengths a b (λ e. h (ap suc e))) ∙ and-false (eqb c d)
 
 pub same-end : (a b : Bytes) (i : ℕ) → i ≡ length a → i ≡ length b → same (drop i a) (drop i b) ≡ true
 unfolding same

@@ -1,37 +1,41 @@
 -- What a loop that copies or zeroes byte by byte leaves, as one list.
 --     copied-more      one more byte of s, copied over d from the front
 --     copied-all, zeroed-all     all of them
---     copied-up-more, copied-up-all     the same for a run copied upwards within one list
+--     copied-more-apart, copied-all-apart     the same for a run copied within one list to a place that it does not meet
 -- Assumes nothing.
-use Prim.Native.Nat.{ℕ, zero, suc, _+_, _<_, _≤_}
+use Prim.Native.Nat.{ℕ, zero, suc, _+_, _-_, _<_, _≤_}
 use native.Mathlib.Nat.{not-suc-le-zero, le-of-suc-le-suc}
 use native.Mathlib.Numerals.{add-one}
 use native.Mathlib.Omega.{arith}
-use mathlib.Core.List.{List, [], _∷_, _++_, append-assoc, append-nil}
-use mathlib.Core.Path.{_≡_, refl, sym, ap, _∙_, subst}
-use lib.ListN.{length, getD, set, take, drop, replicate, length-append, length-drop, length-take, List·getD-append}
-use lib.Seq.{take-length, drop-length, length-take-le, drop-drop, getD-take, getD-drop, paste, paste-zero, paste-suc}
+use mathlib.Core.List.{[], _∷_, _++_, append-assoc, append-nil}
+use mathlib.Core.Logic.{inl, inr}
+use mathlib.Core.Path.{_≡_, refl, sym, ap, _∙_}
+use lib.ListN.{length, getD, set, take, drop, replicate, length-append, length-drop, List·getD-append}
+use lib.Seq.{take-length, drop-length, length-take-le, drop-drop, getD-take, getD-drop, getD-append-add, paste, paste-suc, length-paste-head}
 use Rattle.bhtf.specs.Bytes.{Bytes, part, store, zeros}
+use Rattle.bhtf.proofs.Bytes.{Apart}
 
 copied-suc : (s d : Bytes) (i : ℕ) → i < length s → i < length d
     → set (take i s ++ drop i d) i (getD s i 0) ≡ take (suc i) s ++ drop (suc i) d
 copied-suc [] d i p q = absurd (not-suc-le-zero p)
 copied-suc (a ∷ s) [] i p q = absurd (not-suc-le-zero q)
 copied-suc (a ∷ s) (b ∷ d) zero p q = refl
-copied-suc (a ∷ s) (b ∷ d) (suc i) p q = ap (λ (t : Bytes). a ∷ t) (copied-suc s d i (le-of-suc-le-suc p) (le-of-suc-le-suc q))
+copied-suc (a ∷ s) (b ∷ d) (suc i) p q =
+    ap (λ (t : Bytes). a ∷ t) (copied-suc s d i (le-of-suc-le-suc p) (le-of-suc-le-suc q))
 
 pub copied-more : (s d : Bytes) (i : ℕ) → i < length s → i < length d
     → set (take i s ++ drop i d) i (getD s i 0) ≡ take (i + 1) s ++ drop (i + 1) d
 copied-more s d i p q = rw add-one (copied-suc s d i p q)
 
 pub copied-all : (s d : Bytes) (i : ℕ) → i ≡ length s → i ≡ length d → take i s ++ drop i d ≡ s
-copied-all s d i p q = ap (λ (t : Bytes). take i s ++ t) (rw (q, drop-length d)) ∙ append-nil (take i s) ∙ rw (p, take-length s)
+copied-all s d i p q =
+    ap (λ (t : Bytes). take i s ++ t) (rw (q, drop-length d)) ∙ append-nil (take i s) ∙ rw (p, take-length s)
 
 pub zeroed-all : (d : Bytes) (i : ℕ) → i ≡ length d → replicate i 0 ++ drop i d ≡ zeros (length d)
 unfolding zeros
 zeroed-all d i p = rw (p, drop-length d) (append-nil (replicate (length d) 0))
 
--- ---- upwards within one list: what is read has not been written yet
+-- ---- within one list: what is read, below what has been written
 getD-paste-below : (d : Bytes) (at : ℕ) (s : Bytes) (n k : ℕ) → k < at → at ≤ length d
     → getD (paste d at s n) k 0 ≡ getD d k 0
 getD-paste-below d at s n k p q =
@@ -40,20 +44,39 @@ getD-paste-below d at s n k p q =
     ∙ List·getD-append (take at d) (take n s) 0 k (omega arith)
     ∙ getD-take at d k 0 p
 
-module _ (s : Bytes) (from to n : ℕ) (apart : from + n ≤ to) (room : to + n ≤ length s) where
-  pub copied-up-more : (i : ℕ) → i < n
+-- and above what has been written
+getD-paste-above : (d : Bytes) (at : ℕ) (s : Bytes) (n k : ℕ) → at + n ≤ k → at ≤ length d → n ≤ length s
+    → getD (paste d at s n) k 0 ≡ getD d k 0
+getD-paste-above d at s n k p q r =
+    let l : length (take at d ++ take n s) ≡ at + n = length-paste-head d at s n q r in
+    let e : k ≡ length (take at d ++ take n s) + (k - (at + n)) = omega arith in
+    let f : at + n + (k - (at + n)) ≡ k = omega arith in
+    ap (λ (m : ℕ). getD (paste d at s n) m 0) e
+    ∙ getD-append-add (take at d ++ take n s) (drop (at + n) d) (k - (at + n)) 0
+    ∙ getD-drop (at + n) d (k - (at + n)) 0
+    ∙ ap (λ (m : ℕ). getD d m 0) f
+
+module _ (s : Bytes) (from to n : ℕ) (apart : Apart from n to n) (there : from + n ≤ length s) (room : to + n ≤ length s) where
+  -- what is read has not been written
+  unwritten : (i : ℕ) → i < n → getD (paste s to (drop from s) i) (from + i) 0 ≡ getD s (from + i) 0
+  unwritten i p = go apart
+    where
+      go : Apart from n to n → getD (paste s to (drop from s) i) (from + i) 0 ≡ getD s (from + i) 0
+      go (inl h) = getD-paste-below s to (drop from s) i (from + i) (omega arith) (omega arith)
+      go (inr h) =
+          getD-paste-above s to (drop from s) i (from + i) (omega arith) (omega arith) (rw length-drop (omega arith))
+
+  pub copied-more-apart : (i : ℕ) → i < n
       → set (paste s to (drop from s) i) (to + i) (getD (paste s to (drop from s) i) (from + i) 0)
       ≡ paste s to (drop from s) (i + 1)
-  copied-up-more i p =
-      let e : getD (paste s to (drop from s) i) (from + i) 0 ≡ getD (drop from s) i 0 =
-      getD-paste-below s to (drop from s) i (from + i) (omega arith) (omega arith) ∙ sym (getD-drop from s i 0) in
-      ap (λ (b : ℕ). set (paste s to (drop from s) i) (to + i) b) e
+  copied-more-apart i p =
+      ap (λ (b : ℕ). set (paste s to (drop from s) i) (to + i) b) (unwritten i p ∙ sym (getD-drop from s i 0))
       ∙ paste-suc s to (drop from s) i 0 (omega arith) (rw length-drop (omega arith))
       ∙ ap (λ (k : ℕ). paste s to (drop from s) k) (sym (add-one i))
 
-  pub copied-up-all : paste s to (drop from s) n ≡ store s to (part s from n)
+  pub copied-all-apart : paste s to (drop from s) n ≡ store s to (part s from n)
   unfolding store part
-  copied-up-all =
+  copied-all-apart =
       let l : length (take n (drop from s)) ≡ n = length-take-le n (drop from s) (rw length-drop (omega arith)) in
       append-assoc (take to s) (take n (drop from s)) (drop (to + n) s)
       ∙ ap (λ (t : Bytes). take to s ++ (take n (drop from s) ++ t))

@@ -4,17 +4,21 @@
 --     or-four, or-three                       the same number, by shifts and ors
 --     store-sets, store-four, store-three     stores of bytes one after the other
 --     digits-four, digits-three               the digits, by shifts and masks
+--     bytes-part, number-part-bound           a part of bytes is of bytes, and bounds its number
 -- Assumes nothing.
-use Prim.Native.Nat.{ℕ, zero, suc, _+_, _*_, _/_, _%_, _^_, _<_, _≤_}
+use Prim.Native.Nat.{ℕ, suc, _+_, _*_, _/_, _%_, _^_, _<_, _≤_}
 use native.Mathlib.Nat.{mod-eq-of-lt, div-one}
 use native.Mathlib.Numerals.{add-one}
 use native.Mathlib.Omega.{arith}
-use mathlib.Core.List.{List, [], _∷_, _++_, append-assoc}
+use mathlib.Core.List.{[], _∷_, _++_, append-assoc}
 use mathlib.Core.Path.{_≡_, refl, sym, ap, _∙_}
-use lib.ListN.{length, getD, set, take, drop}
-use lib.Seq.{drop-cons, drop-drop, sets, sets-eq}
+use lib.ListN.{length, getD, set, take, drop, List·getD-eq-default, length-take}
+use lib.Seq.{drop-cons, drop-drop, sets, sets-eq, getD-take, getD-drop}
+use lib.Dec.{lit<}
 use lib.Bits.{bitAnd, bitOr, and-mask, or-shifted}
 use Rattle.bhtf.specs.Bytes.{Bytes, part, store, number, digits}
+use Rattle.bhtf.proofs.Bytes.{AreBytes, part-length, number-bound}
+use Rattle.bhtf.proofs.Tests.{by-le}
 
 -- ---- part
 pub part-cons : (s : Bytes) (at n : ℕ) → at < length s → part s at (suc n) ≡ getD s at 0 ∷ part s (at + 1) n
@@ -33,7 +37,8 @@ part-three s at h =
     ∙ ap (λ (t : Bytes). getD s at 0 ∷ t)
     (part-cons s (at + 1) 1 (omega arith)
     ∙ ap (λ (t : Bytes). getD s (at + 1) 0 ∷ t)
-    (rw e₂ (part-cons s (at + 2) 0 (omega arith)) ∙ ap (λ (t : Bytes). getD s (at + 2) 0 ∷ t) (part-zero s (at + 2 + 1))))
+    (rw e₂ (part-cons s (at + 2) 0 (omega arith))
+    ∙ ap (λ (t : Bytes). getD s (at + 2) 0 ∷ t) (part-zero s (at + 2 + 1))))
 
 pub part-four : (s : Bytes) (at : ℕ) → at + 4 ≤ length s
     → part s at 4 ≡ getD s at 0 ∷ getD s (at + 1) 0 ∷ getD s (at + 2) 0 ∷ getD s (at + 3) 0 ∷ []
@@ -52,25 +57,41 @@ pub number-three : (a b c : ℕ) → number (a ∷ b ∷ c ∷ []) ≡ a * 65536
 unfolding number
 number-three a b c = omega arith
 
+-- a shift that loses nothing
+uncut : (x : ℕ) → x < 4294967296 → x % 4294967296 ≡ x
+uncut x h = mod-eq-of-lt h
+
 pub or-three : (a b c : ℕ) → a < 65536 → b < 256 → c < 256
     → bitOr (bitOr (a * 65536 % 4294967296) (b * 256 % 4294967296)) c ≡ a * 65536 + (b * 256 + c)
 or-three a b c p q r =
     let e : (a * 256 + b) * 256 ≡ a * 65536 + b * 256 = omega arith in
     let f : bitOr (a * 65536) (b * 256) ≡ (a * 256 + b) * 256 = or-shifted a 16 (b * 256) (omega arith) ∙ sym e in
     let g : bitOr ((a * 256 + b) * 256) c ≡ (a * 256 + b) * 256 + c = or-shifted (a * 256 + b) 8 c (omega arith) in
-    rw (mod-eq-of-lt {n = a * 65536} {m = 4294967296} (omega arith), mod-eq-of-lt {n = b * 256} {m = 4294967296} (omega arith), f, g) (omega arith)
+    rw (uncut (a * 65536) (omega arith), uncut (b * 256) (omega arith), f, g) (omega arith)
 
 pub or-four : (a b c d : ℕ) → a < 256 → b < 256 → c < 256 → d < 256
     → bitOr (bitOr (bitOr (a * 16777216 % 4294967296) (b * 65536 % 4294967296)) (c * 256 % 4294967296)) d
     ≡ a * 16777216 + (b * 65536 + (c * 256 + d))
 or-four a b c d p q r s =
     let e : (a * 256 + b) * 65536 ≡ a * 16777216 + b * 65536 = omega arith in
-    let f : bitOr (a * 16777216) (b * 65536) ≡ (a * 256 + b) * 65536 = or-shifted a 24 (b * 65536) (omega arith) ∙ sym e in
-    let m : (a * 256 + b) * 65536 ≡ (a * 256 + b) * 65536 % 4294967296 = sym (mod-eq-of-lt {n = (a * 256 + b) * 65536} {m = 4294967296} (omega arith)) in
-    rw (mod-eq-of-lt {n = a * 16777216} {m = 4294967296} (omega arith), mod-eq-of-lt {n = b * 65536} {m = 4294967296} (omega arith), f)
-    (ap (λ (t : ℕ). bitOr (bitOr t (c * 256 % 4294967296)) d) m
+    let o : bitOr (a * 16777216) (b * 65536) ≡ a * 16777216 + b * 65536 = or-shifted a 24 (b * 65536) (omega arith) in
+    let f : bitOr (a * 16777216) (b * 65536) ≡ (a * 256 + b) * 65536 = o ∙ sym e in
+    let m : (a * 256 + b) * 65536 % 4294967296 ≡ (a * 256 + b) * 65536 = uncut ((a * 256 + b) * 65536) (omega arith) in
+    rw (uncut (a * 16777216) (omega arith), uncut (b * 65536) (omega arith), f)
+    (ap (λ (t : ℕ). bitOr (bitOr t (c * 256 % 4294967296)) d) (sym m)
     ∙ or-three (a * 256 + b) c d (omega arith) r s
     ∙ omega arith)
+
+-- `AreBytes s` is what owning a slice gives, as `c .shared-slice-known .given`
+pub bytes-part : (s : Bytes) (at n : ℕ) → AreBytes s → AreBytes (part s at n)
+unfolding part
+bytes-part s at n h i =
+    by-le n i
+    (λ p. rw (List·getD-eq-default (take n (drop at s)) 0 {n = i} (rw length-take (omega arith))) (lit< tt))
+    (λ p. rw (getD-take n (drop at s) i 0 p, getD-drop at s i 0) (h (at + i)))
+
+pub number-part-bound : (s : Bytes) (at n : ℕ) → AreBytes s → at + n ≤ length s → number (part s at n) < 256 ^ n
+number-part-bound s at n h p = rw (part-length s at n p) at (number-bound (part s at n) (bytes-part s at n h))
 
 -- ---- store
 pub store-sets : (vs s : Bytes) (at : ℕ) → at + length vs ≤ length s → sets s at vs ≡ store s at vs
@@ -98,10 +119,13 @@ store-four s at a b c d h =
 -- ---- digits
 pub digits-three : (v : ℕ) → v < 16777216 → digits 3 v ≡ v / 65536 ∷ bitAnd (v / 256) 255 ∷ bitAnd v 255 ∷ []
 unfolding digits
-digits-three v h = rw (and-mask (v / 256) 8, and-mask v 8, div-one v, mod-eq-of-lt {n = v / 65536} {m = 256} (omega arith))
+digits-three v h =
+    let top : v / 65536 % 256 ≡ v / 65536 = omega arith in
+    rw (and-mask (v / 256) 8, and-mask v 8, div-one v, top)
 
 pub digits-four : (v : ℕ) → v < 4294967296
     → digits 4 v ≡ v / 16777216 ∷ bitAnd (v / 65536) 255 ∷ bitAnd (v / 256) 255 ∷ bitAnd v 255 ∷ []
 unfolding digits
 digits-four v h =
-    rw (and-mask (v / 65536) 8, and-mask (v / 256) 8, and-mask v 8, div-one v, mod-eq-of-lt {n = v / 16777216} {m = 256} (omega arith))
+    let top : v / 16777216 % 256 ≡ v / 16777216 = omega arith in
+    rw (and-mask (v / 65536) 8, and-mask (v / 256) 8, and-mask v 8, div-one v, top)

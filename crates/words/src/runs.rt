@@ -1,5 +1,6 @@
 // Runs of bytes: zeroed, copied, compared.
 ghost use mathlib.Core.Path.{_≡_};
+ghost use mathlib.Core.Logic.{_⊎_};
 ghost use lib.ListN.{length};
 ghost use Prim.Native.Nat.{_+_, _≤_};
 ghost use Rattle.bhtf.specs.Bytes.{part, store, zeros, allZero, same};
@@ -27,9 +28,9 @@ pub fn copy(dst: &mut [u8], src: &[u8])
     }
 }
 
-// Copies the n bytes from `from` on to `to`, above them.
-pub fn copy_up(s: &mut [u8], from: usize, to: usize, n: usize)
-    requires { ⌜ (from + n ≤ to) × (to + n ≤ length (now s)) ⌝ }
+// Copies the n bytes from `from` on to `to`; the two runs do not meet.
+pub fn copy_apart(s: &mut [u8], from: usize, to: usize, n: usize)
+    requires { ⌜ ((from + n ≤ to) ⊎ (to + n ≤ from)) × (from + n ≤ length (now s)) × (to + n ≤ length (now s)) ⌝ }
     ensures { λ _. ⌜ now (s .exit) ≡ store (now (s .entry)) to (part (now (s .entry)) from n) ⌝ }
 {
     let mut i = 0;
@@ -37,6 +38,14 @@ pub fn copy_up(s: &mut [u8], from: usize, to: usize, n: usize)
         s[to + i] = s[from + i];
         i += 1;
     }
+}
+
+// Copies the n bytes from `from` on to `to`, above them.
+pub fn copy_up(s: &mut [u8], from: usize, to: usize, n: usize)
+    requires { ⌜ (from + n ≤ to) × (to + n ≤ length (now s)) ⌝ }
+    ensures { λ _. ⌜ now (s .exit) ≡ store (now (s .entry)) to (part (now (s .entry)) from n) ⌝ }
+{
+    copy_apart(s, from, to, n);
 }
 
 // Whether a and b hold the same bytes; the first difference ends it.

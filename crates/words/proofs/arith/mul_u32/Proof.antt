@@ -9,10 +9,14 @@ use Rattle.words.proofs.arith.mul_u32.Statement.{statement}
 use Rattle.words.proofs.arith.mul_u32.Tie as tie
 
 mul-wrapping-add-u32 : tie.Need-mul-wrapping-add-u32
-mul-wrapping-add-u32 c = record { fits = halves-bound (bitAnd (c .args .a) 65535) (c .args .b / 65536) (mask-lt (c .args .a) 16) (omega arith) }
+mul-wrapping-add-u32 c =
+    let A = c .args in
+    record { fits = halves-bound (bitAnd (A .a) 65535) (A .b / 65536) (mask-lt (A .a) 16) (omega arith) }
 
 mul-wrapping-add-u32-2 : tie.Need-mul-wrapping-add-u32-2
-mul-wrapping-add-u32-2 c = record { fits = halves-bound (c .args .a / 65536) (bitAnd (c .args .b) 65535) (omega arith) (mask-lt (c .args .b) 16) }
+mul-wrapping-add-u32-2 c =
+    let A = c .args in
+    record { fits = halves-bound (A .a / 65536) (bitAnd (A .b) 65535) (omega arith) (mask-lt (A .b) 16) }
 
 wrapping-add-u32-requires : tie.Need-wrapping-add-u32-requires
 wrapping-add-u32-requires c κs = search needs

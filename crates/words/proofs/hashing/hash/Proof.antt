@@ -1,6 +1,6 @@
 -- `words::hashing::hash` meets its contract: after i turns the hash goes on from h with the bytes left.
 -- Assumes nothing.
-use Prim.Native.Nat.{_+_, _≤_, _-_}
+use Prim.Native.Nat.{_≤_, _-_}
 use native.Mathlib.Omega.{arith}
 use mathlib.Core.Path.{_≡_, refl, sym, _∙_}
 use lib.ListN.{length, drop}
@@ -39,7 +39,8 @@ loop-again c =
     let A = L .before .before .before .args in (
       omega arith,
       L .loop .inv .1
-          ∙ hashFrom-step (A .multiplier) (A .first) (A .last) (A .scramble .now) (A .key .now) (L .loop .h) (c .hash-step .result) (L .loop .i)
+          ∙ hashFrom-step (A .multiplier) (A .first) (A .last) (A .scramble .now) (A .key .now)
+          (L .loop .h) (c .hash-step .result) (L .loop .i)
           (omega arith) (c .hash-step .ensures),
     )
 
@@ -47,7 +48,9 @@ returns : tie.Need-returns Inv-loop μ-loop
 returns c =
     let L = c .before in
     let A = L .before .before .before .args in
-    sym (L .loop .inv .1 ∙ hashFrom-end (A .multiplier) (A .first) (A .last) (A .scramble .now) (A .key .now) (L .loop .h) (L .loop .i) (omega arith))
+    sym (L .loop .inv .1
+    ∙ hashFrom-end (A .multiplier) (A .first) (A .last) (A .scramble .now) (A .key .now)
+    (L .loop .h) (L .loop .i) (omega arith))
 
 pub hash-spec : {M : Type 1} → statement M
 hash-spec =

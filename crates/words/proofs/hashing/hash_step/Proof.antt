@@ -11,14 +11,14 @@ mul-u32-requires c κs = search needs
 returns : tie.Need-returns
 returns c =
     let A = c .before .before .before .args in
-    hashStep-below (A .multiplier) (A .first) (A .last) (A .scramble .now) (A .h) (A .c) (c .before .mul-u32 .result)
-    (c .before .mul-u32 .ensures) (c .if1 .taken)
+    hashStep-below (A .multiplier) (A .first) (A .last) (A .scramble .now) (A .h) (A .c)
+    (c .before .mul-u32 .result) (c .before .mul-u32 .ensures) (c .if1 .taken)
 
 returns-2 : tie.Need-returns-2
 returns-2 c =
     let A = c .before .before .before .before .args in
-    hashStep-above (A .multiplier) (A .first) (A .last) (A .scramble .now) (A .h) (A .c) (c .before .before .mul-u32 .result)
-    (c .before .before .mul-u32 .ensures) (c .if2 .taken)
+    hashStep-above (A .multiplier) (A .first) (A .last) (A .scramble .now) (A .h) (A .c)
+    (c .before .before .mul-u32 .result) (c .before .before .mul-u32 .ensures) (c .if2 .taken)
 
 mul-read-u32 : tie.Need-mul-read-u32
 mul-read-u32 c = search needs
@@ -33,8 +33,9 @@ returns-3 : tie.Need-returns-3
 returns-3 c =
     let A = c .before .before .before .before .before .args in
     let m = c .before .before .before .mul-u32 in
-    hashStep-within (A .multiplier) (A .first) (A .last) (A .scramble .now) (A .h) (A .c) (m .result) (c .read-u32 .result)
-    (m .ensures) (c .read-u32 .ensures) (c .before .before .if1 .left) (c .before .if2 .left)
+    hashStep-within (A .multiplier) (A .first) (A .last) (A .scramble .now) (A .h) (A .c)
+    (m .result) (c .read-u32 .result) (m .ensures) (c .read-u32 .ensures)
+    (c .before .before .if1 .left) (c .before .if2 .left)
 
 pub hash-step-spec : {M : Type 1} → statement M
 hash-step-spec =

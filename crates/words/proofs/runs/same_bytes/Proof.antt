@@ -43,8 +43,10 @@ loop-less c = search needs
 loop-again : tie.Need-loop-again Inv-loop μ-loop
 loop-again c =
     let L = c .before .before .before .before in
-    let A = L .before .before .args in
-    (omega arith, L .loop .inv .1 ∙ same-step (A .a .now) (A .b .now) (L .loop .i) (omega arith) (omega arith) (c .if2 .left))
+    let A = L .before .before .args in (
+      omega arith,
+      L .loop .inv .1 ∙ same-step (A .a .now) (A .b .now) (L .loop .i) (omega arith) (omega arith) (c .if2 .left),
+    )
 
 returns-3 : tie.Need-returns-3 Inv-loop μ-loop
 returns-3 c =

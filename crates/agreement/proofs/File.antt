@@ -1,0 +1,270 @@
+-- The invariant of a file that calls have reached, and how a change to one point keeps it.
+--     File g img            1. its header is accepted; 2. searches find what stands in the table; 3. C is the number of taken
+--                           slots; 4. messages pass question 11; 5. messages of different points have no byte in common
+--     pointOf g img key     name, text and length held of a point, as the book has them
+--     Change g img img′ key what a step that concerns the point `key` alone leaves
+--     file-change, point-other    such a step keeps the invariant, and every other point
+--     change-trans, change-any    changes in turn; a step that concerns no point
+-- Assumes nothing.
+use mathlib.Core.Path.{_≡_, refl, sym, ap, ap₂, _∙_, subst}
+use Prim.Native.Nat.{ℕ, zero, suc, _+_, _-_, _*_, _^_, _≤_, _<_}
+use native.Mathlib.Omega.{arith}
+use mathlib.Core.Logic.{_⊎_, inl, inr}
+use mathlib.Core.Bool.{Bool, true, false, cond, not, _&&_}
+use mathlib.Core.List.{List, [], _∷_}
+use mathlib.Core.Option.{Option, none, some}
+use lib.ListN.{length}
+use lib.Dec.{eqb}
+use borrow.Author.Tests.{eqb-true, eq-eqb, ne-eqb, not-true, not-false}
+use Rattle.bhtf.specs.Bytes.{Bytes, allZero, same}
+use Rattle.bhtf.specs.Limits.{pointsField, freeField, slotsField, dataField, lastField}
+use Rattle.bhtf.specs.Image.{field, Layout, layoutOf, offsetOf, slot}
+use Rattle.bhtf.specs.Messages.{headSize, shown, held, isActive}
+use Rattle.bhtf.specs.Questions.{nameAllowed, messageSound}
+use Rattle.bhtf.specs.Book.{Entry}
+use Rattle.bhtf.proofs.Tests.{by-bool, by-eq, and-left, and-right, not-both}
+use Rattle.bhtf.proofs.Bytes.{Apart, same-true, same-false}
+use Rattle.bhtf.proofs.Slots.{Room}
+use Rattle.bhtf.proofs.Opened.{Opened, opened-room}
+use Rattle.bhtf.proofs.Kept.{Kept, kept-trans, kept-layout, opened-kept}
+use Rattle.bhtf.proofs.Table.{Sound, entryOf, weight}
+use Rattle.agreement.proofs.Stretch.{size, Lies, sound-lies, lies-sound, none-sound, SameOn, same-on-trans, letterAt-same, lengthAt-same, shown-same, held-same, lies-same}
+
+-- ---- names
+
+abbrev pub Allowed : Layout → Bytes → Type 0
+Allowed g key = nameAllowed (g .K) key ≡ true
+
+pub allowed-length : (g : Layout) (key : Bytes) → Allowed g key → length key ≡ g .K
+unfolding nameAllowed
+allowed-length g key a = eqb-true _ _ (and-left (eqb (length key) (g .K)) (not (allZero key)) a)
+
+pub allowed-zero : (g : Layout) (key : Bytes) → Allowed g key → allZero key ≡ false
+unfolding nameAllowed
+allowed-zero g key a = not-true _ (and-right (eqb (length key) (g .K)) (not (allZero key)) a)
+
+-- two names are equal or not
+pub by-name {ℓ} : {A : Type ℓ} (a b : Bytes) → (a ≡ b → A) → ((a ≡ b → ⊥) → A) → A
+by-name a b yes′ no′ = by-bool (same a b) (λ e. yes′ (same-true a b e)) (λ e. no′ (same-false a b e))
+
+-- ---- a point's value
+
+abbrev pub valueOf : Layout → Bytes → Bytes → ℕ → Entry
+valueOf g img key o = record { name = key; text = shown g img o; held = held g img o }
+
+unfoldable pub pointAt : Layout → Bytes → Bytes → Option Bytes → Option Entry
+pointAt g img key none = none
+pointAt g img key (some s) = some (valueOf g img key (offsetOf g s))
+
+unfoldable pub pointOf : Layout → Bytes → Bytes → Option Entry
+pointOf g img key = pointAt g img key (entryOf g img key)
+
+pub pointOf-some : (g : Layout) (img key s : Bytes) → entryOf g img key ≡ some s
+    → pointOf g img key ≡ some (valueOf g img key (offsetOf g s))
+unfolding pointOf pointAt
+pointOf-some g img key s e = rw e refl
+
+pub pointOf-none : (g : Layout) (img key : Bytes) → entryOf g img key ≡ none → pointOf g img key ≡ none
+unfolding pointOf pointAt
+pointOf-none g img key e = rw e refl
+
+-- a point without a message has no text and holds nothing
+pub none-value : (g : Layout) (img img′ key : Bytes) → valueOf g img′ key 0 ≡ valueOf g img key 0
+unfolding shown held isActive
+none-value g img img′ key = refl
+
+pub by-entry {ℓ} : {A : Type ℓ} (o : Option Bytes) → (o ≡ none → A) → ((s : Bytes) → o ≡ some s → A) → A
+by-entry none n y = n refl
+by-entry (some s) n y = y s refl
+
+-- ---- the invariant
+
+pub record File (g : Layout) (img : Bytes) : Type 0 where
+  pub layout : layoutOf img ≡ g
+  pub opened : Opened img
+  pub table : Sound g img
+  pub counted : field img pointsField ≡ weight g img (λ s. 1)
+  pub messages : (key s : Bytes) → Allowed g key → entryOf g img key ≡ some s → messageSound g img (offsetOf g s) ≡ true
+  pub apart : (key key′ s s′ : Bytes) → Allowed g key → Allowed g key′ → (key ≡ key′ → ⊥)
+      → entryOf g img key ≡ some s → entryOf g img key′ ≡ some s′ → (offsetOf g s ≡ 0 → ⊥) → (offsetOf g s′ ≡ 0 → ⊥)
+      → Apart (offsetOf g s) (size g img (offsetOf g s)) (offsetOf g s′) (size g img (offsetOf g s′))
+
+-- the header's numbers by the layout
+module _ {g : Layout} {img : Bytes} (f : File g img) where
+  pub file-slots : field img slotsField ≡ g .N
+  unfolding layoutOf
+  file-slots = ap (λ (l : Layout). l .N) (f .layout)
+
+  pub file-data : field img dataField ≡ g .D
+  unfolding layoutOf
+  file-data = ap (λ (l : Layout). l .D) (f .layout)
+
+  pub file-room : Room g (length img)
+  file-room = subst (λ (l : Layout). Room l (length img)) (f .layout) (opened-room img (f .opened))
+
+  pub file-some : 0 < g .N
+  file-some = omega (arith, f .opened .slots-low, file-slots)
+
+  -- the empty name is no point's: where a step concerns no point it is its key
+  pub not-allowed : Allowed g [] → ⊥
+  unfolding layoutOf
+  not-allowed a =
+      omega (arith, f .opened .key-low, ap (λ (l : Layout). l .K) (f .layout), allowed-length g [] a)
+
+-- ---- a change to one point
+
+pub record Change (g : Layout) (img img′ key : Bytes) : Type 0 where
+  pub kept : Kept img img′
+  pub free-low : field img freeField ≤ field img′ freeField
+  pub free-high : field img′ freeField ≤ length img
+  pub points : field img′ pointsField ≤ g .N
+  pub sound : Sound g img′
+  pub counted : field img′ pointsField ≡ weight g img′ (λ s. 1)
+  pub others : (key′ : Bytes) → Allowed g key′ → (key′ ≡ key → ⊥) → entryOf g img′ key′ ≡ entryOf g img key′
+  pub still : (key′ s : Bytes) → Allowed g key′ → (key′ ≡ key → ⊥) → entryOf g img key′ ≡ some s → (offsetOf g s ≡ 0 → ⊥)
+      → SameOn img img′ (offsetOf g s) (size g img (offsetOf g s))
+  pub here : (s : Bytes) → Allowed g key → entryOf g img′ key ≡ some s → messageSound g img′ (offsetOf g s) ≡ true
+  pub here-apart : (s key′ s′ : Bytes) → Allowed g key → Allowed g key′ → (key′ ≡ key → ⊥)
+      → entryOf g img′ key ≡ some s → entryOf g img key′ ≡ some s′ → (offsetOf g s ≡ 0 → ⊥) → (offsetOf g s′ ≡ 0 → ⊥)
+      → Apart (offsetOf g s) (size g img′ (offsetOf g s)) (offsetOf g s′) (size g img (offsetOf g s′))
+
+pub apart-sym : (p n q m : ℕ) → Apart p n q m → Apart q m p n
+apart-sym p n q m (inl h) = inr h
+apart-sym p n q m (inr h) = inl h
+
+module _ (g : Layout) (img img′ key : Bytes) (f : File g img) (c : Change g img img′ key) where
+  -- an entry of another point was there before
+  before : (key′ s : Bytes) → Allowed g key′ → (key′ ≡ key → ⊥) → entryOf g img′ key′ ≡ some s → entryOf g img key′ ≡ some s
+  before key′ s a n e = sym (c .others key′ a n) ∙ e
+
+  -- its message lies where it lay
+  other-lies : (key′ s : Bytes) → Allowed g key′ → (key′ ≡ key → ⊥) → entryOf g img key′ ≡ some s → (offsetOf g s ≡ 0 → ⊥)
+      → Lies g img′ (offsetOf g s)
+  other-lies key′ s a n e z =
+      lies-same g img img′ (offsetOf g s) (c .still key′ s a n e z) (c .free-low)
+      (sound-lies g img (offsetOf g s) (f .messages key′ s a e) z)
+
+  other-size : (key′ s : Bytes) → Allowed g key′ → (key′ ≡ key → ⊥) → entryOf g img key′ ≡ some s → (offsetOf g s ≡ 0 → ⊥)
+      → size g img′ (offsetOf g s) ≡ size g img (offsetOf g s)
+  other-size key′ s a n e z =
+      ap (λ (m : ℕ). headSize g + m) (lengthAt-same g img img′ (offsetOf g s) (c .still key′ s a n e z))
+
+  other-sound : (key′ s : Bytes) → Allowed g key′ → (key′ ≡ key → ⊥) → entryOf g img key′ ≡ some s
+      → messageSound g img′ (offsetOf g s) ≡ true
+  other-sound key′ s a n e =
+      by-eq (offsetOf g s) 0
+      (λ z. rw z (none-sound g img′))
+      (λ z. lies-sound g img′ (offsetOf g s) (other-lies key′ s a n e z))
+
+  new-messages : (k s : Bytes) → Allowed g k → entryOf g img′ k ≡ some s → messageSound g img′ (offsetOf g s) ≡ true
+  new-messages k s a e =
+      by-name k key
+      (λ q. c .here s (rw q at a) (rw q at e))
+      (λ n. other-sound k s a n (before k s a n e))
+
+  new-apart : (k k′ s s′ : Bytes) → Allowed g k → Allowed g k′ → (k ≡ k′ → ⊥)
+      → entryOf g img′ k ≡ some s → entryOf g img′ k′ ≡ some s′ → (offsetOf g s ≡ 0 → ⊥) → (offsetOf g s′ ≡ 0 → ⊥)
+      → Apart (offsetOf g s) (size g img′ (offsetOf g s)) (offsetOf g s′) (size g img′ (offsetOf g s′))
+  new-apart k k′ s s′ a a′ n e e′ z z′ =
+      by-name k key
+      (λ q. by-name k′ key
+      (λ q′. absurd (n (q ∙ sym q′)))
+      (λ n′.
+      let b′ = before k′ s′ a′ n′ e′ in
+      rw (other-size k′ s′ a′ n′ b′ z′) (c .here-apart s k′ s′ (rw q at a) a′ n′ (rw q at e) b′ z z′)))
+      (λ n₁. by-name k′ key
+      (λ q′.
+      let b = before k s a n₁ e in
+      rw (other-size k s a n₁ b z) (apart-sym (offsetOf g s′) _ (offsetOf g s) _ (c .here-apart s′ k s (rw q′ at a′) a n₁ (rw q′ at e′) b z′ z)))
+      (λ n₂.
+      let b = before k s a n₁ e in
+      let b′ = before k′ s′ a′ n₂ e′ in
+      rw (other-size k s a n₁ b z, other-size k′ s′ a′ n₂ b′ z′) (f .apart k k′ s s′ a a′ n b b′ z z′)))
+
+  pub file-change : File g img′
+  file-change =
+      record {
+        layout = kept-layout (c .kept) (f .opened .last) ∙ f .layout;
+        opened =
+            opened-kept (c .kept) (f .opened) (rw (file-slots f) (c .points))
+            (omega (arith, f .opened .free-low, c .free-low)) (c .free-high);
+        table = c .sound;
+        counted = c .counted;
+        messages = new-messages;
+        apart = new-apart;
+      }
+
+  -- every other point is as it was
+  pub point-other : (key′ : Bytes) → Allowed g key′ → (key′ ≡ key → ⊥) → pointOf g img′ key′ ≡ pointOf g img key′
+  point-other key′ a n =
+      by-entry (entryOf g img key′)
+      (λ e. pointOf-none g img′ key′ (c .others key′ a n ∙ e) ∙ sym (pointOf-none g img key′ e))
+      (λ s e.
+      pointOf-some g img′ key′ s (c .others key′ a n ∙ e)
+      ∙ ap some (value s e)
+      ∙ sym (pointOf-some g img key′ s e))
+    where
+      value : (s : Bytes) → entryOf g img key′ ≡ some s → valueOf g img′ key′ (offsetOf g s) ≡ valueOf g img key′ (offsetOf g s)
+      value s e =
+          by-eq (offsetOf g s) 0
+          (λ z. rw z (none-value g img img′ key′))
+          (λ z.
+          let same-on = c .still key′ s a n e z in
+          ap₂ (λ (t : Bytes) (h : ℕ). record { name = key′; text = t; held = h })
+          (shown-same g img img′ (offsetOf g s) same-on) (held-same g img img′ (offsetOf g s) same-on))
+
+-- ---- changes in turn
+
+module _ (g : Layout) (img img₁ img₂ key : Bytes) (c : Change g img img₁ key) (d : Change g img₁ img₂ key) where
+  on₁ : (key′ s : Bytes) → Allowed g key′ → (key′ ≡ key → ⊥) → entryOf g img key′ ≡ some s → entryOf g img₁ key′ ≡ some s
+  on₁ key′ s a n e = c .others key′ a n ∙ e
+
+  size₁ : (key′ s : Bytes) → Allowed g key′ → (key′ ≡ key → ⊥) → entryOf g img key′ ≡ some s → (offsetOf g s ≡ 0 → ⊥)
+      → size g img₁ (offsetOf g s) ≡ size g img (offsetOf g s)
+  size₁ key′ s a n e z =
+      ap (λ (m : ℕ). headSize g + m) (lengthAt-same g img img₁ (offsetOf g s) (c .still key′ s a n e z))
+
+  pub change-trans : Change g img img₂ key
+  change-trans =
+      record {
+        kept = kept-trans (c .kept) (d .kept);
+        free-low = omega (arith, c .free-low, d .free-low);
+        free-high = omega (arith, d .free-high, c .kept .size);
+        points = d .points;
+        sound = d .sound;
+        counted = d .counted;
+        others = λ key′ a n. d .others key′ a n ∙ c .others key′ a n;
+        still =
+            λ key′ s a n e z.
+            same-on-trans (c .still key′ s a n e z)
+            (subst (λ (m : ℕ). SameOn img₁ img₂ (offsetOf g s) m) (size₁ key′ s a n e z) (d .still key′ s a n (on₁ key′ s a n e) z));
+        here = d .here;
+        here-apart =
+            λ s key′ s′ a a′ n e e′ z z′.
+            subst (λ (m : ℕ). Apart (offsetOf g s) (size g img₂ (offsetOf g s)) (offsetOf g s′) m) (size₁ key′ s′ a′ n e′ z′)
+            (d .here-apart s key′ s′ a a′ n e (on₁ key′ s′ a′ n e′) z z′);
+      }
+
+-- a step that concerns no point is a change to any
+module _ (g : Layout) (img img′ : Bytes) (f : File g img) (c : Change g img img′ []) (key : Bytes) where
+  none-of : (k : Bytes) → Allowed g k → k ≡ [] → ⊥
+  none-of k a q = not-allowed f (rw q at a)
+
+  pub change-any : Change g img img′ key
+  change-any =
+      record {
+        kept = c .kept;
+        free-low = c .free-low;
+        free-high = c .free-high;
+        points = c .points;
+        sound = c .sound;
+        counted = c .counted;
+        others = λ key′ a n. c .others key′ a (none-of key′ a);
+        still = λ key′ s a n e z. c .still key′ s a (none-of key′ a) e z;
+        here = λ s a e. file-change g img img′ [] f c .messages key s a e;
+        here-apart =
+            λ s key′ s′ a a′ n e e′ z z′.
+            subst (λ (m : ℕ). Apart (offsetOf g s) (size g img′ (offsetOf g s)) (offsetOf g s′) m)
+            (ap (λ (m : ℕ). headSize g + m) (lengthAt-same g img img′ (offsetOf g s′) (c .still key′ s′ a′ (none-of key′ a′) e′ z′)))
+            (file-change g img img′ [] f c .apart key key′ s s′ a a′ (λ q. n (sym q)) e (c .others key′ a′ (none-of key′ a′) ∙ e′) z z′);
+      }

@@ -1,0 +1,404 @@
+-- Steps in the table: a point's slot written where it was met, entered where the search ended, and removed.
+--     set-change, set-point          an offset written into the point's slot
+--     enter-change, enter-point      a new point
+--     remove-change, remove-point    a point gone
+-- Assumes nothing.
+use mathlib.Core.Path.{_≡_, refl, sym, ap, ap₂, _∙_, subst}
+use Prim.Native.Nat.{ℕ, zero, suc, _+_, _-_, _*_, _^_, _≤_, _<_}
+use native.Mathlib.Omega.{arith}
+use mathlib.Core.Logic.{_⊎_, inl, inr, _↔_}
+use mathlib.Core.Bool.{Bool, true, false, cond, not, _&&_, _||_, true≢false, false≢true}
+use mathlib.Core.List.{List, [], _∷_, _++_}
+use mathlib.Core.Option.{Option, none, some}
+use lib.ListN.{length, take, drop, length-append}
+use lib.Dec.{eqb, leb}
+use borrow.Author.Tests.{eqb-true, eq-eqb, ne-eqb, not-true, not-false}
+use Rattle.bhtf.specs.Bytes.{Bytes, part, store, number, digits, zeros}
+use Rattle.bhtf.specs.Limits.{active, inactive, leastLength, pointsField, freeField, pageField, slotsField, dataField, tableStart}
+use Rattle.bhtf.specs.Image.{field, setField, Layout, layoutOf, slotSize, offsetOf, slot, putSlot, keyOf, entry, vacant}
+use Rattle.bhtf.specs.Messages.{headSize, enter, closed}
+use Rattle.bhtf.specs.Search.{search, met, empty}
+use Rattle.bhtf.specs.Questions.{messageSound}
+use Rattle.bhtf.proofs.Tests.{by-bool, by-eq, and-left, and-right, and-true, or-left, or-right, not-both}
+use Rattle.bhtf.proofs.Bytes.{Apart, length-store, part-store-other, part-store-same, part-store-inside, part-part, part-length, length-digits, number-digits-fits, length-zeros}
+use Rattle.bhtf.proofs.Slots.{Room, slot-above, slot-end, slot-setField, part-putSlot-data, field-putSlot, length-putSlot, length-entry, keyOf-entry, offsetOf-entry, field-store-other, field-setField-other, field-setField-same, length-setField}
+use Rattle.bhtf.proofs.Opened.{Opened}
+use Rattle.bhtf.proofs.Kept.{Kept, kept-trans, kept-store, kept-points}
+use Rattle.bhtf.proofs.Table.{Sound, Taken, keyAt, entryOf, weight}
+use Rattle.bhtf.proofs.Probe.{search-met, search-empty, met-taken, search-keys}
+use Rattle.bhtf.proofs.Insert.{weight-frame, insert-sound, insert-entry, insert-other, insert-weight, replace-sound, replace-entry, replace-other, replace-weight, entry-met, delete-entry, delete-other}
+use Rattle.bhtf.proofs.Frames.{part-closed-header, part-closed-data, field-closed, weight-closed, stands-closed, Stands}
+use Rattle.bhtf.proofs.Walk.{length-closed}
+use Rattle.bhtf.proofs.Delete.{sound-closed, gone-closed}
+use Rattle.agreement.proofs.Stretch.{size, Lies, sound-lies, lies-sound, none-sound, SameOn, same-on-trans, same-on-store, lengthAt-same, shown-same, held-same, lies-same}
+use Rattle.agreement.proofs.Data.{frame-entry, frame-sound, file-above, some-same}
+use Rattle.agreement.proofs.File.{Allowed, allowed-length, allowed-zero, valueOf, pointOf, pointOf-some, pointOf-none, none-value, File, file-slots, file-data, file-room, file-some, Change, file-change, apart-sym}
+
+-- ---- a step that leaves the data area alone and writes the offset x into the point's slot
+
+-- x is 0, or a sound message that no other point's meets
+pub record Fresh (g : Layout) (img key : Bytes) (x : ℕ) : Type 0 where
+  pub sound : messageSound g img x ≡ true
+  pub small : x < 2 ^ 32
+  pub away : (x ≡ 0 → ⊥) → (key′ s′ : Bytes) → Allowed g key′ → (key′ ≡ key → ⊥) → entryOf g img key′ ≡ some s′
+      → (offsetOf g s′ ≡ 0 → ⊥) → Apart x (size g img x) (offsetOf g s′) (size g img (offsetOf g s′))
+
+pub fresh-none : (g : Layout) (img key : Bytes) → Fresh g img key 0
+fresh-none g img key =
+    record { sound = none-sound g img; small = omega arith; away = λ z. absurd (z refl) }
+
+module _ (g : Layout) (img : Bytes) (f : File g img) (key : Bytes) (a : Allowed g key) (x : ℕ) (fr : Fresh g img key x)
+    (img′ : Bytes) (k : Kept img img′) (free : field img′ freeField ≡ field img freeField)
+    (same-on : (p n : ℕ) → g .D ≤ p → SameOn img img′ p n) (e : entryOf g img′ key ≡ some (entry key x)) where
+  -- the offset is read back
+  offset-is : offsetOf g (entry key x) ≡ x
+  offset-is = offsetOf-entry g key x (allowed-length g key a) (fr .small)
+
+  x-lies : (x ≡ 0 → ⊥) → Lies g img x
+  x-lies z = sound-lies g img x (fr .sound) z
+
+  x-sound : messageSound g img′ x ≡ true
+  x-sound =
+      by-eq x 0
+      (λ z. rw z (none-sound g img′))
+      (λ z. lies-sound g img′ x (lies-same g img img′ x (same-on x _ (x-lies z .low)) (rw free (omega arith)) (x-lies z)))
+
+  x-size : (x ≡ 0 → ⊥) → size g img′ x ≡ size g img x
+  x-size z = ap (λ (m : ℕ). headSize g + m) (lengthAt-same g img img′ x (same-on x _ (x-lies z .low)))
+
+  x-value : valueOf g img′ key x ≡ valueOf g img key x
+  x-value =
+      by-eq x 0
+      (λ z. rw z (none-value g img img′ key))
+      (λ z.
+      ap₂ (λ (t : Bytes) (h : ℕ). record { name = key; text = t; held = h })
+      (shown-same g img img′ x (same-on x _ (x-lies z .low))) (held-same g img img′ x (same-on x _ (x-lies z .low))))
+
+  pub slot-point : pointOf g img′ key ≡ some (valueOf g img key x)
+  slot-point =
+      pointOf-some g img′ key (entry key x) e
+      ∙ ap (λ (o : ℕ). some (valueOf g img′ key o)) offset-is
+      ∙ ap some x-value
+
+  pub slot-change : field img′ pointsField ≤ g .N → Sound g img′ → field img′ pointsField ≡ weight g img′ (λ s. 1)
+      → ((key′ : Bytes) → Allowed g key′ → (key′ ≡ key → ⊥) → entryOf g img′ key′ ≡ entryOf g img key′) → Change g img img′ key
+  slot-change points sound counted others =
+      record {
+        kept = k;
+        free-low = rw free (omega arith);
+        free-high = rw free (f .opened .free-high);
+        points = points;
+        sound = sound;
+        counted = counted;
+        others = others;
+        still = λ key′ s a′ n e′ z. same-on _ _ (sound-lies g img _ (f .messages key′ s a′ e′) z .low);
+        here = λ s a₁ e₁. offset-of s e₁ x-sound;
+        here-apart = λ s key′ s′ a₁ a′ n e₁ e′ z z′. apart₁ s key′ s′ a′ n e₁ e′ z z′;
+      }
+    where
+      is-x : (s : Bytes) → entryOf g img′ key ≡ some s → offsetOf g s ≡ x
+      is-x s e₁ = ap (offsetOf g) (some-same (sym e₁ ∙ e)) ∙ offset-is
+
+      offset-of : (s : Bytes) → entryOf g img′ key ≡ some s → messageSound g img′ x ≡ true → messageSound g img′ (offsetOf g s) ≡ true
+      offset-of s e₁ h = rw (is-x s e₁) h
+
+      apart₁ : (s key′ s′ : Bytes) → Allowed g key′ → (key′ ≡ key → ⊥)
+          → entryOf g img′ key ≡ some s → entryOf g img key′ ≡ some s′ → (offsetOf g s ≡ 0 → ⊥) → (offsetOf g s′ ≡ 0 → ⊥)
+          → Apart (offsetOf g s) (size g img′ (offsetOf g s)) (offsetOf g s′) (size g img (offsetOf g s′))
+      apart₁ s key′ s′ a′ n e₁ e′ z z′ =
+          let z₁ : x ≡ 0 → ⊥ = λ q. z (is-x s e₁ ∙ q) in
+          rw (is-x s e₁, x-size z₁) (fr .away z₁ key′ s′ a′ n e′ z′)
+
+-- ---- a slot's write
+
+module _ (g : Layout) (img : Bytes) (f : File g img) (i : ℕ) (s : Bytes) (l : i < g .N) (len : length s ≡ slotSize g) where
+  put-kept : Kept img (putSlot g img i s)
+  unfolding putSlot
+  put-kept =
+      kept-store img (Rattle.bhtf.specs.Image.slotStart g i) s
+      (omega (arith, slot-end g (file-room f) i l, file-room f .area)) (slot-above g i)
+
+  put-same : (p n : ℕ) → g .D ≤ p → SameOn img (putSlot g img i s) p n
+  put-same p n lo =
+      record { on = λ q m a b. part-putSlot-data g img (file-room f) i s q m l len (omega arith) }
+
+  put-field : (at : ℕ) → at + 4 ≤ tableStart → field (putSlot g img i s) at ≡ field img at
+  put-field at h = field-putSlot g img (file-room f) i s at l len h
+
+-- ---- C's write
+
+module _ (g : Layout) (img : Bytes) (r : Room g (length img)) (lo : tableStart ≤ g .D) (long : 60 ≤ length img) (n : ℕ) where
+  points-slot : (k : ℕ) → k < g .N → slot g (setField img pointsField n) k ≡ slot g img k
+  points-slot k h = slot-setField g img r pointsField n k (omega arith) h
+
+  points-same : (p m : ℕ) → g .D ≤ p → SameOn img (setField img pointsField n) p m
+  unfolding setField
+  points-same p m h =
+      same-on-store img pointsField (digits 4 n) p m (rw (length-digits 4 n) (omega (arith, long)))
+      (inr (rw (length-digits 4 n) (omega (arith, lo))))
+
+  points-free : field (setField img pointsField n) freeField ≡ field img freeField
+  points-free = field-setField-other img pointsField n freeField (omega (arith, long)) (inr (omega arith))
+
+  points-is : n < 2 ^ 32 → field (setField img pointsField n) pointsField ≡ n
+  points-is h = field-setField-same img pointsField n (omega (arith, long)) h
+
+-- ---- the offset x written into the slot where the point was met
+
+module _ (g : Layout) (img : Bytes) (f : File g img) (key : Bytes) (a : Allowed g key) (x : ℕ) (fr : Fresh g img key x) (i : ℕ)
+    (m : search g img key ≡ met i) where
+  set-lt : i < g .N
+  set-lt = search-met g img key (file-some f) i m .0
+
+  set-length : length (entry key x) ≡ slotSize g
+  set-length = length-entry g key x (allowed-length g key a)
+
+  set-key : keyOf g (entry key x) ≡ key
+  set-key = keyOf-entry g key x (allowed-length g key a)
+
+  set-entry : entryOf g (putSlot g img i (entry key x)) key ≡ some (entry key x)
+  set-entry = replace-entry g img key i (entry key x) (file-room f) (file-some f) set-length set-key m
+
+  pub set-field : (at : ℕ) → at + 4 ≤ tableStart → field (putSlot g img i (entry key x)) at ≡ field img at
+  set-field = put-field g img f i (entry key x) set-lt set-length
+
+  set-counted : field (putSlot g img i (entry key x)) pointsField ≡ weight g (putSlot g img i (entry key x)) (λ s. 1)
+  set-counted =
+      set-field pointsField (omega arith) ∙ f .counted
+      ∙ omega (arith, replace-weight g img key i (entry key x) (file-room f) (file-some f) set-length set-key m (allowed-zero g key a) (λ s. 1))
+
+  pub set-change : Change g img (putSlot g img i (entry key x)) key
+  set-change =
+      slot-change g img f key a x fr (putSlot g img i (entry key x))
+      (put-kept g img f i (entry key x) set-lt set-length)
+      (set-field freeField (omega arith))
+      (put-same g img f i (entry key x) set-lt set-length)
+      set-entry
+      (rw (set-field pointsField (omega arith)) (omega (arith, f .opened .points, file-slots f)))
+      (replace-sound g img key i (entry key x) (file-room f) (file-some f) set-length set-key m (f .table))
+      set-counted
+      (λ key′ a′ n. replace-other g img key i (entry key x) (file-room f) (file-some f) set-length set-key m key′ n)
+
+  pub set-point : pointOf g (putSlot g img i (entry key x)) key ≡ some (valueOf g img key x)
+  set-point =
+      slot-point g img f key a x fr (putSlot g img i (entry key x))
+      (put-kept g img f i (entry key x) set-lt set-length)
+      (set-field freeField (omega arith))
+      (put-same g img f i (entry key x) set-lt set-length)
+      set-entry
+
+-- ---- a new point, in the empty slot where its search ended
+
+module _ (g : Layout) (img : Bytes) (f : File g img) (key : Bytes) (a : Allowed g key) (x : ℕ) (fr : Fresh g img key x) (i : ℕ)
+    (m : search g img key ≡ empty i) (room : field img pointsField < g .N) where
+  put : Bytes
+  put = putSlot g img i (entry key x)
+
+  lt : i < g .N
+  lt = search-empty g img key (file-some f) i m .0
+
+  len : length (entry key x) ≡ slotSize g
+  len = length-entry g key x (allowed-length g key a)
+
+  key-is : keyOf g (entry key x) ≡ key
+  key-is = keyOf-entry g key x (allowed-length g key a)
+
+  length-put : length put ≡ length img
+  unfolding put
+  length-put = length-putSlot g img (file-room f) i (entry key x) lt len
+
+  room-put : Room g (length put)
+  room-put = rw length-put (file-room f)
+
+  long : 60 ≤ length put
+  long = rw length-put (omega (arith, f .opened .size-low))
+
+  is-enter : enter g img i key x ≡ setField put pointsField (field img pointsField + 1)
+  unfolding enter put
+  is-enter = refl
+
+  few : field img pointsField + 1 < 2 ^ 32
+  few = omega (arith, room, f .opened .slots-high, file-slots f)
+
+  enter-slot : (k : ℕ) → k < g .N → slot g (enter g img i key x) k ≡ slot g put k
+  enter-slot k h = ap (λ (j : Bytes). slot g j k) is-enter ∙ points-slot g put room-put (file-above f) long (field img pointsField + 1) k h
+
+  enter-entry : (k : Bytes) → entryOf g (enter g img i key x) k ≡ entryOf g put k
+  enter-entry = frame-entry g put (enter g img i key x) (file-some f) enter-slot
+
+  entry-is : entryOf g (enter g img i key x) key ≡ some (entry key x)
+  unfolding put
+  entry-is =
+      enter-entry key
+      ∙ insert-entry g img key i (entry key x) (file-room f) (file-some f) (f .table) len key-is (allowed-zero g key a) m
+
+  pub enter-points : field (enter g img i key x) pointsField ≡ field img pointsField + 1
+  enter-points =
+      ap (λ (j : Bytes). field j pointsField) is-enter ∙ points-is g put room-put (file-above f) long (field img pointsField + 1) few
+
+  pub enter-free : field (enter g img i key x) freeField ≡ field img freeField
+  unfolding put
+  enter-free =
+      ap (λ (j : Bytes). field j freeField) is-enter
+      ∙ points-free g put room-put (file-above f) long (field img pointsField + 1)
+      ∙ put-field g img f i (entry key x) lt len freeField (omega arith)
+
+  enter-kept : Kept img (enter g img i key x)
+  unfolding put
+  enter-kept = rw is-enter (kept-trans (put-kept g img f i (entry key x) lt len) (kept-points put (field img pointsField + 1) long))
+
+  enter-same : (p n : ℕ) → g .D ≤ p → SameOn img (enter g img i key x) p n
+  unfolding put
+  enter-same p n h =
+      rw is-enter
+      (same-on-trans (put-same g img f i (entry key x) lt len p n h) (points-same g put room-put (file-above f) long (field img pointsField + 1) p n h))
+
+  pub enter-change : Change g img (enter g img i key x) key
+  unfolding put
+  enter-change =
+      slot-change g img f key a x fr (enter g img i key x) enter-kept enter-free enter-same entry-is
+      (rw enter-points (omega (arith, room)))
+      (frame-sound g put (enter g img i key x) (file-some f) enter-slot
+      (insert-sound g img key i (entry key x) (file-room f) (file-some f) (f .table) len key-is (allowed-zero g key a) m))
+      (enter-points
+      ∙ ap (λ (n : ℕ). n + 1) (f .counted)
+      ∙ sym (weight-frame g put (enter g img i key x) (λ s. 1) enter-slot
+      ∙ insert-weight g img key i (entry key x) (file-room f) (file-some f) (f .table) len key-is (allowed-zero g key a) m (λ s. 1)))
+      (λ key′ a′ n.
+      enter-entry key′
+      ∙ insert-other g img key i (entry key x) (file-room f) (file-some f) (f .table) len key-is (allowed-zero g key a) m key′ n
+      (allowed-zero g key′ a′))
+
+  pub enter-point : pointOf g (enter g img i key x) key ≡ some (valueOf g img key x)
+  enter-point = slot-point g img f key a x fr (enter g img i key x) enter-kept enter-free enter-same entry-is
+
+-- ---- a point gone
+
+module _ (g : Layout) (img : Bytes) (f : File g img) (key : Bytes) (a : Allowed g key) (i : ℕ) (m : search g img key ≡ met i)
+    (some-point : 1 ≤ field img pointsField) where
+  fewer : Bytes
+  fewer = setField img pointsField (field img pointsField - 1)
+
+  gone : Bytes
+  gone = closed g fewer i
+
+  lt₁ : i < g .N
+  lt₁ = search-met g img key (file-some f) i m .0
+
+  long₁ : 60 ≤ length img
+  long₁ = omega (arith, f .opened .size-low)
+
+  few₁ : field img pointsField - 1 < 2 ^ 32
+  few₁ = omega (arith, f .opened .points, f .opened .slots-high)
+
+  length-fewer : length fewer ≡ length img
+  unfolding fewer
+  length-fewer = length-setField img pointsField (field img pointsField - 1) (omega (arith, long₁))
+
+  room-fewer : Room g (length fewer)
+  room-fewer = rw length-fewer (file-room f)
+
+  fewer-slot : (k : ℕ) → k < g .N → slot g fewer k ≡ slot g img k
+  unfolding fewer
+  fewer-slot = points-slot g img (file-room f) (file-above f) long₁ (field img pointsField - 1)
+
+  sound-fewer : Sound g fewer
+  sound-fewer = frame-sound g img fewer (file-some f) fewer-slot (f .table)
+
+  taken₁ : Taken g fewer i
+  taken₁ = ap (vacant g) (fewer-slot i lt₁) ∙ met-taken g img key (file-some f) i (allowed-zero g key a) m
+
+  key₁ : keyAt g fewer i ≡ key
+  key₁ = ap (keyOf g) (fewer-slot i lt₁) ∙ search-met g img key (file-some f) i m .1
+
+  sound-gone : Sound g gone
+  unfolding gone
+  sound-gone = sound-closed g fewer room-fewer i lt₁ sound-fewer
+
+  gone-key : (k : ℕ) → k < g .N → Taken g gone k → keyAt g gone k ≡ key → ⊥
+  unfolding gone
+  gone-key k h t e = gone-closed g fewer room-fewer i lt₁ sound-fewer taken₁ k h t (e ∙ sym key₁)
+
+  gone-others : (s : Bytes) → (keyOf g s ≡ key → ⊥) → Stands g fewer s ↔ Stands g gone s
+  unfolding gone
+  gone-others s n = stands-closed g fewer room-fewer i lt₁ s (λ e. n (e ∙ key₁))
+
+  remove-entry : entryOf g gone key ≡ none
+  remove-entry = delete-entry g fewer gone key (file-some f) sound-fewer sound-gone gone-key gone-others (allowed-zero g key a)
+
+  remove-other : (key′ : Bytes) → Allowed g key′ → (key′ ≡ key → ⊥) → entryOf g gone key′ ≡ entryOf g img key′
+  remove-other key′ a′ n =
+      delete-other g fewer gone key (file-some f) sound-fewer sound-gone gone-key gone-others key′ n (allowed-zero g key′ a′)
+      ∙ frame-entry g img fewer (file-some f) fewer-slot key′
+
+  gone-kept : Kept fewer gone
+  unfolding gone
+  gone-kept =
+      record {
+        size = length-closed g fewer room-fewer i lt₁;
+        front = part-closed-header g fewer room-fewer i lt₁ 0 20 (omega arith);
+        middle = part-closed-header g fewer room-fewer i lt₁ 24 28 (omega arith);
+        rest = part-closed-header g fewer room-fewer i lt₁ 60 1988 (omega arith);
+      }
+
+  remove-kept : Kept img gone
+  unfolding fewer
+  remove-kept = kept-trans (kept-points img (field img pointsField - 1) long₁) gone-kept
+
+  remove-same : (p n : ℕ) → g .D ≤ p → SameOn img gone p n
+  unfolding gone fewer
+  remove-same p n h =
+      same-on-trans (points-same g img (file-room f) (file-above f) long₁ (field img pointsField - 1) p n h)
+      (record { on = λ q k lo hi. part-closed-data g fewer room-fewer i lt₁ q k (omega arith) })
+
+  gone-points : field gone pointsField ≡ field img pointsField - 1
+  unfolding gone fewer
+  gone-points =
+      field-closed g fewer room-fewer i lt₁ pointsField (omega arith)
+      ∙ points-is g img (file-room f) (file-above f) long₁ (field img pointsField - 1) few₁
+
+  gone-free : field gone freeField ≡ field img freeField
+  unfolding gone fewer
+  gone-free =
+      field-closed g fewer room-fewer i lt₁ freeField (omega arith)
+      ∙ points-free g img (file-room f) (file-above f) long₁ (field img pointsField - 1)
+
+  gone-counted : field gone pointsField ≡ weight g gone (λ s. 1)
+  unfolding gone
+  gone-counted =
+      gone-points
+      ∙ omega (arith, f .counted, weight-closed g fewer room-fewer i lt₁ taken₁ (λ s. 1), weight-frame g img fewer (λ s. 1) fewer-slot)
+
+  remove-change′ : Change g img gone key
+  remove-change′ =
+      record {
+        kept = remove-kept;
+        free-low = rw gone-free (omega arith);
+        free-high = rw gone-free (f .opened .free-high);
+        points = rw gone-points (omega (arith, f .opened .points, file-slots f));
+        sound = sound-gone;
+        counted = gone-counted;
+        others = remove-other;
+        still = λ key′ s a′ n e′ z. remove-same _ _ (sound-lies g img _ (f .messages key′ s a′ e′) z .low);
+        here = λ s a₁ e₁. absurd (none-some s (sym remove-entry ∙ e₁));
+        here-apart = λ s key′ s′ a₁ a′ n e₁ e′ z z′. absurd (none-some s (sym remove-entry ∙ e₁));
+      }
+    where
+      none-some : (s : Bytes) → _≡_ {A = Option Bytes} none (some s) → ⊥
+      none-some s e = let z : _≡_ {A = ℕ} 0 1 = cc in omega arith
+
+  pub remove-change : Change g img (closed g (setField img pointsField (field img pointsField - 1)) i) key
+  unfolding gone fewer
+  remove-change = remove-change′
+
+  pub remove-point : pointOf g (closed g (setField img pointsField (field img pointsField - 1)) i) key ≡ none
+  unfolding gone fewer
+  remove-point = pointOf-none g gone key remove-entry
+
+  pub remove-points : field (closed g (setField img pointsField (field img pointsField - 1)) i) pointsField ≡ field img pointsField - 1
+  unfolding gone fewer
+  remove-points = gone-points
+
+  pub remove-free : field (closed g (setField img pointsField (field img pointsField - 1)) i) freeField ≡ field img freeField
+  unfolding gone fewer
+  remove-free = gone-free

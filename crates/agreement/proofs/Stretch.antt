@@ -1,0 +1,118 @@
+-- A message as a stretch of bytes, from its header to the end of its text, and what depends on that stretch alone.
+--     size g img o          how many bytes the stretch of the message at o has
+--     Lies g img o          question 11 as facts: inside the data area, with a letter and a length that are allowed
+--     SameOn img img′ p n   the two images agree on the n bytes from p on
+-- Assumes nothing.
+use mathlib.Core.Path.{_≡_, refl, sym, ap, ap₂, _∙_, subst}
+use Prim.Native.Nat.{ℕ, zero, suc, _+_, _-_, _*_, _^_, _≤_, _<_}
+use native.Mathlib.Omega.{arith}
+use mathlib.Core.Logic.{_⊎_, inl, inr}
+use mathlib.Core.Bool.{Bool, true, false, cond, not, _&&_, _||_}
+use mathlib.Core.List.{List, [], _∷_, _++_}
+use lib.ListN.{length}
+use lib.Dec.{leb, eqb}
+use borrow.Author.Tests.{leb-true, le-leb, eqb-true, eq-eqb, ne-eqb}
+use Rattle.bhtf.specs.Bytes.{Bytes, part, store, number}
+use Rattle.bhtf.specs.Limits.{active, inactive, leastLength, freeField}
+use Rattle.bhtf.specs.Image.{field, Layout}
+use Rattle.bhtf.specs.Messages.{headSize, letterAt, lengthAt, textAt, isActive, shown, held}
+use Rattle.bhtf.specs.Questions.{messageSound}
+use Rattle.bhtf.proofs.Tests.{by-bool, by-or, and-left, and-right, and-true, or-left, or-right, not-both}
+use Rattle.bhtf.proofs.Bytes.{Apart, part-store-other}
+
+abbrev pub size : Layout → Bytes → ℕ → ℕ
+size g img o = headSize g + lengthAt g img o
+
+-- ---- question 11 as facts
+
+pub record Lies (g : Layout) (img : Bytes) (o : ℕ) : Type 0 where
+  pub low : g .D ≤ o
+  pub letter : (eqb (letterAt img o) active || eqb (letterAt img o) inactive) ≡ true
+  pub least : leastLength ≤ lengthAt g img o
+  pub end : o + size g img o ≤ field img freeField
+
+pub sound-lies : (g : Layout) (img : Bytes) (o : ℕ) → messageSound g img o ≡ true → (o ≡ 0 → ⊥) → Lies g img o
+unfolding messageSound
+sound-lies g img o h n =
+    let m = lengthAt g img o in
+    let a = leb (g .D) o in
+    let b = eqb (letterAt img o) active || eqb (letterAt img o) inactive in
+    let c = leb leastLength m in
+    let d = leb (o + headSize g + m) (field img freeField) in
+    by-or (eqb o 0) (a && b && c && d) h
+    (λ z. absurd (n (eqb-true o 0 z)))
+    (λ z all.
+    let abc = and-left (a && b && c) d all in
+    let ab = and-left (a && b) c abc in
+    let end₁ : o + headSize g + m ≤ field img freeField = leb-true _ _ (and-right (a && b && c) d all) in
+    record {
+      low = leb-true _ _ (and-left a b ab);
+      letter = and-right a b ab;
+      least = leb-true _ _ (and-right (a && b) c abc);
+      end = omega arith;
+    })
+
+pub lies-sound : (g : Layout) (img : Bytes) (o : ℕ) → Lies g img o → messageSound g img o ≡ true
+unfolding messageSound
+lies-sound g img o l =
+    let a = leb (g .D) o in
+    let b = eqb (letterAt img o) active || eqb (letterAt img o) inactive in
+    let c = leb leastLength (lengthAt g img o) in
+    let end₁ : o + headSize g + lengthAt g img o ≤ field img freeField = omega (arith, l .end) in
+    or-right (eqb o 0) _
+    (and-true (a && b && c) _ (and-true (a && b) c (and-true a b (le-leb _ _ (l .low)) (l .letter)) (le-leb _ _ (l .least))) (le-leb _ _ end₁))
+
+pub none-sound : (g : Layout) (img : Bytes) → messageSound g img 0 ≡ true
+unfolding messageSound
+none-sound g img = refl
+
+-- ---- images that agree on a stretch
+
+pub record SameOn (img img′ : Bytes) (p n : ℕ) : Type 0 where
+  pub on : (q m : ℕ) → p ≤ q → q + m ≤ p + n → part img′ q m ≡ part img q m
+
+pub same-on-refl : (img : Bytes) (p n : ℕ) → SameOn img img p n
+same-on-refl img p n = record { on = λ q m lo hi. refl }
+
+pub same-on-trans : {a b c : Bytes} {p n : ℕ} → SameOn a b p n → SameOn b c p n → SameOn a c p n
+same-on-trans e f = record { on = λ q m lo hi. f .on q m lo hi ∙ e .on q m lo hi }
+
+pub same-on-store : (img : Bytes) (at : ℕ) (v : Bytes) (p n : ℕ) → at + length v ≤ length img → Apart p n at (length v)
+    → SameOn img (store img at v) p n
+same-on-store img at v p n h (inl a) = record { on = λ q m lo hi. part-store-other img at v q m h (inl (omega arith)) }
+same-on-store img at v p n h (inr a) = record { on = λ q m lo hi. part-store-other img at v q m h (inr (omega arith)) }
+
+-- ---- what depends on the stretch alone
+
+module _ (g : Layout) (img img′ : Bytes) (o : ℕ) (same : SameOn img img′ o (size g img o)) where
+  pub letterAt-same : letterAt img′ o ≡ letterAt img o
+  unfolding letterAt headSize
+  letterAt-same = ap number (same .on o 1 (omega arith) (omega arith))
+
+  pub lengthAt-same : lengthAt g img′ o ≡ lengthAt g img o
+  unfolding lengthAt headSize
+  lengthAt-same = ap number (same .on (o + 1) (g .W) (omega arith) (omega arith))
+
+  pub textAt-same : textAt g img′ o ≡ textAt g img o
+  unfolding textAt
+  textAt-same =
+      ap (part img′ (o + headSize g)) lengthAt-same
+      ∙ same .on (o + headSize g) (lengthAt g img o) (omega arith) (omega arith)
+
+  pub shown-same : shown g img′ o ≡ shown g img o
+  unfolding shown isActive
+  shown-same = rw (letterAt-same, textAt-same) refl
+
+  pub held-same : held g img′ o ≡ held g img o
+  unfolding held
+  held-same = rw lengthAt-same refl
+
+  -- a message still lies in the data area where X has not fallen
+  pub lies-same : field img freeField ≤ field img′ freeField → Lies g img o → Lies g img′ o
+  lies-same up l =
+      record {
+        low = l .low;
+        letter = rw letterAt-same (l .letter);
+        least = rw lengthAt-same (l .least);
+        end = rw lengthAt-same (omega (arith, l .end));
+      }

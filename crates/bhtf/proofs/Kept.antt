@@ -1,0 +1,169 @@
+-- What no call changes: the header but for C, X and M, the scramble, and the image's length.
+--     Kept img img′      img′ keeps them
+--     kept-layout        then the layout is the same; opened-kept: and questions 1, 5 and 6 are passed again
+--     kept-store, kept-field        a write above the header, and a write of C, X or M, keep them
+-- Assumes nothing.
+use mathlib.Core.Path.{_≡_, refl, sym, ap, ap₂, _∙_, fun-ext}
+use Prim.Native.Nat.{ℕ, zero, suc, _+_, _-_, _*_, _≤_, _<_}
+use native.Mathlib.Omega.{arith}
+use mathlib.Core.Logic.{_⊎_, inl, inr}
+use mathlib.Core.Bool.{Bool, true, false, _&&_}
+use mathlib.Core.List.{List, [], _∷_}
+use lib.ListN.{length, getD}
+use lib.Seq.{getD-take}
+use Rattle.bhtf.specs.Bytes.{Bytes, part, store, number, digits}
+use Rattle.bhtf.specs.Limits.{keyField, slotsField, pointsField, multiplierField, startField, firstField, lastField, scrambleField, tableField, dataField, freeField, pageField, scrambleStart, tableStart}
+use Rattle.bhtf.specs.Image.{field, setField, hashFrom, hash, scramble, Layout, layoutOf}
+use Rattle.bhtf.specs.Questions.{versionKnown}
+use Rattle.bhtf.proofs.Bytes.{Apart, length-store, part-store-other, part-part, length-digits}
+use Rattle.bhtf.proofs.Opened.{Opened}
+
+-- bytes 0 to 19 (magic, version, serial, K, N), 24 to 51 (multiplier to D), and 60 to 2,047 (the scramble among them)
+pub record Kept (img img′ : Bytes) : Type 0 where
+  pub size : length img′ ≡ length img
+  pub front : part img′ 0 20 ≡ part img 0 20
+  pub middle : part img′ 24 28 ≡ part img 24 28
+  pub rest : part img′ 60 1988 ≡ part img 60 1988
+
+pub kept-refl : (img : Bytes) → Kept img img
+kept-refl img = record { size = refl; front = refl; middle = refl; rest = refl }
+
+pub kept-trans : {a b c : Bytes} → Kept a b → Kept b c → Kept a c
+kept-trans p q =
+    record {
+      size = q .size ∙ p .size;
+      front = q .front ∙ p .front;
+      middle = q .middle ∙ p .middle;
+      rest = q .rest ∙ p .rest;
+    }
+
+-- a store that meets none of the three
+kept-apart : (img : Bytes) (p : ℕ) (v : Bytes) → p + length v ≤ length img → Apart 0 20 p (length v) → Apart 24 28 p (length v)
+    → Apart 60 1988 p (length v) → Kept img (store img p v)
+kept-apart img p v h a b c =
+    record {
+      size = length-store img p v h;
+      front = part-store-other img p v 0 20 h a;
+      middle = part-store-other img p v 24 28 h b;
+      rest = part-store-other img p v 60 1988 h c;
+    }
+
+pub kept-store : (img : Bytes) (p : ℕ) (v : Bytes) → p + length v ≤ length img → tableStart ≤ p → Kept img (store img p v)
+kept-store img p v h f = kept-apart img p v h (inl (omega arith)) (inl (omega arith)) (inl (omega arith))
+
+pub kept-points : (img : Bytes) (n : ℕ) → 60 ≤ length img → Kept img (setField img pointsField n)
+unfolding setField
+kept-points img n h =
+    let e = length-digits 4 n in
+    kept-apart img pointsField (digits 4 n) (omega arith) (inl (omega arith)) (inr (omega arith)) (inr (omega arith))
+
+pub kept-free : (img : Bytes) (n : ℕ) → 60 ≤ length img → Kept img (setField img freeField n)
+unfolding setField
+kept-free img n h =
+    let e = length-digits 4 n in
+    kept-apart img freeField (digits 4 n) (omega arith) (inl (omega arith)) (inl (omega arith)) (inr (omega arith))
+
+pub kept-page : (img : Bytes) (n : ℕ) → 60 ≤ length img → Kept img (setField img pageField n)
+unfolding setField
+kept-page img n h =
+    let e = length-digits 4 n in
+    kept-apart img pageField (digits 4 n) (omega arith) (inl (omega arith)) (inl (omega arith)) (inr (omega arith))
+
+-- ---- what follows
+
+-- parts of two equal parts are equal
+inside : (a b : Bytes) (p n q m : ℕ) → part a p n ≡ part b p n → q + m ≤ n → part a (p + q) m ≡ part b (p + q) m
+inside a b p n q m e h = sym (part-part a p n q m h) ∙ ap (λ (l : Bytes). part l q m) e ∙ part-part b p n q m h
+
+module _ {img img′ : Bytes} (k : Kept img img′) where
+  kept-part-front : (q m : ℕ) → q + m ≤ 20 → part img′ (0 + q) m ≡ part img (0 + q) m
+  kept-part-front q m h = inside img′ img 0 20 q m (k .front) h
+
+  kept-part-middle : (q m : ℕ) → q + m ≤ 28 → part img′ (24 + q) m ≡ part img (24 + q) m
+  kept-part-middle q m h = inside img′ img 24 28 q m (k .middle) h
+
+  pub kept-key : field img′ keyField ≡ field img keyField
+  unfolding field
+  kept-key = ap number (kept-part-front 12 4 (omega arith))
+
+  pub kept-slots : field img′ slotsField ≡ field img slotsField
+  unfolding field
+  kept-slots = ap number (kept-part-front 16 4 (omega arith))
+
+  kept-multiplier : field img′ multiplierField ≡ field img multiplierField
+  unfolding field
+  kept-multiplier = ap number (kept-part-middle 0 4 (omega arith))
+
+  kept-start : field img′ startField ≡ field img startField
+  unfolding field
+  kept-start = ap number (kept-part-middle 4 4 (omega arith))
+
+  pub kept-first : field img′ firstField ≡ field img firstField
+  unfolding field
+  kept-first = ap number (kept-part-middle 8 4 (omega arith))
+
+  pub kept-last : field img′ lastField ≡ field img lastField
+  unfolding field
+  kept-last = ap number (kept-part-middle 12 4 (omega arith))
+
+  kept-scramble-at : field img′ scrambleField ≡ field img scrambleField
+  unfolding field
+  kept-scramble-at = ap number (kept-part-middle 16 4 (omega arith))
+
+  kept-table-at : field img′ tableField ≡ field img tableField
+  unfolding field
+  kept-table-at = ap number (kept-part-middle 20 4 (omega arith))
+
+  pub kept-data : field img′ dataField ≡ field img dataField
+  unfolding field
+  kept-data = ap number (kept-part-middle 24 4 (omega arith))
+
+  kept-byte : (i : ℕ) → i < 20 → getD img′ i 0 ≡ getD img i 0
+  unfolding part
+  kept-byte i h =
+      sym (getD-take 20 img′ i 0 h) ∙ ap (λ (l : Bytes). getD l i 0) (k .front) ∙ getD-take 20 img i 0 h
+
+  pub kept-version : versionKnown img′ ≡ versionKnown img
+  unfolding versionKnown
+  kept-version =
+      rw (kept-part-front 0 5 (omega arith), kept-byte 5 (omega arith), kept-byte 6 (omega arith), kept-byte 7 (omega arith)) refl
+
+  -- the scramble ends below the table where E is at most 255
+  kept-scramble : field img lastField ≤ 255 → scramble img′ ≡ scramble img
+  unfolding scramble
+  kept-scramble h =
+      ap₂ (λ (e f : ℕ). part img′ scrambleStart (4 * (e - f + 1))) kept-last kept-first
+      ∙ inside img′ img 60 1988 452 (4 * (field img lastField - field img firstField + 1)) (k .rest) (omega arith)
+
+  kept-hash : field img lastField ≤ 255 → hash img′ ≡ hash img
+  unfolding hash
+  kept-hash h =
+      fun-ext (λ key.
+      rw (kept-multiplier, kept-start, kept-first, kept-last, kept-scramble h) refl)
+
+  pub kept-layout : field img lastField ≤ 255 → layoutOf img′ ≡ layoutOf img
+  unfolding layoutOf
+  kept-layout h = rw (kept-key, kept-slots, kept-data, kept-hash h) refl
+
+  -- questions 1, 5 and 6 again, given C and X
+  pub opened-kept : Opened img → field img′ pointsField ≤ field img slotsField → field img dataField ≤ field img′ freeField
+      → field img′ freeField ≤ length img → Opened img′
+  opened-kept o c lo hi =
+      record {
+        page = rw (k .size) (o .page);
+        size-low = rw (k .size) (o .size-low);
+        size-high = rw (k .size) (o .size-high);
+        version = kept-version ∙ o .version;
+        key-low = rw kept-key (o .key-low);
+        key-high = rw kept-key (o .key-high);
+        slots-low = rw kept-slots (o .slots-low);
+        slots-high = rw kept-slots (o .slots-high);
+        points = rw kept-slots c;
+        first = rw (kept-first, kept-last) (o .first);
+        last = rw kept-last (o .last);
+        scramble-at = kept-scramble-at ∙ o .scramble-at;
+        table-at = kept-table-at ∙ o .table-at;
+        data-at = rw (kept-data, kept-key, kept-slots) (o .data-at);
+        free-low = rw kept-data lo;
+        free-high = rw (k .size) hi;
+      }

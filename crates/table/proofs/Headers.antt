@@ -1,0 +1,194 @@
+-- What the shape of an opened image says of places: bounds on its numbers, and a slot's bytes as parts of the image.
+--     Header img s        the bounds, by name; `header` gives them of an opened image
+--     layout-key, layout-slots, layout-area, slot-place      the layout's numbers are the shape's
+--     Placed, placed-opened, placed-room      the table lies in the image; Spot, spot: what a function that goes to slot i needs
+--     key-part, offset-part, slot-part, put-slot       the part that code cuts out is the slot's key, offset, bytes
+-- Assumes nothing.
+use mathlib.Core.Path.{_≡_, refl, sym, ap, ap₂, _∙_, subst}
+use Prim.Native.Nat.{ℕ, zero, suc, _+_, _-_, _*_, _%_, _≤_, _<_}
+use native.Mathlib.Nat.{zero-add, suc-add, suc-mul, mul-le-mul-right}
+use native.Mathlib.Omega.{arith}
+use mathlib.Core.List.{[], _∷_, _++_, append-nil}
+use lib.ListN.{length, take, drop, length-drop}
+use lib.Seq.{take-take, drop-drop, take-at, drop-at, drop-length}
+use borrow.Rule.Slice.PartMut.{putMid}
+use Rattle.bhtf.specs.Bytes.{Bytes, part, store, number, digits}
+use Rattle.bhtf.specs.Limits.{slotsField, multiplierField, startField, firstField, lastField}
+use Rattle.bhtf.specs.Image.{field, setField, hashFrom, hash, scramble, home, Layout, layoutOf, slotSize, slotStart, slot, putSlot, keyOf, offsetOf, entry}
+use Rattle.bhtf.specs.Questions.{openNumber}
+use Rattle.bhtf.proofs.Bytes.{length-digits}
+use Rattle.bhtf.proofs.Slots.{Room}
+use Rattle.bhtf.proofs.Opened.{Opened, opened-facts, opened-room}
+use Rattle.bhtf.proofs.Table.{keyAt}
+use Rattle.layout.specs.Shapes.{shapeOf}
+use Rattle.layout.specs.declared.shape.Shape.{Shape}
+use Rattle.table.specs.Slots.{Placed}
+
+-- ---- the layout's numbers
+module _ (img : Bytes) (s : Shape) (is : s ≡ shapeOf img) where
+  pub layout-key : layoutOf img .K ≡ s .key
+  unfolding layoutOf shapeOf
+  layout-key = ap (λ (t : Shape). t .key) (sym is)
+
+  pub layout-slots : layoutOf img .N ≡ s .slots
+  unfolding layoutOf shapeOf
+  layout-slots = ap (λ (t : Shape). t .slots) (sym is)
+
+  pub layout-area : layoutOf img .D ≡ s .area .0
+  unfolding layoutOf shapeOf
+  layout-area = ap (λ (t : Shape). t .area .0) (sym is)
+
+  pub slot-place : (i : ℕ) → slotStart (layoutOf img) i ≡ 2048 + i * (s .key + 4)
+  unfolding slotStart slotSize
+  slot-place i = ap (λ (k : ℕ). 2048 + i * (k + 4)) layout-key
+
+  pub slot-room : slotSize (layoutOf img) ≡ s .key + 4
+  unfolding slotSize
+  slot-room = ap (λ (k : ℕ). k + 4) layout-key
+
+-- ---- bounds
+pub record Header (img : Bytes) (s : Shape) : Type 0 where
+  pub key-low : 1 ≤ s .key
+  pub key-high : s .key ≤ 32
+  pub slots-low : 1 ≤ s .slots
+  pub slots-high : s .slots ≤ 65536
+  pub first : s .first ≤ s .last
+  pub last : s .last ≤ 255
+  pub area : s .area .0 ≤ length img
+  pub size-low : 4096 ≤ length img
+  pub size-high : length img ≤ 16777216
+
+pub header : (img : Bytes) (s : Shape) → openNumber img ≡ 0 → s ≡ shapeOf img → Header img s
+unfolding shapeOf
+header img s h is =
+    let o = opened-facts img h in
+    subst (Header img) (sym is)
+    (record {
+      key-low = o .key-low;
+      key-high = o .key-high;
+      slots-low = o .slots-low;
+      slots-high = o .slots-high;
+      first = o .first;
+      last = o .last;
+      area = omega (arith, o);
+      size-low = o .size-low;
+      size-high = o .size-high;
+    })
+
+pub room : (img : Bytes) → openNumber img ≡ 0 → Room (layoutOf img) (length img)
+room img h = opened-room img (opened-facts img h)
+
+-- ---- where slots stand
+pub placed-room : (img : Bytes) (s : Shape) → s ≡ shapeOf img → s .key ≤ 32 → s .slots ≤ 1048576
+    → Room (layoutOf img) (length img) → Placed img s
+unfolding slotSize
+placed-room img s is hk hs r =
+    record {
+      shape = is;
+      key-high = hk;
+      slots-high = hs;
+      table =
+          subst (λ (n : ℕ). 2048 + n ≤ length img)
+          (ap₂ (λ (n k : ℕ). n * (k + 4)) (layout-slots img s is) (layout-key img s is))
+          (omega (arith, r .table, r .area));
+    }
+
+pub placed-opened : (img : Bytes) (s : Shape) → openNumber img ≡ 0 → s ≡ shapeOf img → Placed img s
+placed-opened img s h is =
+    let b = header img s h is in
+    placed-room img s is (b .key-high) (omega arith) (room img h)
+
+-- what a function that goes to slot i needs: bounds for its place, and that the slot ends in the image
+pub record Spot (img : Bytes) (s : Shape) (i : ℕ) : Type 0 where
+  pub slot-high : i < 1048576
+  pub key-high : s .key ≤ 32
+  pub ends : 2048 + i * (s .key + 4) + (s .key + 4) ≤ length img
+
+pub spot-placed : (img : Bytes) (s : Shape) (i : ℕ) → Placed img s → i < s .slots → Spot img s i
+spot-placed img s i p l =
+    let le : suc i * (s .key + 4) ≤ s .slots * (s .key + 4) = mul-le-mul-right (s .key + 4) l in
+    record {
+      slot-high = omega (arith, p .slots-high);
+      key-high = p .key-high;
+      ends = omega (arith, p .table, suc-mul i (s .key + 4));
+    }
+
+pub spot : (img : Bytes) (s : Shape) (i : ℕ) → openNumber img ≡ 0 → s ≡ shapeOf img → i < s .slots → Spot img s i
+spot img s i h is l = spot-placed img s i (placed-opened img s h is) l
+
+-- ---- parts
+drop-take : (k m : ℕ) (l : Bytes) → drop k (take (k + m) l) ≡ take m (drop k l)
+drop-take zero m l = ap (λ (n : ℕ). take n l) (zero-add m)
+drop-take (suc k) zero [] = rw (suc-add k 0)
+drop-take (suc k) (suc m) [] = rw (suc-add k (suc m))
+drop-take (suc k) m (x ∷ l) = rw (suc-add k m) (drop-take k m l)
+
+module _ (img : Bytes) (s : Shape) (is : s ≡ shapeOf img) (i a : ℕ) (at : a ≡ 2048 + i * (s .key + 4)) where
+  place : a ≡ slotStart (layoutOf img) i
+  place = at ∙ sym (slot-place img s is i)
+
+  pub slot-part : (e : ℕ) → e ≡ a + (s .key + 4) → take (e - a) (drop a img) ≡ slot (layoutOf img) img i
+  unfolding slot part
+  slot-part e h =
+      let m : e - a ≡ slotSize (layoutOf img) = omega (arith, slot-room img s is) in
+      ap₂ (λ (m p : ℕ). take m (drop p img)) m place
+
+  pub key-part : (e : ℕ) → e ≡ a + s .key → take (e - a) (drop a img) ≡ keyAt (layoutOf img) img i
+  unfolding keyOf slot slotSize part
+  key-part e h =
+      let m : e - a ≡ layoutOf img .K = omega (arith, layout-key img s is) in
+      ap₂ (λ (m p : ℕ). take m (drop p img)) m place
+      ∙ sym (take-take (layoutOf img .K) (layoutOf img .K + 4) (drop (slotStart (layoutOf img) i) img) (omega arith))
+
+  -- bytes put in the slot's place
+  pub put-slot : (e : ℕ) (v : Bytes) → e ≡ a + (s .key + 4) → length v ≡ s .key + 4
+      → putMid a (e - a) img v ≡ putSlot (layoutOf img) img i v
+  unfolding putSlot store
+  put-slot e v h l =
+      let m : e - a ≡ length v = omega arith in
+      ap₂ (λ (m p : ℕ). take p img ++ (v ++ drop m (drop p img))) m place
+
+  pub offset-part : part img (a + s .key) 4 ≡ drop (layoutOf img .K) (slot (layoutOf img) img i)
+  unfolding slot slotSize part
+  offset-part =
+      ap₂ (λ (k p : ℕ). take 4 (drop (p + k) img)) (sym (layout-key img s is)) place
+      ∙ ap (take 4) (sym (drop-drop (layoutOf img .K) (slotStart (layoutOf img) i) img))
+      ∙ sym (drop-take (layoutOf img .K) 4 (drop (slotStart (layoutOf img) i) img))
+
+  pub offset-is : field img (a + s .key) ≡ offsetOf (layoutOf img) (slot (layoutOf img) img i)
+  unfolding field offsetOf
+  offset-is = ap number offset-part
+
+-- ---- the hash of a key
+pub home-is : (img : Bytes) (s : Shape) → s ≡ shapeOf img → (key : Bytes) (h : ℕ)
+    → h ≡ hashFrom (s .multiplier) (s .first) (s .last) (take (512 + 4 * (s .last - s .first + 1) - 512) (drop 512 img)) (s .start) key
+    → h % s .slots ≡ home (layoutOf img) key
+unfolding home layoutOf hash scramble part shapeOf
+home-is img s is key h =
+    subst (λ (t : Shape). h ≡ hashFrom (t .multiplier) (t .first) (t .last)
+    (take (512 + 4 * (t .last - t .first + 1) - 512) (drop 512 img)) (t .start) key → h % t .slots ≡ home (layoutOf img) key)
+    (sym is) (λ e. ap (λ (n : ℕ). n % field img slotsField) (e ∙ whole))
+  where
+    count : ℕ
+    count = 4 * (field img lastField - field img firstField + 1)
+
+    whole : hashFrom (field img multiplierField) (field img firstField) (field img lastField)
+        (take (512 + count - 512) (drop 512 img)) (field img startField) key
+        ≡ hashFrom (field img multiplierField) (field img firstField) (field img lastField)
+        (take count (drop 512 img)) (field img startField) key
+    whole =
+        let m : 512 + count - 512 ≡ count = omega arith in
+        ap (λ (n : ℕ). hashFrom (field img multiplierField) (field img firstField) (field img lastField)
+        (take n (drop 512 img)) (field img startField) key) m
+
+-- ---- an entry: the key, and the offset behind it
+pub entry-written : (key rest : Bytes) (o : ℕ) → length rest ≡ 4 → setField (key ++ rest) (length key) o ≡ entry key o
+unfolding setField store entry
+entry-written key rest o l =
+    ap₂ (λ (a b : Bytes). a ++ (digits 4 o ++ drop (length (digits 4 o)) b))
+    (take-at key rest (length key) refl) (drop-at key rest (length key) refl)
+    ∙ ap (λ (b : Bytes). key ++ (digits 4 o ++ b)) nothing
+    ∙ ap (λ (b : Bytes). key ++ b) (append-nil (digits 4 o))
+  where
+    nothing : drop (length (digits 4 o)) rest ≡ []
+    nothing = ap (λ (n : ℕ). drop n rest) (length-digits 4 o ∙ sym l) ∙ drop-length rest

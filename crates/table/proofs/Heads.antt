@@ -1,0 +1,82 @@
+-- Writes to slots leave the header as it was.
+--     SameHead img img′      img′ is opened, and its layout, shape and length are those of img
+--     head-putSlot, head-moved       a write to a slot, and a move, keep them
+--     kept-shape             the shape is among what no call changes
+-- Assumes nothing.
+use mathlib.Core.Path.{_≡_, refl, sym, ap, _∙_, subst}
+use Prim.Native.Nat.{ℕ, _+_, _≤_, _<_}
+use native.Mathlib.Omega.{arith}
+use lib.ListN.{length}
+use Rattle.bhtf.specs.Bytes.{Bytes, part, number}
+use Rattle.bhtf.specs.Limits.{pointsField, multiplierField, startField, lastField, freeField}
+use Rattle.bhtf.specs.Image.{field, Layout, layoutOf, slotSize, slotStart, slot, putSlot, blank}
+use Rattle.bhtf.specs.Messages.{moved}
+use Rattle.bhtf.specs.Questions.{openNumber}
+use Rattle.bhtf.proofs.Bytes.{part-part}
+use Rattle.bhtf.proofs.Slots.{Room, slot-end, slot-above, length-slot, field-putSlot, length-blank}
+use Rattle.bhtf.proofs.Spread.{room-half}
+use Rattle.bhtf.proofs.Opened.{opened-facts, facts-opened}
+use Rattle.bhtf.proofs.Kept.{Kept, kept-store, kept-layout, opened-kept, kept-key, kept-slots, kept-data, kept-first, kept-last}
+use Rattle.layout.specs.Shapes.{shapeOf}
+
+-- ---- the shape
+pub kept-shape : {img img′ : Bytes} → Kept img img′ → shapeOf img′ ≡ shapeOf img
+unfolding shapeOf
+kept-shape {img} {img′} k =
+    rw (kept-key k, kept-slots k, kept-data k, at multiplierField 0 refl (omega arith), at startField 4 refl (omega arith), kept-first k, kept-last k) refl
+  where
+    at : (p q : ℕ) → p ≡ 24 + q → q + 4 ≤ 28 → field img′ p ≡ field img p
+    at p q e h =
+        unfold field in
+        rw e
+        (ap number (sym (part-part img′ 24 28 q 4 h) ∙ ap (λ (b : Bytes). part b q 4) (k .middle) ∙ part-part img 24 28 q 4 h))
+
+-- ---- what stays where C and X stay too
+pub record SameHead (img img′ : Bytes) : Type 0 where
+  pub opened : openNumber img′ ≡ 0
+  pub layout : layoutOf img′ ≡ layoutOf img
+  pub shape : shapeOf img′ ≡ shapeOf img
+  pub size : length img′ ≡ length img
+
+pub head-trans : {a b c : Bytes} → SameHead a b → SameHead b c → SameHead a c
+head-trans p q =
+    record {
+      opened = q .opened;
+      layout = q .layout ∙ p .layout;
+      shape = q .shape ∙ p .shape;
+      size = q .size ∙ p .size;
+    }
+
+pub head-kept : (img img′ : Bytes) → openNumber img ≡ 0 → Kept img img′ → field img′ pointsField ≡ field img pointsField
+    → field img′ freeField ≡ field img freeField → SameHead img img′
+head-kept img img′ h k c x =
+    let o = opened-facts img h in
+    record {
+      opened =
+          facts-opened img′
+          (opened-kept k o (rw c (o .points)) (rw x (o .free-low)) (rw x (o .free-high)));
+      layout = kept-layout k (o .last);
+      shape = kept-shape k;
+      size = k .size;
+    }
+
+module _ (g : Layout) (img : Bytes) (h : openNumber img ≡ 0) (r : Room g (length img)) where
+  pub head-putSlot : (i : ℕ) (v : Bytes) → i < g .N → length v ≡ slotSize g → SameHead img (putSlot g img i v)
+  head-putSlot i v l e =
+      head-kept img (putSlot g img i v) h kept
+      (field-putSlot g img r i v pointsField l e (omega arith))
+      (field-putSlot g img r i v freeField l e (omega arith))
+    where
+      kept : Kept img (putSlot g img i v)
+      kept = unfold putSlot in kept-store img (slotStart g i) v (omega (arith, slot-end g r i l, r .area)) (slot-above g i)
+
+  pub head-half : (a j : ℕ) → a < g .N → j < g .N → SameHead img (putSlot g img a (slot g img j))
+  head-half a j la lj = head-putSlot a (slot g img j) la (length-slot g img r j lj)
+
+pub head-moved : (g : Layout) (img : Bytes) → openNumber img ≡ 0 → Room g (length img) → (a j : ℕ) → a < g .N → j < g .N
+    → SameHead img (moved g img a j)
+unfolding moved
+head-moved g img h r a j la lj =
+    let half = head-half g img h r a j la lj in
+    head-trans half
+    (head-putSlot g (putSlot g img a (slot g img j)) (half .opened) (room-half g img r a j la lj) j (blank g) lj (length-blank g))

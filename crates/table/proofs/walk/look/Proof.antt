@@ -1,0 +1,60 @@
+-- `table::walk::look` meets its contract: the test, and the move where it fails.
+-- Assumes nothing.
+use native.Mathlib.Omega.{arith}
+use mathlib.Core.Path.{sym, _∙_}
+use Rattle.bhtf.specs.Image.{layoutOf}
+use Rattle.bhtf.proofs.Probe.{home-lt}
+use Rattle.table.specs.Slots.{keyIn}
+use Rattle.table.proofs.Headers.{header, layout-slots}
+use Rattle.table.proofs.Walking.{stays-code, looked-stays, looked-moves}
+use borrow.Author.Needs.{needs}
+use Rattle.table.proofs.walk.look.Statement.{statement}
+use Rattle.table.proofs.walk.look.Tie as tie
+
+home-of-requires : tie.Need-home-of-requires
+home-of-requires c κs = search needs
+
+stays-requires : tie.Need-stays-requires
+stays-requires c κs =
+    let S = c .before .before .before in
+    let img = S .args .image .now in
+    let b = header img (S .args .shape) (S .pre .0) (S .pre .1) in
+    let n = layout-slots img (S .args .shape) (S .pre .1) in
+    omega (arith, c .home-of .ensures, home-lt (layoutOf img) (keyIn img (S .args .j .0)) (omega arith))
+
+same-length : tie.Need-same-length
+same-length c = search needs
+
+returns : tie.Need-returns
+returns c =
+    let S = c .before .before .before .before .before in
+    let e = looked-stays (layoutOf (S .args .image .now)) (S .args .image .now) (S .args .hole .0) (S .args .j .0)
+    (sym (stays-code (S .args .image .now) (S .args .shape) (S .pre .1) (S .args .hole .0) (S .args .j .0) _ (c .before .before .home-of .ensures))
+    ∙ sym (c .before .stays .ensures) ∙ c .if1 .taken) in
+    (sym (e .0), sym (e .1))
+
+move-slot-requires : tie.Need-move-slot-requires
+move-slot-requires c κs = search needs
+
+same-length-2 : tie.Need-same-length-2
+same-length-2 c = search needs
+
+returns-2 : tie.Need-returns-2
+returns-2 c =
+    let S = c .before .before .before .before .before .before .before .before .before in
+    let e = looked-moves (layoutOf (S .args .image .now)) (S .args .image .now) (S .args .hole .0) (S .args .j .0)
+    (sym (stays-code (S .args .image .now) (S .args .shape) (S .pre .1) (S .args .hole .0) (S .args .j .0) _ (c .before .before .before .before .before .before .home-of .ensures))
+    ∙ sym (c .before .before .before .before .before .stays .ensures) ∙ c .before .before .before .before .if1 .left) in
+    (sym (e .0), c .before .before .move-slot .ensures ∙ sym (e .1))
+
+pub look-spec : {M : Type 1} → statement M
+look-spec =
+    tie.close
+    (tie.spec
+    home-of-requires
+    stays-requires
+    same-length
+    returns
+    move-slot-requires
+    same-length-2
+    returns-2)

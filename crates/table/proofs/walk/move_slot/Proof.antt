@@ -1,0 +1,74 @@
+-- `table::walk::move_slot` meets its contract: the slot's bytes copied into the hole, and the slot zeroed.
+-- Assumes nothing.
+use native.Mathlib.Omega.{arith}
+use mathlib.Core.Path.{_∙_}
+use Rattle.table.proofs.Headers.{spot}
+use Rattle.table.proofs.Walking.{code-apart, copied-slot, placed-code, moved-code}
+use borrow.Author.Needs.{needs}
+use Rattle.table.proofs.walk.move_slot.Statement.{statement}
+use Rattle.table.proofs.walk.move_slot.Tie as tie
+
+start-requires : tie.Need-start-requires
+start-requires c κs =
+    let S = c .before in
+    omega (arith, spot (S .args .image .now) (S .args .shape) (S .args .j .0) (S .pre .0) (S .pre .1) (S .pre .3))
+
+at-requires : tie.Need-at-requires
+at-requires c κs = search needs
+
+start-requires-2 : tie.Need-start-requires-2
+start-requires-2 c κs =
+    let S = c .before .before .before in
+    omega (arith, spot (S .args .image .now) (S .args .shape) (S .args .hole .0) (S .pre .0) (S .pre .1) (S .pre .2))
+
+at-requires-2 : tie.Need-at-requires-2
+at-requires-2 c κs = search needs
+
+add-copy-apart : tie.Need-add-copy-apart
+add-copy-apart c =
+    let S = c .before .before .before .before .before .before in
+    omega (arith, spot (S .args .image .now) (S .args .shape) (S .args .hole .0) (S .pre .0) (S .pre .1) (S .pre .2))
+
+copy-apart-requires : tie.Need-copy-apart-requires
+copy-apart-requires c κs =
+    let S = c .before .before .before .before .before .before in
+    let ej = c .before .before .before .at .ensures ∙ c .before .before .before .before .start .ensures in
+    let eh = c .before .at2 .ensures ∙ c .before .before .start2 .ensures in (
+      code-apart (S .args .image .now) (S .args .shape) (S .pre .1) (S .args .hole .0) (S .args .j .0) _ _ ej eh (S .pre .4),
+      omega (arith, spot (S .args .image .now) (S .args .shape) (S .args .j .0) (S .pre .0) (S .pre .1) (S .pre .3)),
+      omega (arith, spot (S .args .image .now) (S .args .shape) (S .args .hole .0) (S .pre .0) (S .pre .1) (S .pre .2)),
+    )
+
+clear-slot-requires : tie.Need-clear-slot-requires
+clear-slot-requires c κs =
+    let S = c .before .before .before .before .before .before .before .before .before .before in
+    let ej = c .before .before .before .before .before .before .before .at .ensures ∙ c .before .before .before .before .before .before .before .before .start .ensures in
+    let eh = c .before .before .before .before .before .at2 .ensures ∙ c .before .before .before .before .before .before .start2 .ensures in
+    let half = c .before .before .before .copy-apart .ensures ∙ copied-slot (S .args .image .now) (S .args .shape) (S .pre .1) (S .args .hole .0) (S .args .j .0) _ _ ej eh in
+    (placed-code (S .args .image .now) _ (S .args .shape) (S .args .hole .0) (S .args .j .0) (S .pre .0) (S .pre .1) (S .pre .2) (S .pre .3) half, S .pre .3)
+
+same-length : tie.Need-same-length
+same-length c = search needs
+
+returns : tie.Need-returns
+returns c =
+    let S = c .before .before .before .before .before .before .before .before .before .before .before .before .before in
+    let ej = c .before .before .before .before .before .before .before .before .before .before .at .ensures ∙ c .before .before .before .before .before .before .before .before .before .before .before .start .ensures in
+    let eh = c .before .before .before .before .before .before .before .before .at2 .ensures ∙ c .before .before .before .before .before .before .before .before .before .start2 .ensures in
+    let half = c .before .before .before .before .before .before .copy-apart .ensures ∙ copied-slot (S .args .image .now) (S .args .shape) (S .pre .1) (S .args .hole .0) (S .args .j .0) _ _ ej eh in
+    c .before .before .clear-slot .ensures
+    ∙ moved-code (S .args .image .now) _ (S .args .shape) (S .args .hole .0) (S .args .j .0) (S .pre .0) (S .pre .1) (S .pre .2) (S .pre .3) half
+
+pub move-slot-spec : {M : Type 1} → statement M
+move-slot-spec =
+    tie.close
+    (tie.spec
+    start-requires
+    at-requires
+    start-requires-2
+    at-requires-2
+    add-copy-apart
+    copy-apart-requires
+    clear-slot-requires
+    same-length
+    returns)

@@ -1,0 +1,3 @@
+pub mod Probes
+pub mod Slots
+pub mod Walks

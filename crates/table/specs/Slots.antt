@@ -1,0 +1,30 @@
+-- Slot i of an image, by the layout that its header gives: its key, whether it is empty, its message offset.
+--     Placed img s      s is the image's shape, and its table lies in the image: what a write to a slot asks
+-- Assumes nothing.
+use mathlib.Core.Path.{_≡_}
+use Prim.Native.Nat.{ℕ, _+_, _*_, _≤_}
+use lib.ListN.{length}
+use mathlib.Core.Bool.{Bool}
+use Rattle.bhtf.specs.Bytes.{Bytes}
+use Rattle.bhtf.specs.Image.{layoutOf, slot, keyOf, offsetOf, vacant, home}
+use Rattle.layout.specs.Shapes.{shapeOf}
+use Rattle.layout.specs.declared.shape.Shape.{Shape}
+
+pub record Placed (img : Bytes) (s : Shape) : Type 0 where
+  pub shape : s ≡ shapeOf img
+  pub key-high : s .key ≤ 32
+  pub slots-high : s .slots ≤ 1048576
+  pub table : 2048 + s .slots * (s .key + 4) ≤ length img
+
+abbrev pub keyIn : Bytes → ℕ → Bytes
+keyIn img i = keyOf (layoutOf img) (slot (layoutOf img) img i)
+
+abbrev pub vacantIn : Bytes → ℕ → Bool
+vacantIn img i = vacant (layoutOf img) (slot (layoutOf img) img i)
+
+abbrev pub offsetIn : Bytes → ℕ → ℕ
+offsetIn img i = offsetOf (layoutOf img) (slot (layoutOf img) img i)
+
+-- the home of its entry
+abbrev pub homeIn : Bytes → ℕ → ℕ
+homeIn img i = home (layoutOf img) (keyIn img i)
