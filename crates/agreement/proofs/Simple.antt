@@ -22,6 +22,7 @@ use Rattle.bhtf.specs.Book.{Entry, Book, find, without, stepOf, guarded, bookDe
 use Rattle.bhtf.proofs.Tests.{by-bool, not-both, and-true}
 use Rattle.bhtf.proofs.Bytes.{part-length}
 use Rattle.bhtf.proofs.Opened.{firstNo-none, firstNo-yes, firstNo-no, facts-opened, firstNo-opened}
+use Rattle.bhtf.proofs.Outcomes.{settled-yes, settled-no}
 use Rattle.bhtf.proofs.Table.{entryOf, weight}
 use Rattle.bhtf.proofs.Probe.{by-search, search-frame}
 use Rattle.bhtf.proofs.Insert.{entry-met, entry-empty, entry-exhausted}
@@ -38,14 +39,6 @@ pub record Same (g : Layout) (o : Outcome Bytes) (p : Outcome Book) : Type 0 whe
   pub after : Reflects g (o .after) (p .after)
 
 -- ---- outcomes by their numbers
-
-pub settled-yes : (n : ℕ) (img x : Bytes) → n ≡ 0 → settled n img x ≡ x
-unfolding settled
-settled-yes n img x h = rw h refl
-
-pub settled-no : (n : ℕ) (img x : Bytes) → (n ≡ 0 → ⊥) → settled n img x ≡ img
-unfolding settled
-settled-no n img x h = rw (ne-eqb n 0 h) refl
 
 step-yes : (b : Book) (asks : List Question) (y : Book) → firstNo asks ≡ 0 → stepOf b asks y .after ≡ y
 unfolding stepOf

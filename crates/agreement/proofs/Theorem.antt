@@ -21,8 +21,9 @@ use Rattle.bhtf.specs.Calls.{Answer, Outcome, plain, create, lookup, Call, addi
 use Rattle.bhtf.specs.Book.{Book, newBook, find, bookStep}
 use Rattle.bhtf.specs.Demand.{fileText, textOf, bookText, termsOf, Agrees, Agreement}
 use Rattle.bhtf.proofs.Tests.{by-bool}
+use Rattle.bhtf.proofs.Outcomes.{settled-yes}
 use Rattle.agreement.proofs.Reflect.{Reflects}
-use Rattle.agreement.proofs.Simple.{Same, settled-yes, same-count, same-lookup, same-delete, lookup-shows, found-met, found-none, by-met}
+use Rattle.agreement.proofs.Simple.{Same, same-count, same-lookup, same-delete, lookup-shows, found-met, found-none, by-met}
 use Rattle.agreement.proofs.Add.{same-add}
 use Rattle.agreement.proofs.Fresh.{accepted, slotsAsked-some, fresh-reflects}
 
