@@ -40,14 +40,6 @@ pub record Same (g : Layout) (o : Outcome Bytes) (p : Outcome Book) : Type 0 whe
 
 -- ---- outcomes by their numbers
 
-step-yes : (b : Book) (asks : List Question) (y : Book) → firstNo asks ≡ 0 → stepOf b asks y .after ≡ y
-unfolding stepOf
-step-yes b asks y h = rw h refl
-
-step-no : (b : Book) (asks : List Question) (y : Book) → (firstNo asks ≡ 0 → ⊥) → stepOf b asks y .after ≡ b
-unfolding stepOf
-step-no b asks y h = rw (ne-eqb (firstNo asks) 0 h) refl
-
 pub guarded-yes : (b : Book) (asks : List Question) (s : Outcome Book) → firstNo asks ≡ 0 → guarded b asks s ≡ s
 unfolding guarded
 guarded-yes b asks s h = rw h refl

@@ -21,11 +21,12 @@ use Rattle.bhtf.specs.Calls.{Answer, Outcome, plain, create, lookup, Call, addi
 use Rattle.bhtf.specs.Book.{Book, newBook, find, bookStep}
 use Rattle.bhtf.specs.Demand.{fileText, textOf, bookText, termsOf, Agrees, Agreement}
 use Rattle.bhtf.proofs.Tests.{by-bool}
+use Rattle.bhtf.proofs.Accepted.{accepted-facts}
 use Rattle.bhtf.proofs.Outcomes.{settled-yes}
 use Rattle.agreement.proofs.Reflect.{Reflects}
 use Rattle.agreement.proofs.Simple.{Same, same-count, same-lookup, same-delete, lookup-shows, found-met, found-none, by-met}
 use Rattle.agreement.proofs.Add.{same-add}
-use Rattle.agreement.proofs.Fresh.{accepted, slotsAsked-some, fresh-reflects}
+use Rattle.agreement.proofs.Fresh.{slotsAsked-some, fresh-reflects}
 
 pub step : (g : Layout) (img : Bytes) (b : Book) → Reflects g img b → (c : Call) → Same g (perform c img) (bookStep c b)
 unfolding perform bookStep
@@ -80,7 +81,7 @@ reflects-created img K N seed ok =
       layoutOf fresh,
       subst (λ (i : Bytes). Reflects (layoutOf fresh) i (newBook (termsOf (length img) K (slotsAsked N))))
           (sym (settled-yes (createNumber (length img) K (slotsAsked N)) img fresh ok))
-          (fresh-reflects (length img) K (slotsAsked N) seed (accepted (length img) K (slotsAsked N) ok) (slotsAsked-some N)),
+          (fresh-reflects (length img) K (slotsAsked N) seed (accepted-facts (length img) K (slotsAsked N) ok) (slotsAsked-some N)),
     )
 
 pub agreement : Agreement

@@ -5,6 +5,7 @@ pub mod Cyclic
 pub mod Total
 pub mod Table
 pub mod Opened
+pub mod Accepted
 pub mod Kept
 pub mod Cases
 pub mod Spread

@@ -1,6 +1,5 @@
--- Create's questions, 1 to 4: the number by where they end, and what is known where none is answered no.
+-- Create's questions, 1 to 4: the number by where they end, and the call by its number.
 --     create-1, create-2, create-3, create-4, create-0
---     Accepted L K N, accepted-facts      the facts, by name, from `createNumber L K N ≡ 0`
 --     create-answers, create-kept, create-fresh      the call by its number
 -- Assumes nothing.
 use mathlib.Core.Path.{_≡_, _∙_}
@@ -17,15 +16,7 @@ use Rattle.bhtf.specs.Create.{slotsAsked, freshImage}
 use Rattle.bhtf.specs.Calls.{plain, settled, create}
 use Rattle.bhtf.specs.Questions.{sizeAllowed, keyAllowed, slotsAllowed, tableFits, createAsks, createNumber}
 use Rattle.bhtf.proofs.Tests.{and-right}
-use Rattle.bhtf.proofs.Opened.{firstNo-none, firstNo-yes, firstNo-no, firstNo-head, firstNo-tail}
-use Rattle.layout.proofs.Headers.{size-least}
-
-pub record Accepted (L K N : ℕ) : Type 0 where
-  pub size-low : pageSize ≤ L
-  pub size-high : L ≤ mostImage
-  pub key-high : K ≤ mostKey
-  pub slots-high : N ≤ mostSlots
-  pub fits : dataStart K N ≤ L
+use Rattle.bhtf.proofs.Opened.{firstNo-none, firstNo-yes, firstNo-no}
 
 pub key-most : (K : ℕ) → keyAllowed K ≡ true → K ≤ mostKey
 unfolding keyAllowed
@@ -34,14 +25,6 @@ key-most K h = leb-true K mostKey (and-right (leb 1 K) (leb K mostKey) h)
 pub slots-most : (N : ℕ) → slotsAllowed N ≡ true → N ≤ mostSlots
 unfolding slotsAllowed
 slots-most N h = leb-true N mostSlots h
-
-size-most : (L : ℕ) → sizeAllowed L ≡ true → L ≤ mostImage
-unfolding sizeAllowed
-size-most L h = leb-true L mostImage (and-right (eqb (L % pageSize) 0 && leb pageSize L) (leb L mostImage) h)
-
-table-fits : (L K N : ℕ) → tableFits L K N ≡ true → dataStart K N ≤ L
-unfolding tableFits
-table-fits L K N h = leb-true (dataStart K N) L h
 
 module _ (L K N : ℕ) where
   pub create-1 : sizeAllowed L ≡ false → createNumber L K N ≡ 1
@@ -71,20 +54,6 @@ module _ (L K N : ℕ) where
       ∙ firstNo-yes 3 _ _ c
       ∙ firstNo-yes 4 _ _ (le-leb (dataStart K N) L d)
       ∙ firstNo-none
-
-  pub accepted-facts : createNumber L K N ≡ 0 → Accepted L K N
-  unfolding createNumber createAsks
-  accepted-facts h =
-      let h2 = firstNo-tail 1 (sizeAllowed L) _ (λ z. omega arith) h in
-      let h3 = firstNo-tail 2 (keyAllowed K) _ (λ z. omega arith) h2 in
-      let h4 = firstNo-tail 3 (slotsAllowed N) _ (λ z. omega arith) h3 in
-      record {
-        size-low = size-least L (firstNo-head 1 (sizeAllowed L) _ (λ z. omega arith) h);
-        size-high = size-most L (firstNo-head 1 (sizeAllowed L) _ (λ z. omega arith) h);
-        key-high = key-most K (firstNo-head 2 (keyAllowed K) _ (λ z. omega arith) h2);
-        slots-high = slots-most N (firstNo-head 3 (slotsAllowed N) _ (λ z. omega arith) h3);
-        fits = table-fits L K N (firstNo-head 4 (tableFits L K N) _ (λ z. omega arith) h4);
-      }
 
 -- ---- the call, by its number n
 module _ (img : Bytes) (K N seed n : ℕ) (e : n ≡ createNumber (length img) K (slotsAsked N)) where
