@@ -5,25 +5,25 @@
 --     slot-takeSpace
 -- Assumes nothing.
 use mathlib.Core.Path.{_≡_, refl, sym, ap, _∙_, subst}
-use Prim.Native.Nat.{ℕ, _+_, _≤_, _<_, _^_}
+use Prim.Native.Nat.{ℕ, _+_, _≤_, _<_}
 use native.Mathlib.Omega.{arith}
-use mathlib.Core.Bool.{true, false}
+use mathlib.Core.Bool.{true}
 use mathlib.Core.Logic.{inl, inr}
 use mathlib.Core.List.{[], _∷_}
 use lib.ListN.{length}
 use Rattle.bhtf.specs.Bytes.{Bytes, part, store}
 use Rattle.bhtf.specs.Limits.{inactive, pointsField, freeField, pageField, tableStart}
-use Rattle.bhtf.specs.Image.{field, setField, lastPage, Layout, layoutOf, slot}
+use Rattle.bhtf.specs.Image.{field, setField, lastPage, layoutOf, slot}
 use Rattle.bhtf.specs.Messages.{headSize, isActive, message, setFree, takeSpace, retire}
-use Rattle.bhtf.specs.Questions.{openNumber, messageSound}
+use Rattle.bhtf.specs.Questions.{messageSound}
 use Rattle.bhtf.proofs.Tests.{by-bool}
 use Rattle.bhtf.proofs.Bytes.{Apart, part-store-other}
 use Rattle.bhtf.proofs.Slots.{Room, length-setField, field-setField-same, field-setField-other, field-store-other}
 use Rattle.bhtf.proofs.Slots.{slot-store-data, slot-setField}
-use Rattle.bhtf.proofs.Opened.{Opened, opened-facts, facts-opened, opened-room}
+use Rattle.bhtf.proofs.Opened.{Opened, opened-room}
 use Rattle.bhtf.proofs.Kept.{Kept, kept-refl, kept-trans, kept-store, kept-free, kept-page, kept-layout, opened-kept}
 use Rattle.messages.proofs.Placed.{message-written, length-written}
-use Rattle.messages.proofs.Sound.{head-four, layout-area, area-low, SoundAt, sound-facts, active-some}
+use Rattle.messages.proofs.Sound.{head-four, layout-area, area-low, sound-facts, active-some}
 
 -- ---- a message made inactive
 module _ (img : Bytes) (f : Opened img) (o : ℕ) (s : messageSound (layoutOf img) img o ≡ true) where
