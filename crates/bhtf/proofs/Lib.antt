@@ -1,6 +1,7 @@
 pub mod Tests
 pub mod Bytes
 pub mod Slots
+pub mod Stores
 pub mod Cyclic
 pub mod Total
 pub mod Table
