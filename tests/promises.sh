@@ -18,7 +18,7 @@ while IFS='#' read -r path name; do
   if [ ! -f "$path" ]; then
     echo "$doc names $path, which is not there"
     bad=1
-  elif ! grep -qE "^ *((unfoldable|abbrev|pub|fn|extern \"C\"|record|data) )*(fn )?$(printf '%s' "$name" | sed 's/[.[\*^$+?(){|]/\\&/g')( |\(|$)" "$path"; then
+  elif ! grep -qE "^ *((unfoldable|abbrev|pub|fn|extern \"C\"|record|data) )*(fn )?$(printf '%s' "$name" | sed 's/[.[\*^$+?(){|]/\\&/g')( |\(|<|$)" "$path"; then
     echo "$doc names $name in $path, which does not declare it"
     bad=1
   fi

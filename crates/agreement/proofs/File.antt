@@ -4,6 +4,7 @@
 --     pointOf g img key     name, text and length held of a point, as the book has them
 --     Change g img img′ key what a step that concerns the point `key` alone leaves
 --     file-change, point-other    such a step keeps the invariant, and every other point
+--     change-trans, change-any    changes in turn; a step that concerns no point
 -- Assumes nothing.
 use mathlib.Core.Path.{_≡_, refl, sym, ap, ap₂, _∙_, subst}
 use Prim.Native.Nat.{ℕ, zero, suc, _+_, _-_, _*_, _^_, _≤_, _<_}
@@ -25,9 +26,9 @@ use Rattle.bhtf.proofs.Tests.{by-bool, by-eq, and-left, and-right, not-both}
 use Rattle.bhtf.proofs.Bytes.{Apart, same-true, same-false}
 use Rattle.bhtf.proofs.Slots.{Room}
 use Rattle.bhtf.proofs.Opened.{Opened, opened-room}
-use Rattle.bhtf.proofs.Kept.{Kept, kept-layout, opened-kept}
+use Rattle.bhtf.proofs.Kept.{Kept, kept-trans, kept-layout, opened-kept}
 use Rattle.bhtf.proofs.Table.{Sound, entryOf, weight}
-use Rattle.agreement.proofs.Stretch.{size, Lies, sound-lies, lies-sound, none-sound, SameOn, letterAt-same, lengthAt-same, shown-same, held-same, lies-same}
+use Rattle.bhtf.proofs.Stretch.{size, Lies, sound-lies, lies-sound, none-sound, SameOn, same-on-trans, letterAt-same, lengthAt-same, shown-same, held-same, lies-same}
 
 -- ---- names
 
@@ -211,3 +212,59 @@ module _ (g : Layout) (img img′ key : Bytes) (f : File g img) (c : Change g im
           let same-on = c .still key′ s a n e z in
           ap₂ (λ (t : Bytes) (h : ℕ). record { name = key′; text = t; held = h })
           (shown-same g img img′ (offsetOf g s) same-on) (held-same g img img′ (offsetOf g s) same-on))
+
+-- ---- changes in turn
+
+module _ (g : Layout) (img img₁ img₂ key : Bytes) (c : Change g img img₁ key) (d : Change g img₁ img₂ key) where
+  on₁ : (key′ s : Bytes) → Allowed g key′ → (key′ ≡ key → ⊥) → entryOf g img key′ ≡ some s → entryOf g img₁ key′ ≡ some s
+  on₁ key′ s a n e = c .others key′ a n ∙ e
+
+  size₁ : (key′ s : Bytes) → Allowed g key′ → (key′ ≡ key → ⊥) → entryOf g img key′ ≡ some s → (offsetOf g s ≡ 0 → ⊥)
+      → size g img₁ (offsetOf g s) ≡ size g img (offsetOf g s)
+  size₁ key′ s a n e z =
+      ap (λ (m : ℕ). headSize g + m) (lengthAt-same g img img₁ (offsetOf g s) (c .still key′ s a n e z))
+
+  pub change-trans : Change g img img₂ key
+  change-trans =
+      record {
+        kept = kept-trans (c .kept) (d .kept);
+        free-low = omega (arith, c .free-low, d .free-low);
+        free-high = omega (arith, d .free-high, c .kept .size);
+        points = d .points;
+        sound = d .sound;
+        counted = d .counted;
+        others = λ key′ a n. d .others key′ a n ∙ c .others key′ a n;
+        still =
+            λ key′ s a n e z.
+            same-on-trans (c .still key′ s a n e z)
+            (subst (λ (m : ℕ). SameOn img₁ img₂ (offsetOf g s) m) (size₁ key′ s a n e z) (d .still key′ s a n (on₁ key′ s a n e) z));
+        here = d .here;
+        here-apart =
+            λ s key′ s′ a a′ n e e′ z z′.
+            subst (λ (m : ℕ). Apart (offsetOf g s) (size g img₂ (offsetOf g s)) (offsetOf g s′) m) (size₁ key′ s′ a′ n e′ z′)
+            (d .here-apart s key′ s′ a a′ n e (on₁ key′ s′ a′ n e′) z z′);
+      }
+
+-- a step that concerns no point is a change to any
+module _ (g : Layout) (img img′ : Bytes) (f : File g img) (c : Change g img img′ []) (key : Bytes) where
+  none-of : (k : Bytes) → Allowed g k → k ≡ [] → ⊥
+  none-of k a q = not-allowed f (rw q at a)
+
+  pub change-any : Change g img img′ key
+  change-any =
+      record {
+        kept = c .kept;
+        free-low = c .free-low;
+        free-high = c .free-high;
+        points = c .points;
+        sound = c .sound;
+        counted = c .counted;
+        others = λ key′ a n. c .others key′ a (none-of key′ a);
+        still = λ key′ s a n e z. c .still key′ s a (none-of key′ a) e z;
+        here = λ s a e. file-change g img img′ [] f c .messages key s a e;
+        here-apart =
+            λ s key′ s′ a a′ n e e′ z z′.
+            subst (λ (m : ℕ). Apart (offsetOf g s) (size g img′ (offsetOf g s)) (offsetOf g s′) m)
+            (ap (λ (m : ℕ). headSize g + m) (lengthAt-same g img img′ (offsetOf g s′) (c .still key′ s′ a′ (none-of key′ a′) e′ z′)))
+            (file-change g img img′ [] f c .apart key key′ s s′ a a′ (λ q. n (sym q)) e (c .others key′ a′ (none-of key′ a′) ∙ e′) z z′);
+      }

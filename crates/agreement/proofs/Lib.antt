@@ -1,7 +1,15 @@
-pub mod Stretch
 pub mod File
 pub mod Data
 pub mod Retire
 pub mod Space
 pub mod Overwrite
 pub mod Slots
+pub mod Entries
+pub mod Reflect
+pub mod Simple
+pub mod Place
+pub mod Add
+pub mod Fresh
+pub mod Theorem
+pub mod Reached
+pub mod Users

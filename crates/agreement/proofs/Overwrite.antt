@@ -26,7 +26,7 @@ use Rattle.bhtf.proofs.Kept.{Kept, kept-refl, kept-trans, kept-store, kept-free
 use Rattle.bhtf.proofs.Table.{Sound, entryOf, weight}
 use Rattle.bhtf.proofs.Probe.{entryOf-frame}
 use Rattle.bhtf.proofs.Insert.{weight-frame, sound-keys}
-use Rattle.agreement.proofs.Stretch.{size, Lies, sound-lies, lies-sound, none-sound, SameOn, same-on-refl, same-on-trans, same-on-store, lengthAt-same, textAt-same, letterAt-same}
+use Rattle.bhtf.proofs.Stretch.{size, Lies, sound-lies, lies-sound, none-sound, SameOn, same-on-refl, same-on-trans, same-on-store, lengthAt-same, textAt-same, letterAt-same}
 use Rattle.agreement.proofs.Data.{frame-entry, frame-sound, file-above, store-slot, store-entry, store-field, change-store, change-refl, point-lies, point-end, point-away, some-same}
 use Rattle.agreement.proofs.Space.{Written, length-message, written, written-value, written-lies}
 use Rattle.agreement.proofs.File.{Allowed, valueOf, pointOf, pointOf-some, File, file-slots, file-data, file-room, file-some, Change, file-change, apart-sym}

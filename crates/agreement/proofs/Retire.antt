@@ -26,13 +26,13 @@ use Rattle.bhtf.proofs.Kept.{Kept, kept-refl, kept-trans, kept-store, kept-free
 use Rattle.bhtf.proofs.Table.{Sound, entryOf, weight}
 use Rattle.bhtf.proofs.Probe.{entryOf-frame}
 use Rattle.bhtf.proofs.Insert.{weight-frame, sound-keys}
-use Rattle.agreement.proofs.Stretch.{size, Lies, sound-lies, lies-sound, none-sound, SameOn, same-on-refl, same-on-trans, same-on-store, lengthAt-same, textAt-same, letterAt-same}
+use Rattle.bhtf.proofs.Stretch.{size, Lies, sound-lies, lies-sound, none-sound, SameOn, same-on-refl, same-on-trans, same-on-store, lengthAt-same, textAt-same, letterAt-same}
 use Rattle.agreement.proofs.Data.{store-slot, store-entry, store-field, change-store, change-refl, point-lies, point-end, point-away, some-same}
 use Rattle.agreement.proofs.File.{Allowed, valueOf, pointOf, pointOf-some, File, file-slots, file-data, file-room, file-some, Change, file-change, apart-sym}
 
 -- ---- retire
 
-active-offset : (img : Bytes) (o : ℕ) → isActive img o ≡ true → o ≡ 0 → ⊥
+pub active-offset : (img : Bytes) (o : ℕ) → isActive img o ≡ true → o ≡ 0 → ⊥
 unfolding isActive
 active-offset img o h z = not-both (eqb o 0) (eq-eqb o 0 z) (not-true (eqb o 0) (and-left (not (eqb o 0)) _ h))
 
@@ -44,7 +44,7 @@ retire-inactive : (img : Bytes) (o : ℕ) → isActive img o ≡ false → retir
 unfolding retire
 retire-inactive img o h = rw h refl
 
-shown-inactive : (g : Layout) (img : Bytes) (o : ℕ) → isActive img o ≡ false → shown g img o ≡ []
+pub shown-inactive : (g : Layout) (img : Bytes) (o : ℕ) → isActive img o ≡ false → shown g img o ≡ []
 unfolding shown
 shown-inactive g img o h = rw h refl
 

@@ -26,11 +26,11 @@ use Rattle.bhtf.proofs.Opened.{Opened}
 use Rattle.bhtf.proofs.Kept.{Kept, kept-trans, kept-store, kept-points}
 use Rattle.bhtf.proofs.Table.{Sound, Taken, keyAt, entryOf, weight}
 use Rattle.bhtf.proofs.Probe.{search-met, search-empty, met-taken, search-keys}
-use Rattle.bhtf.proofs.Insert.{weight-frame, insert-sound, insert-entry, insert-other, insert-weight, replace-sound, replace-entry, replace-other, replace-weight, entry-met, delete-entry, delete-other}
-use Rattle.bhtf.proofs.Frames.{part-closed-header, part-closed-data, field-closed, weight-closed, stands-closed, Stands}
+use Rattle.bhtf.proofs.Insert.{Stands, weight-frame, insert-sound, insert-entry, insert-other, insert-weight, replace-sound, replace-entry, replace-other, replace-weight, entry-met, delete-entry, delete-other}
+use Rattle.bhtf.proofs.Frames.{part-closed-header, part-closed-data, field-closed, weight-closed, stands-closed}
 use Rattle.bhtf.proofs.Walk.{length-closed}
 use Rattle.bhtf.proofs.Delete.{sound-closed, gone-closed}
-use Rattle.agreement.proofs.Stretch.{size, Lies, sound-lies, lies-sound, none-sound, SameOn, same-on-trans, same-on-store, lengthAt-same, shown-same, held-same, lies-same}
+use Rattle.bhtf.proofs.Stretch.{size, Lies, sound-lies, lies-sound, none-sound, SameOn, same-on-trans, same-on-store, lengthAt-same, shown-same, held-same, lies-same}
 use Rattle.agreement.proofs.Data.{frame-entry, frame-sound, file-above, some-same}
 use Rattle.agreement.proofs.File.{Allowed, allowed-length, allowed-zero, valueOf, pointOf, pointOf-some, pointOf-none, none-value, File, file-slots, file-data, file-room, file-some, Change, file-change, apart-sym}
 

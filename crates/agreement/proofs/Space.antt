@@ -1,6 +1,6 @@
 -- New space at X: the file as before, every point as before, and a message at the old X that belongs to no point yet.
 --     Written g img p t      the message t stands at p, active
---     space-file, space-point, space-slot      what stays
+--     space-change, space-file, space-slot      what stays
 --     space-free, space-written, space-lies, space-away      X afterwards, and the new message
 -- Assumes nothing.
 use mathlib.Core.Path.{_≡_, refl, sym, ap, ap₂, _∙_, subst}
@@ -29,9 +29,9 @@ use Rattle.bhtf.proofs.Kept.{Kept, kept-refl, kept-trans, kept-store, kept-free
 use Rattle.bhtf.proofs.Table.{Sound, entryOf, weight}
 use Rattle.bhtf.proofs.Probe.{entryOf-frame}
 use Rattle.bhtf.proofs.Insert.{weight-frame, sound-keys}
-use Rattle.agreement.proofs.Stretch.{size, Lies, sound-lies, lies-sound, none-sound, SameOn, same-on-refl, same-on-trans, same-on-store, lengthAt-same, textAt-same, letterAt-same}
+use Rattle.bhtf.proofs.Stretch.{size, Lies, sound-lies, lies-sound, none-sound, SameOn, same-on-refl, same-on-trans, same-on-store, lengthAt-same, textAt-same, letterAt-same}
 use Rattle.agreement.proofs.Data.{frame-entry, frame-sound, file-above, store-slot, store-entry, store-field, change-store}
-use Rattle.agreement.proofs.File.{Allowed, not-allowed, valueOf, pointOf, pointOf-some, File, file-slots, file-data, file-room, file-some, Change, file-change, point-other}
+use Rattle.agreement.proofs.File.{Allowed, not-allowed, valueOf, pointOf, pointOf-some, File, file-slots, file-data, file-room, file-some, Change, file-change, change-trans}
 
 -- ---- a message that was written
 
@@ -191,10 +191,13 @@ module _ (g : Layout) (img : Bytes) (f : File g img) (t : Bytes) (small : length
   unfolding takeSpace stored ends
   is-space = refl
 
-  pub space-file : File g (takeSpace g img t)
-  space-file =
+  pub space-change : Change g img (takeSpace g img t) []
+  space-change =
       rw is-space
-      (file-change g stored (setFree g stored ends) [] stored-file (setFree-change g stored stored-file ends up₁ hi₁))
+      (change-trans g img stored (setFree g stored ends) [] stored-change (setFree-change g stored stored-file ends up₁ hi₁))
+
+  pub space-file : File g (takeSpace g img t)
+  space-file = file-change g img (takeSpace g img t) [] f space-change
 
   pub space-slot : (k : ℕ) → k < g .N → slot g (takeSpace g img t) k ≡ slot g img k
   unfolding stored
@@ -216,15 +219,6 @@ module _ (g : Layout) (img : Bytes) (f : File g img) (t : Bytes) (small : length
       ap (λ (i : Bytes). field i pointsField) is-space
       ∙ setFree-points g stored stored-file ends up₁ hi₁
       ∙ store-field g img f (field img freeField) (message g t) low fits₁ pointsField (omega arith)
-
-  pub space-point : (key : Bytes) → Allowed g key → pointOf g (takeSpace g img t) key ≡ pointOf g img key
-  space-point key a =
-      ap (λ (i : Bytes). pointOf g i key) is-space
-      ∙ point-other g stored (setFree g stored ends) [] stored-file (setFree-change g stored stored-file ends up₁ hi₁) key a other
-      ∙ point-other g img stored [] f stored-change key a other
-    where
-      other : key ≡ [] → ⊥
-      other q = not-allowed f (rw q at a)
 
   pub space-written : Written g (takeSpace g img t) (field img freeField) t
   unfolding stored
@@ -248,8 +242,5 @@ module _ (g : Layout) (img : Bytes) (f : File g img) (t : Bytes) (small : length
       → Apart (field img freeField) (size g (takeSpace g img t) (field img freeField)) (offsetOf g s) (size g (takeSpace g img t) (offsetOf g s))
   space-away key s a e z =
       let e′ : entryOf g img key ≡ some s = sym (space-entry key) ∙ e in
-      let l = sound-lies g img (offsetOf g s) (f .messages key s a e′) z in
-      let same-on : SameOn img (setFree g stored ends) (offsetOf g s) (size g img (offsetOf g s)) =
-      same-on-trans (stored-change .still key s a (λ q. not-allowed f (rw q at a)) e′ z)
-      (setFree-same g stored stored-file ends up₁ hi₁ _ _ (l .low)) in
-      inr (rw (is-space, lengthAt-same g img (setFree g stored ends) (offsetOf g s) same-on) (below key s a e′ z))
+      let same-on = space-change .still key s a (λ q. not-allowed f (rw q at a)) e′ z in
+      inr (rw (lengthAt-same g img (takeSpace g img t) (offsetOf g s) same-on) (below key s a e′ z))

@@ -174,3 +174,10 @@ free-4 = refl
 pub zeros-7 : told (point 0 ∷ deleting (0 ∷ []) ∷ looking (0 ∷ []) ∷ []) (fresh 4096 4) ≡ 7 ∷ 7 ∷ 7 ∷ []
 unfolding told fresh
 zeros-7 = refl
+
+-- ---- mistakes to expect
+
+-- "000 compares keys as C strings and stops at a zero byte."
+pub same-past-zero : same (1 ∷ 0 ∷ 2 ∷ []) (1 ∷ 0 ∷ 3 ∷ []) ≡ false
+unfolding same
+same-past-zero = refl

@@ -16,13 +16,9 @@ use Rattle.bhtf.specs.Search.{dist}
 use Rattle.bhtf.specs.Messages.{moved}
 use Rattle.bhtf.proofs.Slots.{Room, length-slot, length-putSlot, slot-putSlot-same, slot-putSlot-other, length-blank, vacant-blank}
 use Rattle.bhtf.proofs.Cyclic.{dist-lt, round3}
+use Rattle.bhtf.proofs.Probe.{home-lt}
 use Rattle.bhtf.proofs.Total.{total, total-change, total-bound}
 use Rattle.bhtf.proofs.Table.{Taken, keyAt, homeAt}
-
--- a home is a slot
-pub home-lt : (g : Layout) (key : Bytes) → 0 < g .N → home g key < g .N
-unfolding home
-home-lt g key h = mod-lt (g .hashed key) h
 
 -- ---- sums over the slots
 unfoldable pub over : Layout → Bytes → (ℕ → Bytes → ℕ) → ℕ

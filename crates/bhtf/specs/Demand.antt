@@ -36,13 +36,13 @@ termsOf L K N = record { K = K; N = N; R = L - dataStart K N; head = lengthWidth
 
 -- On a list of calls the image's answers are the book's, in order; and after the list the file finds exactly the book's points
 -- with the book's texts.
-pub Agrees : Bytes → Book → List Call → Type 0
+unfoldable pub Agrees : Bytes → Book → List Call → Type 0
 Agrees img b calls =
     (answers perform calls img ≡ answers bookStep calls b)
     × ((name : Bytes) → fileText (stateAfter perform calls img) name ≡ bookText (stateAfter bookStep calls b) name)
 
 -- Demand 3: for every slice, K, N and seed that create accepts, and for every list of calls, refused ones included
-pub Agreement : Type 0
+unfoldable pub Agreement : Type 0
 Agreement =
     (img : Bytes) (K N seed : ℕ) → create img K N seed .answer .number ≡ 0
     → (calls : List Call)

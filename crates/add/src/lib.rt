@@ -1,0 +1,1 @@
+// Add, in its three modes.

@@ -1,0 +1,86 @@
+-- The book and the file say the same: the relation that every call keeps.
+--     Reflects g img b      the file img, of layout g, holds what the book b says
+--     reflect-entered, reflect-without      kept by a change to one point
+-- Assumes nothing.
+use mathlib.Core.Path.{_≡_, refl, sym, ap, ap₂, _∙_, subst}
+use Prim.Native.Nat.{ℕ, zero, suc, _+_, _-_, _*_, _^_, _≤_, _<_}
+use native.Mathlib.Omega.{arith}
+use mathlib.Core.Bool.{Bool, true, false}
+use mathlib.Core.List.{List, [], _∷_}
+use mathlib.Core.Option.{Option, none, some}
+use lib.ListN.{length}
+use Rattle.bhtf.specs.Bytes.{Bytes}
+use Rattle.bhtf.specs.Limits.{pointsField, freeField}
+use Rattle.bhtf.specs.Image.{field, Layout, layoutOf}
+use Rattle.bhtf.specs.Messages.{headSize}
+use Rattle.bhtf.specs.Questions.{nameAllowed}
+use Rattle.bhtf.specs.Book.{Entry, Terms, Book, find, without, withEntry, entered}
+use Rattle.bhtf.proofs.Tests.{by-bool, not-both}
+use Rattle.bhtf.proofs.Kept.{Kept}
+use Rattle.agreement.proofs.File.{Allowed, by-name, pointOf, File, Change, file-change, point-other}
+use Rattle.agreement.proofs.Entries.{Distinct, find-without-other, find-without-same, distinct-without, find-withEntry, find-withEntry-other, distinct-withEntry}
+
+-- the book's terms of a file of L bytes
+abbrev pub termsFor : Layout → ℕ → Terms
+termsFor g L = record { K = g .K; N = g .N; R = L - g .D; head = headSize g; most = g .most }
+
+pub record Reflects (g : Layout) (img : Bytes) (b : Book) : Type 0 where
+  pub file : File g img
+  pub terms : b .terms ≡ termsFor g (length img)
+  pub used : field img freeField ≡ g .D + b .used
+  pub number : length (b .entries) ≡ field img pointsField
+  pub points : (name : Bytes) → Allowed g name → pointOf g img name ≡ find name (b .entries)
+  pub others : (name : Bytes) → nameAllowed (g .K) name ≡ false → find name (b .entries) ≡ none
+  pub distinct : Distinct (b .entries)
+
+-- a name that is not allowed is not one that is
+pub other-name : (g : Layout) (key name : Bytes) → Allowed g key → nameAllowed (g .K) name ≡ false → name ≡ key → ⊥
+other-name g key name a h q = not-both (nameAllowed (g .K) name) (rw q a) h
+
+module _ (g : Layout) (img img′ key : Bytes) (b : Book) (r : Reflects g img b) (a : Allowed g key) (c : Change g img img′ key) where
+  terms₁ : b .terms ≡ termsFor g (length img′)
+  terms₁ = rw (c .kept .size) (r .terms)
+
+  -- the point has a text and a length held
+  pub reflect-entered : (text : Bytes) (held more : ℕ)
+      → pointOf g img′ key ≡ some (record { name = key; text = text; held = held })
+      → field img′ freeField ≡ field img freeField + more
+      → length (withEntry (record { name = key; text = text; held = held }) (b .entries)) ≡ field img′ pointsField
+      → Reflects g img′ (entered b key text held more)
+  unfolding entered
+  reflect-entered text held more p x n =
+      record {
+        file = file-change g img img′ key (r .file) c;
+        terms = terms₁;
+        used = omega (arith, x, r .used);
+        number = n;
+        points =
+            λ name a′.
+            by-name name key
+            (λ q. ap (pointOf g img′) q ∙ p ∙ sym (ap (λ (k : Bytes). find k (withEntry new (b .entries))) q ∙ find-withEntry new (b .entries)))
+            (λ q. point-other g img img′ key (r .file) c name a′ q ∙ r .points name a′ ∙ sym (find-withEntry-other new (b .entries) name q));
+        others = λ name h. find-withEntry-other new (b .entries) name (other-name g key name a h) ∙ r .others name h;
+        distinct = distinct-withEntry new (b .entries) (r .distinct);
+      }
+    where
+      new : Entry
+      new = record { name = key; text = text; held = held }
+
+  -- the point is gone
+  pub reflect-without : pointOf g img′ key ≡ none → field img′ freeField ≡ field img freeField
+      → length (without key (b .entries)) ≡ field img′ pointsField
+      → Reflects g img′ (record { terms = b .terms; entries = without key (b .entries); used = b .used })
+  reflect-without p x n =
+      record {
+        file = file-change g img img′ key (r .file) c;
+        terms = terms₁;
+        used = x ∙ r .used;
+        number = n;
+        points =
+            λ name a′.
+            by-name name key
+            (λ q. ap (pointOf g img′) q ∙ p ∙ sym (ap (λ (k : Bytes). find k (without key (b .entries))) q ∙ find-without-same key (b .entries) (r .distinct)))
+            (λ q. point-other g img img′ key (r .file) c name a′ q ∙ r .points name a′ ∙ sym (find-without-other key name (b .entries) q));
+        others = λ name h. find-without-other key name (b .entries) (other-name g key name a h) ∙ r .others name h;
+        distinct = distinct-without key (b .entries) (r .distinct);
+      }

@@ -1,0 +1,297 @@
+-- Count, lookup and delete: the file's answer is the book's, and the relation is kept.
+--     Same g o p      an outcome of the file and one of the book: equal answers, and states that reflect one another
+-- Assumes nothing.
+use mathlib.Core.Path.{_≡_, refl, sym, ap, ap₂, _∙_, subst}
+use Prim.Native.Nat.{ℕ, zero, suc, _+_, _-_, _*_, _^_, _≤_, _<_}
+use native.Mathlib.Omega.{arith}
+use native.Mathlib.Numerals.{add-one}
+use mathlib.Core.Bool.{Bool, true, false, cond, not, _&&_}
+use mathlib.Core.List.{List, [], _∷_}
+use mathlib.Core.Option.{Option, none, some}
+use lib.ListN.{length}
+use lib.Dec.{eqb, leb}
+use borrow.Author.Tests.{eqb-true, eq-eqb, ne-eqb, le-leb}
+use Rattle.bhtf.specs.Bytes.{Bytes, part}
+use Rattle.bhtf.specs.Limits.{pointsField, freeField}
+use Rattle.bhtf.specs.Image.{field, setField, Layout, layoutOf, slot, offsetOf}
+use Rattle.bhtf.specs.Search.{Probe, met, empty, exhausted, search, isMet, slotOf}
+use Rattle.bhtf.specs.Messages.{headSize, isActive, textAt, lengthAt, shown, held, retire, closed, deleted, deletedAt}
+use Rattle.bhtf.specs.Questions.{Question, ask, firstNo, nameAllowed, messageSound, metMessageSound, somePoint, opened, openNumber, lookupAsks, deleteAsks, lookupNumber, deleteNumber}
+use Rattle.bhtf.specs.Calls.{Answer, Outcome, plain, settled, delete, lookup, lookupOffset, lookupStart, lookupLength, count, countOf}
+use Rattle.bhtf.specs.Book.{Entry, Book, find, without, stepOf, guarded, bookDelete, deleteFound, bookLookup, lookupFound, bookCount}
+use Rattle.bhtf.proofs.Tests.{by-bool, not-both, and-true}
+use Rattle.bhtf.proofs.Bytes.{part-length}
+use Rattle.bhtf.proofs.Opened.{firstNo-none, firstNo-yes, firstNo-no, facts-opened, firstNo-opened}
+use Rattle.bhtf.proofs.Outcomes.{settled-yes, settled-no}
+use Rattle.bhtf.proofs.Table.{entryOf, weight}
+use Rattle.bhtf.proofs.Probe.{by-search, search-frame}
+use Rattle.bhtf.proofs.Insert.{entry-met, entry-empty, entry-exhausted}
+use Rattle.bhtf.proofs.Stretch.{sound-lies}
+use Rattle.agreement.proofs.File.{Allowed, valueOf, pointOf, pointOf-some, pointOf-none, File, file-some, Change, file-change, change-trans}
+use Rattle.agreement.proofs.Data.{point-end}
+use Rattle.agreement.proofs.Retire.{active-offset, shown-active, shown-inactive, retire-change, retire-slot, retire-entry, retire-field, retire-value}
+use Rattle.agreement.proofs.Slots.{remove-change, remove-point, remove-points, remove-free}
+use Rattle.agreement.proofs.Entries.{length-without}
+use Rattle.agreement.proofs.Reflect.{Reflects, reflect-without}
+
+pub record Same (g : Layout) (o : Outcome Bytes) (p : Outcome Book) : Type 0 where
+  pub answer : o .answer ≡ p .answer
+  pub after : Reflects g (o .after) (p .after)
+
+-- ---- outcomes by their numbers
+
+pub guarded-yes : (b : Book) (asks : List Question) (s : Outcome Book) → firstNo asks ≡ 0 → guarded b asks s ≡ s
+unfolding guarded
+guarded-yes b asks s h = rw h refl
+
+pub guarded-no : (b : Book) (asks : List Question) (s : Outcome Book) → (firstNo asks ≡ 0 → ⊥) → guarded b asks s ≡ stepOf b asks b
+unfolding guarded
+guarded-no b asks s h = rw (ne-eqb (firstNo asks) 0 h) refl
+
+module _ (g : Layout) (img : Bytes) (b : Book) (r : Reflects g img b) (n : ℕ) (x : Bytes) (asks : List Question) (y : Book) where
+  pub same-refused : n ≡ firstNo asks → (firstNo asks ≡ 0 → ⊥)
+      → Same g (record { after = settled n img x; answer = plain n }) (stepOf b asks y)
+  unfolding stepOf
+  same-refused e z =
+      record {
+        answer = ap plain e;
+        after = rw (settled-no n img x (λ q. z (sym e ∙ q)), ne-eqb (firstNo asks) 0 z) r;
+      }
+
+  pub same-accepted : n ≡ 0 → firstNo asks ≡ 0 → Reflects g x y
+      → Same g (record { after = settled n img x; answer = plain n }) (stepOf b asks y)
+  unfolding stepOf
+  same-accepted e e′ s =
+      record { answer = ap plain (e ∙ sym e′); after = rw (settled-yes n img x e, e′) s }
+
+-- ---- a point that is met, or absent
+
+module _ (g : Layout) (img : Bytes) (b : Book) (r : Reflects g img b) (key : Bytes) where
+  pub book-key : b .terms .K ≡ g .K
+  book-key = ap (λ (t : Rattle.bhtf.specs.Book.Terms). t .K) (r .terms)
+
+  pub open₀ : openNumber img ≡ 0
+  open₀ = facts-opened img (r .file .opened)
+
+  pub found-met : Allowed g key → (i : ℕ) → search g img key ≡ met i
+      → find key (b .entries) ≡ some (valueOf g img key (offsetOf g (slot g img i)))
+  found-met a i m =
+      sym (r .points key a) ∙ pointOf-some g img key (slot g img i) (entry-met g img key i m)
+
+  pub found-none : Allowed g key → isMet (search g img key) ≡ false → find key (b .entries) ≡ none
+  unfolding isMet
+  found-none a h =
+      sym (r .points key a)
+      ∙ pointOf-none g img key
+      (by-search g img key (file-some (r .file))
+      (λ i m. absurd (not-both (isMet (search g img key)) (ap isMet m) h))
+      (λ i m. entry-empty g img key i m)
+      (λ m. entry-exhausted g img key m))
+
+  pub met-sound : Allowed g key → (i : ℕ) → search g img key ≡ met i → messageSound g img (offsetOf g (slot g img i)) ≡ true
+  met-sound a i m = r .file .messages key (slot g img i) a (entry-met g img key i m)
+
+  -- a search either meets the key or does not
+  pub by-met {ℓ} : {A : Type ℓ} → ((i : ℕ) → search g img key ≡ met i → A) → (isMet (search g img key) ≡ false → A) → A
+  unfolding isMet
+  by-met y n =
+      by-search g img key (file-some (r .file)) y (λ i m. n (ap isMet m)) (λ m. n (ap isMet m))
+
+-- ---- count
+
+pub same-count : (g : Layout) (img : Bytes) (b : Book) → Reflects g img b → Same g (count img) (bookCount b)
+unfolding count countOf bookCount
+same-count g img b r =
+    record {
+      answer = rw (open₀ g img b r [], r .number) refl;
+      after = r;
+    }
+
+-- ---- lookup
+
+module _ (g : Layout) (img : Bytes) (b : Book) (r : Reflects g img b) (key : Bytes) where
+  lookup-number : lookupNumber img key ≡ firstNo (lookupAsks g img (search g img key) key)
+  unfolding lookupNumber
+  lookup-number =
+      firstNo-opened img (lookupAsks (layoutOf img) img (search (layoutOf img) img key) key) (open₀ g img b r key)
+      ∙ ap (λ (l : Layout). firstNo (lookupAsks l img (search l img key) key)) (r .file .layout)
+
+  lookup-name : nameAllowed (g .K) key ≡ false → lookupNumber img key ≡ 7
+  unfolding lookupAsks
+  lookup-name h = lookup-number ∙ firstNo-no 7 _ _ h
+
+  lookup-absent : Allowed g key → isMet (search g img key) ≡ false → lookupNumber img key ≡ 14
+  unfolding lookupAsks
+  lookup-absent a h = lookup-number ∙ firstNo-yes 7 _ _ a ∙ firstNo-no 14 _ _ h
+
+  lookup-met : Allowed g key → (i : ℕ) → search g img key ≡ met i → lookupNumber img key ≡ 0
+  unfolding lookupAsks isMet metMessageSound
+  lookup-met a i m =
+      lookup-number
+      ∙ firstNo-yes 7 _ _ a
+      ∙ firstNo-yes 14 _ _ (ap isMet m)
+      ∙ firstNo-yes 11 _ _ (ap (metMessageSound g img) m ∙ met-sound g img b r key a i m)
+      ∙ firstNo-none
+
+  -- refused: the image's first 0 bytes
+  lookup-refused : (lookupNumber img key ≡ 0 → ⊥) → lookup img key .answer ≡ plain (lookupNumber img key)
+  unfolding lookup lookupLength lookupStart lookupOffset plain held part
+  lookup-refused z = rw (ne-eqb (lookupNumber img key) 0 z) refl
+
+  -- accepted: the point's active message
+  module _ (a : Allowed g key) (i : ℕ) (m : search g img key ≡ met i) where
+    abbrev at : ℕ
+    at = offsetOf g (slot g img i)
+
+    offset-is : lookupOffset img key ≡ cond (isActive img at) at 0
+    unfolding lookupOffset slotOf
+    offset-is = rw (lookup-met a i m, r .file .layout, m) refl
+
+    active-text : isActive img at ≡ true
+        → lookup img key .answer ≡ record { number = 0; amount = length (shown g img at); text = shown g img at }
+    unfolding lookup lookupLength lookupStart held textAt
+    active-text h =
+        let z : at ≡ 0 → ⊥ = active-offset img at h in
+        let o : lookupOffset img key ≡ at = offset-is ∙ ap (λ (t : Bool). cond t at 0) h in
+        let end = point-end g img (r .file) key (slot g img i) a (entry-met g img key i m) z in
+        let len : length (part img (at + headSize g) (lengthAt g img at)) ≡ lengthAt g img at =
+        part-length img (at + headSize g) (lengthAt g img at) (omega (arith, end)) in
+        rw (lookup-met a i m, o, r .file .layout, ne-eqb at 0 z, shown-active g img at h, len) refl
+
+    inactive-text : isActive img at ≡ false
+        → lookup img key .answer ≡ record { number = 0; amount = length (shown g img at); text = shown g img at }
+    unfolding lookup lookupLength lookupStart held part
+    inactive-text h =
+        let o : lookupOffset img key ≡ 0 = offset-is ∙ ap (λ (t : Bool). cond t at 0) h in
+        rw (lookup-met a i m, o, shown-inactive g img at h) refl
+
+    pub lookup-shows : lookup img key .answer
+        ≡ record { number = 0; amount = length (shown g img (offsetOf g (slot g img i))); text = shown g img (offsetOf g (slot g img i)) }
+    lookup-shows = by-bool (isActive img at) active-text inactive-text
+
+  -- the book's side
+  book-name : nameAllowed (g .K) key ≡ false → firstNo (ask 7 (nameAllowed (b .terms .K) key) ∷ []) ≡ 7
+  book-name h = rw (book-key g img b r key) (firstNo-no 7 _ [] h)
+
+  book-named : Allowed g key → firstNo (ask 7 (nameAllowed (b .terms .K) key) ∷ []) ≡ 0
+  book-named a = rw (book-key g img b r key) (firstNo-yes 7 _ [] a ∙ firstNo-none)
+
+  -- both refuse with the same number
+  lookup-both : (asks : List Question) (y : Book) → lookupNumber img key ≡ firstNo asks → (firstNo asks ≡ 0 → ⊥)
+      → Same g (lookup img key) (stepOf b asks y)
+  unfolding stepOf lookup
+  lookup-both asks y e z =
+      record {
+        answer = lookup-refused (λ q. z (sym e ∙ q)) ∙ ap plain e;
+        after = rw (ne-eqb (firstNo asks) 0 z) r;
+      }
+
+  seven : (n : ℕ) → n ≡ 7 → n ≡ 0 → ⊥
+  seven n e z = omega arith
+
+  absent-number : firstNo (ask 14 false ∷ []) ≡ 14
+  absent-number = firstNo-no 14 false [] refl
+
+  pub same-lookup : Same g (lookup img key) (bookLookup b key)
+  unfolding bookLookup
+  same-lookup =
+      by-bool (nameAllowed (g .K) key)
+      (λ a. rw (guarded-yes b _ (lookupFound b (find key (b .entries))) (book-named a)) (by-met g img b r key
+      (λ i m.
+      rw (found-met g img b r key a i m)
+      (record { answer = unfold lookupFound in lookup-shows a i m; after = unfold lookup lookupFound in r }))
+      (λ h.
+      rw (found-none g img b r key a h)
+      (unfold lookupFound in lookup-both (ask 14 false ∷ []) b (lookup-absent a h ∙ sym absent-number) (λ z. omega (arith, z, absent-number))))))
+      (λ h.
+      rw (guarded-no b _ (lookupFound b (find key (b .entries))) (seven _ (book-name h)))
+      (lookup-both _ b (lookup-name h ∙ sym (book-name h)) (seven _ (book-name h))))
+
+-- ---- delete
+
+module _ (g : Layout) (img : Bytes) (b : Book) (r : Reflects g img b) (key : Bytes) where
+  delete-number : deleteNumber img key ≡ firstNo (deleteAsks g img (search g img key) key)
+  unfolding deleteNumber
+  delete-number =
+      firstNo-opened img (deleteAsks (layoutOf img) img (search (layoutOf img) img key) key) (open₀ g img b r key)
+      ∙ ap (λ (l : Layout). firstNo (deleteAsks l img (search l img key) key)) (r .file .layout)
+
+  delete-name : nameAllowed (g .K) key ≡ false → deleteNumber img key ≡ 7
+  unfolding deleteAsks
+  delete-name h = delete-number ∙ firstNo-no 7 _ _ h
+
+  delete-absent : Allowed g key → isMet (search g img key) ≡ false → deleteNumber img key ≡ 14
+  unfolding deleteAsks
+  delete-absent a h = delete-number ∙ firstNo-yes 7 _ _ a ∙ firstNo-no 14 _ _ h
+
+  -- a point that is met is one of C
+  module _ (a : Allowed g key) (i : ℕ) (m : search g img key ≡ met i) where
+    abbrev o : ℕ
+    o = offsetOf g (slot g img i)
+
+    abbrev off : Bytes
+    off = retire img o
+
+    e₁ : entryOf g img key ≡ some (slot g img i)
+    e₁ = entry-met g img key i m
+
+    one-less : suc (length (without key (b .entries))) ≡ field img pointsField
+    one-less = length-without key (b .entries) _ (found-met g img b r key a i m) ∙ r .number
+
+    delete-met : deleteNumber img key ≡ 0
+    unfolding deleteAsks isMet metMessageSound somePoint
+    delete-met =
+        delete-number
+        ∙ firstNo-yes 7 _ _ a
+        ∙ firstNo-yes 14 _ _ (ap isMet m)
+        ∙ firstNo-yes 11 _ _
+        (and-true (metMessageSound g img (search g img key)) _
+        (ap (metMessageSound g img) m ∙ met-sound g img b r key a i m)
+        (le-leb 1 (field img pointsField) (omega (arith, one-less))))
+        ∙ firstNo-none
+
+    off-change : Change g img off key
+    off-change = retire-change g img (r .file) key (slot g img i) a e₁
+
+    off-file : File g off
+    off-file = file-change g img off key (r .file) off-change
+
+    off-points : field off pointsField ≡ field img pointsField
+    off-points = retire-field g img (r .file) key (slot g img i) a e₁ pointsField (omega arith)
+
+    off-met : search g off key ≡ met i
+    off-met = search-frame g img off key (file-some (r .file)) (retire-slot g img (r .file) key (slot g img i) a e₁) ∙ m
+
+    off-some : 1 ≤ field off pointsField
+    off-some = rw off-points (omega (arith, one-less))
+
+    -- the message made inactive, then the point gone
+    gone : Reflects g (deletedAt g img i) (record { terms = b .terms; entries = without key (b .entries); used = b .used })
+    unfolding deletedAt
+    gone =
+        subst
+        (λ (n : ℕ). Reflects g (closed g (setField off pointsField (n - 1)) i) (record { terms = b .terms; entries = without key (b .entries); used = b .used }))
+        off-points
+        (reflect-without g img (closed g (setField off pointsField (field off pointsField - 1)) i) key b r a
+        (change-trans g img off _ key off-change (remove-change g off off-file key a i off-met off-some))
+        (remove-point g off off-file key a i off-met off-some)
+        (remove-free g off off-file key a i off-met off-some
+        ∙ retire-field g img (r .file) key (slot g img i) a e₁ freeField (omega arith))
+        (omega (arith, one-less, off-points, remove-points g off off-file key a i off-met off-some)))
+
+  pub same-delete : Same g (delete img key) (bookDelete b key)
+  unfolding delete bookDelete
+  same-delete =
+      by-bool (nameAllowed (g .K) key)
+      (λ a. rw (guarded-yes b _ (deleteFound b key (find key (b .entries))) (book-named g img b r key a)) (by-met g img b r key
+      (λ i m.
+      rw (found-met g img b r key a i m)
+      (unfold deleteFound deleted in
+      same-accepted g img b r (deleteNumber img key) _ [] _ (delete-met a i m) firstNo-none (rw (r .file .layout, m) (gone a i m))))
+      (λ h.
+      rw (found-none g img b r key a h)
+      (unfold deleteFound in
+      same-refused g img b r (deleteNumber img key) _ (ask 14 false ∷ []) b (delete-absent a h ∙ sym (absent-number g img b r key)) (λ z. omega (arith, z, absent-number g img b r key))))))
+      (λ h.
+      rw (guarded-no b _ (deleteFound b key (find key (b .entries))) (seven g img b r key _ (book-name g img b r key h)))
+      (same-refused g img b r (deleteNumber img key) _ _ b (delete-name h ∙ sym (book-name g img b r key h)) (seven g img b r key _ (book-name g img b r key h))))

@@ -1,0 +1,213 @@
+-- What a call answers, case by case, on any image whose header is accepted; and the image that it leaves.
+--     lookup-7, lookup-14, lookup-11, lookup-0, and so for delete; add-7 to add-11, and add-placed, where 12 and 13 decide
+--     add-refused, add-accepted, delete-refused, delete-accepted      the image afterwards
+-- Assumes nothing.
+use mathlib.Core.Path.{_≡_, refl, sym, ap, _∙_}
+use Prim.Native.Nat.{ℕ, zero, suc, _≤_, _<_}
+use native.Mathlib.Omega.{arith}
+use mathlib.Core.Bool.{Bool, true, false, cond, not, _&&_, _||_}
+use mathlib.Core.List.{List, [], _∷_}
+use mathlib.Core.Option.{Option, none, some}
+use lib.ListN.{length}
+use lib.Dec.{eqb, leb, ltb}
+use borrow.Author.Tests.{ne-eqb, eq-eqb}
+use Rattle.bhtf.specs.Bytes.{Bytes}
+use Rattle.bhtf.specs.Limits.{pointsField, freeField}
+use Rattle.bhtf.specs.Image.{field, Layout, layoutOf, slot, offsetOf}
+use Rattle.bhtf.specs.Search.{Probe, met, empty, exhausted, search, isMet, isEmpty}
+use Rattle.bhtf.specs.Messages.{freshText, renewedText, placedText, renewedAt, inserted, addedAt, added, deleted, deletedAt}
+use Rattle.bhtf.specs.Questions.{Question, ask, firstNo, nameAllowed, modeKnown, newInMode1, slotToTake, messageSound, metMessageSound, somePoint, lengthAllowed, spaceLeft, named, pointAsks, addAsks, lookupAsks, deleteAsks, openNumber, addNumber, deleteNumber, lookupNumber}
+use Rattle.bhtf.specs.Calls.{plain, settled, add, delete}
+use Rattle.bhtf.proofs.Tests.{by-bool, and-true}
+use Rattle.bhtf.proofs.Opened.{firstNo-none, firstNo-yes, firstNo-no, firstNo-opened, firstNo-refused}
+
+-- ---- the image by the number
+
+pub settled-yes : (n : ℕ) (img x : Bytes) → n ≡ 0 → settled n img x ≡ x
+unfolding settled
+settled-yes n img x h = rw h refl
+
+pub settled-no : (n : ℕ) (img x : Bytes) → (n ≡ 0 → ⊥) → settled n img x ≡ img
+unfolding settled
+settled-no n img x h = rw (ne-eqb n 0 h) refl
+
+-- ---- questions 1, 5 and 6 come first
+
+module _ (img key : Bytes) (z : openNumber img ≡ 0 → ⊥) where
+  pub lookup-closed : lookupNumber img key ≡ openNumber img
+  unfolding lookupNumber
+  lookup-closed = firstNo-refused img _ z
+
+  pub delete-closed : deleteNumber img key ≡ openNumber img
+  unfolding deleteNumber
+  delete-closed = firstNo-refused img _ z
+
+  pub add-closed : (bytes : Bytes) (mode : ℕ) → addNumber img key bytes mode ≡ openNumber img
+  unfolding addNumber
+  add-closed bytes mode = firstNo-refused img _ z
+
+module _ (img key : Bytes) (open₀ : openNumber img ≡ 0) where
+  abbrev g : Layout
+  g = layoutOf img
+
+  abbrev found : Probe
+  found = search g img key
+
+  -- ---- lookup
+
+  lookup-asks : lookupNumber img key ≡ firstNo (lookupAsks g img found key)
+  unfolding lookupNumber
+  lookup-asks = firstNo-opened img (lookupAsks g img found key) open₀
+
+  pub lookup-7 : nameAllowed (g .K) key ≡ false → lookupNumber img key ≡ 7
+  unfolding lookupAsks
+  lookup-7 h = lookup-asks ∙ firstNo-no 7 _ _ h
+
+  pub lookup-14 : nameAllowed (g .K) key ≡ true → isMet found ≡ false → lookupNumber img key ≡ 14
+  unfolding lookupAsks
+  lookup-14 a h = lookup-asks ∙ firstNo-yes 7 _ _ a ∙ firstNo-no 14 _ _ h
+
+  module _ (a : nameAllowed (g .K) key ≡ true) (i : ℕ) (m : found ≡ met i) where
+    lookup-11-asks : lookupNumber img key ≡ firstNo (ask 11 (messageSound g img (offsetOf g (slot g img i))) ∷ [])
+    unfolding lookupAsks isMet metMessageSound
+    lookup-11-asks =
+        lookup-asks ∙ firstNo-yes 7 _ _ a ∙ firstNo-yes 14 _ _ (ap isMet m)
+        ∙ ap (λ (s : Probe). firstNo (ask 11 (metMessageSound g img s) ∷ [])) m
+
+    pub lookup-11 : messageSound g img (offsetOf g (slot g img i)) ≡ false → lookupNumber img key ≡ 11
+    lookup-11 h = lookup-11-asks ∙ firstNo-no 11 _ [] h
+
+    pub lookup-0 : messageSound g img (offsetOf g (slot g img i)) ≡ true → lookupNumber img key ≡ 0
+    lookup-0 h = lookup-11-asks ∙ firstNo-yes 11 _ [] h ∙ firstNo-none
+
+  -- ---- delete
+
+  delete-asks : deleteNumber img key ≡ firstNo (deleteAsks g img found key)
+  unfolding deleteNumber
+  delete-asks = firstNo-opened img (deleteAsks g img found key) open₀
+
+  pub delete-7 : nameAllowed (g .K) key ≡ false → deleteNumber img key ≡ 7
+  unfolding deleteAsks
+  delete-7 h = delete-asks ∙ firstNo-no 7 _ _ h
+
+  pub delete-14 : nameAllowed (g .K) key ≡ true → isMet found ≡ false → deleteNumber img key ≡ 14
+  unfolding deleteAsks
+  delete-14 a h = delete-asks ∙ firstNo-yes 7 _ _ a ∙ firstNo-no 14 _ _ h
+
+  module _ (a : nameAllowed (g .K) key ≡ true) (i : ℕ) (m : found ≡ met i) where
+    delete-11-asks : deleteNumber img key
+        ≡ firstNo (ask 11 (messageSound g img (offsetOf g (slot g img i)) && somePoint img) ∷ [])
+    unfolding deleteAsks isMet metMessageSound
+    delete-11-asks =
+        delete-asks ∙ firstNo-yes 7 _ _ a ∙ firstNo-yes 14 _ _ (ap isMet m)
+        ∙ ap (λ (s : Probe). firstNo (ask 11 (metMessageSound g img s && somePoint img) ∷ [])) m
+
+    pub delete-11 : (messageSound g img (offsetOf g (slot g img i)) && somePoint img) ≡ false → deleteNumber img key ≡ 11
+    delete-11 h = delete-11-asks ∙ firstNo-no 11 _ [] h
+
+    pub delete-0 : messageSound g img (offsetOf g (slot g img i)) ≡ true → somePoint img ≡ true → deleteNumber img key ≡ 0
+    delete-0 h k = delete-11-asks ∙ firstNo-yes 11 _ [] (and-true _ _ h k) ∙ firstNo-none
+
+    pub delete-accepted : deleteNumber img key ≡ 0 → delete img key .after ≡ deletedAt g img i
+    unfolding delete deleted
+    delete-accepted z = settled-yes (deleteNumber img key) img _ z ∙ ap (deleted g img) m
+
+  -- ---- add
+
+  module _ (bytes : Bytes) (mode : ℕ) where
+    add-asks : addNumber img key bytes mode ≡ firstNo (addAsks g img found key bytes mode)
+    unfolding addNumber
+    add-asks = firstNo-opened img (addAsks g img found key bytes mode) open₀
+
+    pub add-7 : nameAllowed (g .K) key ≡ false → addNumber img key bytes mode ≡ 7
+    unfolding addAsks named
+    add-7 h = add-asks ∙ firstNo-no 7 _ _ h
+
+    pub add-8 : nameAllowed (g .K) key ≡ true → modeKnown mode ≡ false → addNumber img key bytes mode ≡ 8
+    unfolding addAsks named
+    add-8 a h = add-asks ∙ firstNo-yes 7 _ _ a ∙ firstNo-no 8 _ _ h
+
+    module _ (a : nameAllowed (g .K) key ≡ true) (k : modeKnown mode ≡ true) where
+      pub add-point : addNumber img key bytes mode ≡ firstNo (pointAsks g img found bytes mode)
+      unfolding addAsks named
+      add-point = add-asks ∙ firstNo-yes 7 _ _ a ∙ firstNo-yes 8 _ _ k
+
+      -- 12 and 13, of the text to be placed
+      abbrev room : Option Bytes → ℕ
+      room p = firstNo (ask 12 (lengthAllowed g p) ∷ ask 13 (spaceLeft g (field img freeField) (length img) p) ∷ [])
+
+      -- a point that is present
+      module _ (i : ℕ) (m : found ≡ met i) where
+        pub add-9 : eqb mode 1 ≡ true → addNumber img key bytes mode ≡ 9
+        unfolding pointAsks newInMode1 isMet
+        add-9 h =
+            add-point ∙ ap (λ (s : Probe). firstNo (pointAsks g img s bytes mode)) m
+            ∙ firstNo-no 9 _ _ (ap (λ (t : Bool). not (t && true)) h)
+
+        present : eqb mode 1 ≡ false → addNumber img key bytes mode
+            ≡ firstNo (ask 11 (messageSound g img (offsetOf g (slot g img i)))
+            ∷ ask 12 (lengthAllowed g (renewedText g img (offsetOf g (slot g img i)) bytes mode))
+            ∷ ask 13 (spaceLeft g (field img freeField) (length img) (renewedText g img (offsetOf g (slot g img i)) bytes mode)) ∷ [])
+        unfolding pointAsks newInMode1 slotToTake isMet metMessageSound placedText
+        present h =
+            add-point ∙ ap (λ (s : Probe). firstNo (pointAsks g img s bytes mode)) m
+            ∙ firstNo-yes 9 _ _ (ap (λ (t : Bool). not (t && true)) h)
+            ∙ firstNo-yes 10 _ _ refl
+
+        pub add-11 : eqb mode 1 ≡ false → messageSound g img (offsetOf g (slot g img i)) ≡ false → addNumber img key bytes mode ≡ 11
+        add-11 h s = present h ∙ firstNo-no 11 _ _ s
+
+        pub add-renewed : eqb mode 1 ≡ false → messageSound g img (offsetOf g (slot g img i)) ≡ true
+            → addNumber img key bytes mode ≡ room (renewedText g img (offsetOf g (slot g img i)) bytes mode)
+        add-renewed h s = present h ∙ firstNo-yes 11 _ _ s
+
+      -- a point that is absent
+      absent-9 : isMet found ≡ false → newInMode1 found mode ≡ true
+      unfolding newInMode1
+      absent-9 e = rw e (by-bool (eqb mode 1) (λ y. rw y refl) (λ n. rw n refl))
+
+      pub add-10 : isMet found ≡ false → slotToTake (field img pointsField) (g .N) found ≡ false → addNumber img key bytes mode ≡ 10
+      unfolding pointAsks
+      add-10 e h = add-point ∙ firstNo-yes 9 _ _ (absent-9 e) ∙ firstNo-no 10 _ _ h
+
+      pub add-10-exhausted : found ≡ exhausted → addNumber img key bytes mode ≡ 10
+      unfolding isMet isEmpty slotToTake
+      add-10-exhausted e = add-10 (ap isMet e) (ap (slotToTake (field img pointsField) (g .N)) e)
+
+      module _ (i : ℕ) (m : found ≡ empty i) where
+        pub add-10-full : ltb (field img pointsField) (g .N) ≡ false → addNumber img key bytes mode ≡ 10
+        unfolding isMet isEmpty slotToTake
+        add-10-full h = add-10 (ap isMet m) (ap (slotToTake (field img pointsField) (g .N)) m ∙ h)
+
+        pub add-fresh : ltb (field img pointsField) (g .N) ≡ true → addNumber img key bytes mode ≡ room (freshText bytes mode)
+        unfolding pointAsks isMet isEmpty slotToTake metMessageSound placedText
+        add-fresh h =
+            add-point
+            ∙ firstNo-yes 9 _ _ (absent-9 (ap isMet m))
+            ∙ ap (λ (s : Probe). firstNo (ask 10 (slotToTake (field img pointsField) (g .N) s) ∷ ask 11 (metMessageSound g img s)
+            ∷ ask 12 (lengthAllowed g (placedText g img s bytes mode))
+            ∷ ask 13 (spaceLeft g (field img freeField) (length img) (placedText g img s bytes mode)) ∷ [])) m
+            ∙ firstNo-yes 10 _ _ h
+            ∙ firstNo-yes 11 true _ refl
+
+    -- the image afterwards
+    pub add-renewed-image : addNumber img key bytes mode ≡ 0 → (i : ℕ) → found ≡ met i
+        → add img key bytes mode .after ≡ renewedAt g img i (offsetOf g (slot g img i)) key bytes mode
+    unfolding add added addedAt
+    add-renewed-image z i m =
+        settled-yes (addNumber img key bytes mode) img _ z ∙ ap (λ (s : Probe). addedAt g img s key bytes mode) m
+
+    pub add-fresh-image : addNumber img key bytes mode ≡ 0 → (i : ℕ) → found ≡ empty i
+        → add img key bytes mode .after ≡ inserted g img i key (freshText bytes mode)
+    unfolding add added addedAt
+    add-fresh-image z i m =
+        settled-yes (addNumber img key bytes mode) img _ z ∙ ap (λ (s : Probe). addedAt g img s key bytes mode) m
+
+-- a refused call leaves the image
+pub add-refused : (img key bytes : Bytes) (mode : ℕ) → (addNumber img key bytes mode ≡ 0 → ⊥) → add img key bytes mode .after ≡ img
+unfolding add
+add-refused img key bytes mode z = settled-no (addNumber img key bytes mode) img _ z
+
+pub delete-refused : (img key : Bytes) → (deleteNumber img key ≡ 0 → ⊥) → delete img key .after ≡ img
+unfolding delete
+delete-refused img key z = settled-no (deleteNumber img key) img _ z

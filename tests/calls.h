@@ -1,0 +1,31 @@
+/* The seven calls as a table of function pointers, so that the tests run on
+ * the library, on the reference, or on a faulty copy of it. */
+#ifndef CALLS_H
+#define CALLS_H
+
+#include <stddef.h>
+#include <stdint.h>
+
+struct calls {
+    uint32_t (*create)(uint8_t *image, size_t image_len, uint32_t key_size,
+                       uint32_t slots, uint32_t seed);
+    uint32_t (*add)(uint8_t *image, size_t image_len, const uint8_t *key,
+                    size_t key_len, const uint8_t *data, size_t data_len,
+                    uint32_t mode);
+    uint32_t (*remove)(uint8_t *image, size_t image_len, const uint8_t *key,
+                       size_t key_len);
+    uint32_t (*lookup)(const uint8_t *image, size_t image_len,
+                       const uint8_t *key, size_t key_len, uint32_t *offset,
+                       uint32_t *length);
+    uint32_t (*count)(const uint8_t *image, size_t image_len,
+                      uint32_t *count);
+    uint32_t (*walk)(const uint8_t *image, size_t image_len, uint32_t from,
+                     uint32_t *slot, uint32_t *key_offset);
+    uint32_t (*check)(const uint8_t *image, size_t image_len,
+                      uint32_t *verdict, uint32_t *slot);
+};
+
+/* The code under test. */
+extern const struct calls subject;
+
+#endif

@@ -1,0 +1,310 @@
+#!/bin/sh
+# The test of the test: each fault below is one edit of a copy of plain.c.
+# The copy stands in the library's place, and differential must find it within
+# CALLS calls. Ends with "N passed, 0 failed", each fault being one.
+#
+# Usage: ./faults.sh [seed]        CC, CALLS and OUT may be set.
+
+cd "$(dirname "$0")" || exit 2
+CC=${CC:-gcc}
+CALLS=${CALLS:-2000000}
+OUT=${OUT:-build/faults}
+SEED=${1:-1}
+FLAGS="-std=c99 -O2 -I. -Ireference"
+RENAME="-Dplain_create=bhtf_create -Dplain_add=bhtf_add
+    -Dplain_delete=bhtf_delete -Dplain_lookup=bhtf_lookup
+    -Dplain_count=bhtf_count -Dplain_walk=bhtf_walk -Dplain_check=bhtf_check"
+passed=0
+failed=0
+
+mkdir -p "$OUT" || exit 2
+for file in differential subject reference/plain reference/book; do
+    $CC $FLAGS -Wall -Wextra -Werror -c "$file.c" \
+        -o "$OUT/$(basename $file).o" || exit 2
+done
+
+# build SOURCE: a differential with that source as the library.
+build() {
+    $CC $FLAGS $RENAME -w -c "$1" -o "$OUT/faulty.o" &&
+        $CC "$OUT/differential.o" "$OUT/subject.o" "$OUT/plain.o" \
+            "$OUT/book.o" "$OUT/faulty.o" -o "$OUT/faulty"
+}
+
+run() {
+    timeout 300 "$OUT/faulty" --seed "$SEED" --calls "$CALLS" --quiet
+}
+
+fail() {
+    failed=$((failed + 1))
+    echo "FAILED  $1: $2"
+}
+
+# fault NAME OLD NEW: OLD must stand in plain.c exactly once, in one line.
+fault() {
+    OLD=$2 NEW=$3 awk '
+        BEGIN { old = ENVIRON["OLD"]; new = ENVIRON["NEW"] }
+        {
+            at = index($0, old)
+            if (at > 0) {
+                n++
+                $0 = substr($0, 1, at - 1) new substr($0, at + length(old))
+            }
+            print
+        }
+        END { exit n != 1 }' reference/plain.c > "$OUT/faulty.c" ||
+        { fail "$1" "the edit does not apply exactly once"; return; }
+    build "$OUT/faulty.c" || { fail "$1" "does not build"; return; }
+    report=$(run)
+    if [ $? -eq 1 ]; then
+        passed=$((passed + 1))
+        echo "found   $1: $(echo "$report" |
+            sed -n 's/^DIFFERENCE: seed [0-9]*, \(call [0-9]*\).*/\1/p')"
+    else
+        fail "$1" "not found in $CALLS calls"
+    fi
+}
+
+# Without a fault nothing may be found.
+build reference/plain.c && run || fail "no fault" "a difference was found"
+
+# Delete.
+fault "delete only empties the slot" \
+    'close_hole(image, &v, slot);' '(void)close_hole;'
+fault "delete leaves a mark" \
+    'zero_slot(image, &v, slot);' \
+    'memset(image + slot_at(&v, slot), 0xFF, v.key_size); return ACCEPTED;'
+fault "delete limited to one round" \
+    'while (is_taken(v, slot)) {' \
+    'for (uint32_t i = 1; i < v->slots && is_taken(v, slot); i++) {'
+fault "delete limited to two rounds" \
+    'while (is_taken(v, slot)) {' \
+    'for (uint32_t i = 1; i < 2 * v->slots && is_taken(v, slot); i++) {'
+fault "hole keeps its offset bytes" \
+    'memset(image + slot_at(v, slot), 0, v->stride);' \
+    'memset(image + slot_at(v, slot), 0, v->key_size);'
+fault "delete forgets that the hole may be the home" \
+    'return home != hole && steps' 'return steps'
+fault "delete compares slots without wrapping" \
+    'return home != hole && steps(v, hole, home) <= steps(v, hole, slot);' \
+    'return home > hole && home <= slot;'
+fault "delete moves entries that are at home" \
+    'steps(v, hole, home) <= steps(v, hole, slot)' \
+    'steps(v, hole, home) < steps(v, hole, slot)'
+fault "delete leaves the message active" \
+    'retire(image, &old);' ''
+fault "delete leaves C" \
+    'put32(image + AT_COUNT, v.count - 1);' ''
+fault "delete accepts C = 0" \
+    ' || v.count < 1' ''
+fault "delete does not look at the message" \
+    'if (!read_message(&v, message_in(&v, slot), &old) || v.count < 1)' \
+    'if ((read_message(&v, message_in(&v, slot), &old), v.count < 1))'
+
+# Messages.
+fault "replace does not zero the rest" \
+    'memset(to + text.length, 0, old->length - text.length);' ''
+fault "replace by as many bytes takes new space" \
+    'if (text.length <= old->length) {' 'if (text.length < old->length) {'
+fault "replace of an inactive message takes new space" \
+    'if (text.length <= old->length) {' \
+    'if (old->active && text.length <= old->length) {'
+fault "replace in place leaves the message inactive" \
+    'write_active(image, old->offset, (uint32_t)text.length);' \
+    'put32(image + old->offset, (uint32_t)(old->active ? 97 : 100) << 24 | (uint32_t)text.length);'
+fault "replace in place keeps the old length" \
+    'write_active(image, old->offset, (uint32_t)text.length);' \
+    'write_active(image, old->offset, old->length);'
+fault "longer replace keeps the old header active" \
+    'return renew(image, v, slot, old, none, text);' \
+    'return renew(image, v, slot, &(struct message){ 0, 0, 0 }, none, text);'
+fault "append keeps the old header active" \
+    'return renew(image, v, slot, old, kept, text);' \
+    'return renew(image, v, slot, &(struct message){ 0, 0, 0 }, kept, text);'
+fault "append to an inactive message keeps its bytes" \
+    'if (old->active) {' 'if (old->offset != 0) {'
+fault "refused replace or append makes the message inactive" \
+    'uint32_t answer = ask_room(v, (uint32_t)kept.length, text.length);' \
+    'uint32_t answer = (retire(image, old), ask_room(v, (uint32_t)kept.length, text.length));'
+fault "X grows by 3 + m" \
+    'offset + MESSAGE_HEADER + length;' 'offset + 3 + length;'
+fault "M one too high at 4,096" \
+    '(next - data - 1) / PAGE' '(next - data) / PAGE'
+fault "M rewritten though X stays" \
+    'put32(image + AT_COUNT, v->count + 1);' \
+    'put32(image + AT_COUNT, v->count + 1); if (offset == 0) put32(image + AT_LAST_PAGE, last_page(v->data, v->next));'
+
+# Add.
+fault "only the first point is stored" \
+    'write_slot(image, v, f.slot, key, offset);' \
+    'if (v->count == 0) write_slot(image, v, f.slot, key, offset);'
+fault "add leaves old offset bytes in the slot" \
+    'put32(to + v->key_size, offset);' \
+    'if (offset != 0) put32(to + v->key_size, offset);'
+fault "10 ignores C" \
+    'f.ending == EXHAUSTED || v->count >= v->slots' 'f.ending == EXHAUSTED'
+fault "10 ignores the table" \
+    'f.ending == EXHAUSTED || v->count >= v->slots' 'v->count >= v->slots'
+fault "11 before 9" \
+    'if (mode == MODE_NEW)' \
+    'if (mode == MODE_NEW && read_message(v, message_in(v, slot), &old))'
+fault "8 before 7" \
+    'if (!key_fits(&v, key, key_len))' \
+    'if (mode - 1 < 3 && !key_fits(&v, key, key_len))'
+fault "mode 0 accepted" \
+    'mode < MODE_NEW || mode > MODE_APPEND' 'mode > MODE_APPEND'
+fault "mode cut to 8 bits" \
+    'mode < MODE_NEW || mode > MODE_APPEND' \
+    '(uint8_t)mode < MODE_NEW || (uint8_t)mode > MODE_APPEND'
+fault "12 not asked" \
+    'if (m > MESSAGE_MAX || kept + m > MESSAGE_MAX)' 'if (0)'
+fault "12 looks at the new bytes only" \
+    'm > MESSAGE_MAX || kept + m > MESSAGE_MAX' 'm > MESSAGE_MAX'
+fault "12 one byte early" \
+    'm > MESSAGE_MAX || kept + m > MESSAGE_MAX' \
+    'm >= MESSAGE_MAX || kept + m >= MESSAGE_MAX'
+fault "13 one byte early" \
+    'if (MESSAGE_HEADER + kept + m > v->length' \
+    'if (MESSAGE_HEADER + kept + m >= v->length'
+fault "13 one byte late" \
+    'if (MESSAGE_HEADER + kept + m > v->length' \
+    'if (3 + kept + m > v->length'
+fault "13 forgets the old bytes" \
+    'if (MESSAGE_HEADER + kept + m > v->length' \
+    'if (MESSAGE_HEADER + m > v->length'
+fault "data length cut to 32 bits" \
+    '{ data, data_len };' '{ data, (uint32_t)data_len };'
+
+# Names, hash and search.
+fault "key length cut to 32 bits" \
+    'length == v->key_size &&' '(uint32_t)length == v->key_size &&'
+fault "longer keys accepted" \
+    'length == v->key_size &&' 'length >= v->key_size &&'
+fault "key of zeros accepted" \
+    'length == v->key_size && !all_zero(key, v->key_size)' \
+    'length == v->key_size'
+fault "search compares only up to a zero byte" \
+    'memcmp(key_in(v, slot), key, v->key_size)' \
+    'strncmp((const char *)key_in(v, slot), (const char *)key, v->key_size)'
+fault "search leaves out the last key byte" \
+    'memcmp(key_in(v, slot), key, v->key_size)' \
+    'memcmp(key_in(v, slot), key, v->key_size - (v->key_size > 1))'
+fault "search does not wrap" \
+    'f.slot = after(v, f.slot);' \
+    'f.slot += f.slot + 1 < v->slots;'
+fault "search reads N - 1 slots" \
+    'read < v->slots; read++' 'read + 1 < v->slots; read++'
+fault "a slot is empty when its first key byte is" \
+    'return !all_zero(key_in(v, slot), v->key_size);' \
+    'return *key_in(v, slot) != 0;'
+fault "last scrambled character left out" \
+    'c <= v->last)' 'c < v->last)'
+fault "first scrambled character left out" \
+    'v->first <= c &&' 'v->first < c &&'
+fault "scramble indexed by c" \
+    '4 * (c - v->first)' '4 * c'
+fault "FNV-1a instead of FNV-1" \
+    'uint32_t hash = v->start;' \
+    'uint32_t hash = v->start ^ (v->first <= key[0] && key[0] <= v->last ? get32(scramble + 4 * (key[0] - v->first)) : 0);'
+
+# Create.
+fault "create leaves old bytes" \
+    'memset(image, 0, image_len);' \
+    'memset(image, 0, data_offset(key_size, slots));'
+fault "D rounded down" \
+    '(end + PAGE - 1) / PAGE * PAGE' 'end / PAGE * PAGE'
+fault "D rounded up once too often" \
+    '(end + PAGE - 1) / PAGE * PAGE' '(end + PAGE) / PAGE * PAGE'
+fault "scramble begins one step late" \
+    'put32(image + SCRAMBLE + 4 * i, state);' \
+    'put32(image + SCRAMBLE + 4 * i, state * 1664525u + 1013904223u);'
+fault "scramble one number short" \
+    'LAST_CHARACTER - FIRST_CHARACTER + 1' 'LAST_CHARACTER - FIRST_CHARACTER'
+fault "N of 0 is another number" \
+    'slots = SLOTS_DEFAULT;' 'slots = 5503;'
+fault "K of 33 accepted" \
+    'if (key_size < 1 || key_size > KEY_MAX)' \
+    'if (key_size < 1 || key_size > 33)'
+fault "N of 65,537 accepted" \
+    'if (slots > SLOTS_MAX)' 'if (slots > SLOTS_MAX + 1)'
+fault "image that ends with its table refused" \
+    'data_offset(key_size, slots) > image_len' \
+    'data_offset(key_size, slots) >= image_len'
+
+# Opening.
+fault "length of 16 MiB and a page accepted" \
+    'length <= IMAGE_MAX' 'length <= IMAGE_MAX + PAGE'
+fault "length of 16 MiB refused" \
+    'length <= IMAGE_MAX' 'length < IMAGE_MAX'
+fault "length 0 accepted" \
+    'length >= PAGE && ' ''
+fault "version 1.0.2 accepted" \
+    'image[7] <= 1' 'image[7] <= 2'
+fault "version 1.0.0 refused" \
+    'image[7] <= 1' 'image[7] == 1'
+fault "C above N accepted" \
+    'v->count > v->slots)' 'v->count > v->slots + 1)'
+fault "E above 255 accepted" \
+    ' || v->last > 255' ''
+fault "F above E accepted" \
+    'v->first > v->last || ' ''
+fault "D not compared with its formula" \
+    'v->data != data_offset(v->key_size, v->slots)' \
+    'v->data < data_offset(v->key_size, v->slots)'
+fault "X below D accepted" \
+    'return v->data <= v->next && v->next <= v->length;' \
+    'return v->next >= TABLE && v->next <= v->length;'
+fault "X above L accepted" \
+    'return v->data <= v->next && v->next <= v->length;' \
+    'return v->data <= v->next;'
+fault "X of L refused" \
+    'v->next <= v->length;' 'v->next < v->length;'
+
+# Question 11.
+fault "offset below D accepted" \
+    'offset < v->data ||' 'offset < TABLE ||'
+fault "header across X accepted" \
+    'offset > v->next - MESSAGE_HEADER' 'offset > v->next'
+fault "any letter accepted" \
+    "if (header >> 24 != 'a' && header >> 24 != 'd')" 'if (header >> 24 == 0)'
+fault "inactive message refused" \
+    "if (header >> 24 != 'a' && header >> 24 != 'd')" \
+    "if (header >> 24 != 'a')"
+fault "length 0 of a message accepted" \
+    'return m->length >= 1 && m->length' 'return m->length'
+fault "message's end not asked" \
+    'm->length <= v->next - offset - MESSAGE_HEADER' '1'
+fault "message's end compared with L" \
+    'm->length <= v->next - offset' 'm->length <= v->length - offset'
+
+# Lookup, count, walk, check.
+fault "lookup shows an inactive message" \
+    'if (m.active) {' 'if (m.offset != 0) {'
+fault "lookup shows the header's offset" \
+    '*offset = m.offset + MESSAGE_HEADER;' '*offset = m.offset;'
+fault "lookup answers 14 behind slot 0" \
+    'f.ending == MET ? ACCEPTED : 14' \
+    'f.ending == MET && f.slot == 0 ? ACCEPTED : 14'
+fault "count made up" \
+    '*count = answer == ACCEPTED ? v.count : 0;' \
+    '*count = answer == ACCEPTED ? 1 : 0;'
+fault "count shown when refused" \
+    '*count = answer == ACCEPTED ? v.count : 0;' \
+    '*count = answer == 6 ? v.count : answer == ACCEPTED ? v.count : 0;'
+fault "walk skips slot i" \
+    'for (uint32_t i = from; i' 'for (uint32_t i = from + 1; i'
+fault "walk never ends" \
+    'for (uint32_t i = from; i' 'for (uint32_t i = from % v.slots; i'
+fault "check forgets C" \
+    'if (taken != v.count)' 'if (taken > v.slots)'
+fault "check names the highest failing slot" \
+    'for (uint32_t i = 0; i < v.slots; i++) {' \
+    'for (uint32_t i = v.slots; i-- > 0;) {'
+fault "check passes a second copy of a key" \
+    'if (f.ending != MET || f.slot != slot)' 'if (f.ending != MET)'
+fault "check does not look at messages" \
+    'return read_message(v, message_in(v, slot), &m);' 'return 1;'
+fault "check asks for C of at least 1" \
+    'if (taken != v.count)' 'if (taken != v.count || taken == 0)'
+
+echo "$passed passed, $failed failed"
+[ "$failed" -eq 0 ]

@@ -1,0 +1,193 @@
+/* The plain control book of 01-scope.md. */
+#include "book.h"
+
+#include <stdlib.h>
+#include <string.h>
+
+#define LONGEST 16777215u
+
+static void *must(void *memory)
+{
+    if (memory == NULL)
+        abort();
+    return memory;
+}
+
+void book_open(struct book *b, size_t image_len, uint32_t key_size,
+               uint32_t slots)
+{
+    uint64_t data;
+
+    memset(b, 0, sizeof *b);
+    b->key_size = key_size;
+    b->slots = slots == 0 ? 5507 : slots;
+    data = 2048 + (uint64_t)b->slots * (key_size + 4);
+    data = (data + 4095) / 4096 * 4096;
+    b->room = image_len - data;
+}
+
+void book_close(struct book *b)
+{
+    for (uint32_t i = 0; i < b->count; i++)
+        free(b->entries[i].text);
+    free(b->entries);
+    memset(b, 0, sizeof *b);
+}
+
+/* Question 7. */
+static int name_fits(const struct book *b, const uint8_t *key, size_t length)
+{
+    if (length != b->key_size)
+        return 0;
+    for (size_t i = 0; i < length; i++)
+        if (key[i] != 0)
+            return 1;
+    return 0;
+}
+
+static struct entry *find(const struct book *b, const uint8_t *key)
+{
+    for (uint32_t i = 0; i < b->count; i++)
+        if (memcmp(b->entries[i].name, key, b->key_size) == 0)
+            return &b->entries[i];
+    return NULL;
+}
+
+static struct entry *new_entry(struct book *b, const uint8_t *key)
+{
+    struct entry *e;
+
+    if (b->count == b->capacity) {
+        b->capacity = b->capacity == 0 ? 8 : 2 * b->capacity;
+        b->entries = must(
+            realloc(b->entries, b->capacity * sizeof *b->entries));
+    }
+    e = &b->entries[b->count++];
+    memset(e, 0, sizeof *e);
+    memcpy(e->name, key, b->key_size);
+    return e;
+}
+
+/* Questions 12 and 13 for t bytes of new space. */
+static uint32_t ask_space(const struct book *b, uint64_t t)
+{
+    if (t > LONGEST)
+        return 12;
+    return b->used + 4 + t > b->room ? 13 : 0;
+}
+
+/* The text becomes its first kept bytes and the data behind them. */
+static void set_text(struct entry *e, uint32_t kept, const uint8_t *data,
+                     size_t m)
+{
+    if (m > 0) {
+        e->text = must(realloc(e->text, kept + m));
+        memcpy(e->text + kept, data, m);
+    }
+    e->length = kept + (uint32_t)m;
+}
+
+/* New space for the text's first kept bytes and the data behind them. */
+static uint32_t set_in_new_space(struct book *b, struct entry *e,
+                                 uint32_t kept, const uint8_t *data, size_t m)
+{
+    uint32_t answer = ask_space(b, (uint64_t)kept + m);
+
+    if (answer != 0)
+        return answer;
+    set_text(e, kept, data, m);
+    e->held = e->length;
+    b->used += 4 + (uint64_t)e->length;
+    return 0;
+}
+
+static uint32_t add_new(struct book *b, const uint8_t *key,
+                        const uint8_t *data, size_t m)
+{
+    uint32_t answer = 0;
+
+    if (b->count == b->slots)
+        return 10;
+    if (m > 0)
+        answer = ask_space(b, m);
+    if (answer != 0)
+        return answer;
+    if (m > 0)
+        return set_in_new_space(b, new_entry(b, key), 0, data, m);
+    new_entry(b, key);
+    return 0;
+}
+
+static uint32_t replace_text(struct book *b, struct entry *e,
+                             const uint8_t *data, size_t m)
+{
+    if (m == 0) {
+        e->length = 0;
+        return 0;
+    }
+    if (m <= e->held) {
+        set_text(e, 0, data, m);
+        e->held = (uint32_t)m;
+        return 0;
+    }
+    return set_in_new_space(b, e, 0, data, m);
+}
+
+uint32_t book_add(struct book *b, const uint8_t *key, size_t key_len,
+                  const uint8_t *data, size_t data_len, uint32_t mode)
+{
+    struct entry *e;
+
+    if (!name_fits(b, key, key_len))
+        return 7;
+    if (mode != 1 && mode != 2 && mode != 3)
+        return 8;
+    e = find(b, key);
+    if (e == NULL)
+        return add_new(b, key, data, data_len);
+    if (mode == 1)
+        return 9;
+    if (mode == 2)
+        return replace_text(b, e, data, data_len);
+    if (data_len == 0)
+        return 0;
+    return set_in_new_space(b, e, e->length, data, data_len);
+}
+
+uint32_t book_delete(struct book *b, const uint8_t *key, size_t key_len)
+{
+    struct entry *e;
+
+    if (!name_fits(b, key, key_len))
+        return 7;
+    e = find(b, key);
+    if (e == NULL)
+        return 14;
+    free(e->text);
+    *e = b->entries[--b->count];
+    return 0;
+}
+
+uint32_t book_lookup(const struct book *b, const uint8_t *key,
+                     size_t key_len, const uint8_t **text, uint32_t *length)
+{
+    const struct entry *e;
+
+    *text = NULL;
+    *length = 0;
+    if (!name_fits(b, key, key_len))
+        return 7;
+    e = find(b, key);
+    if (e == NULL)
+        return 14;
+    if (e->length > 0) {
+        *text = e->text;
+        *length = e->length;
+    }
+    return 0;
+}
+
+uint32_t book_count(const struct book *b)
+{
+    return b->count;
+}

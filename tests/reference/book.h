@@ -1,0 +1,40 @@
+/* The plain control book of 01-scope.md: what the file should amount to,
+ * seen from the calls alone. */
+#ifndef BOOK_H
+#define BOOK_H
+
+#include <stddef.h>
+#include <stdint.h>
+
+struct entry {
+    uint8_t name[32];
+    uint8_t *text;
+    uint32_t length; /* of the text */
+    uint32_t held;
+};
+
+struct book {
+    uint32_t key_size;
+    uint32_t slots;
+    uint64_t used; /* U */
+    uint64_t room; /* R */
+    struct entry *entries;
+    uint32_t count;
+    uint32_t capacity;
+};
+
+/* An empty book for an image of the given length; slots 0 means 5507. */
+void book_open(struct book *b, size_t image_len, uint32_t key_size,
+               uint32_t slots);
+void book_close(struct book *b);
+
+uint32_t book_add(struct book *b, const uint8_t *key, size_t key_len,
+                  const uint8_t *data, size_t data_len, uint32_t mode);
+uint32_t book_delete(struct book *b, const uint8_t *key, size_t key_len);
+
+/* The text stays the book's; no text and 0 when refused or empty. */
+uint32_t book_lookup(const struct book *b, const uint8_t *key,
+                     size_t key_len, const uint8_t **text, uint32_t *length);
+uint32_t book_count(const struct book *b);
+
+#endif

@@ -1,0 +1,665 @@
+/* The control point file of 01-scope.md, in plain C on one image. */
+#include "plain.h"
+
+#include <string.h>
+
+#define PAGE 4096u
+#define IMAGE_MAX 16777216u
+#define KEY_MAX 32u
+#define SLOTS_MAX 65536u
+#define SLOTS_DEFAULT 5507u
+#define MESSAGE_MAX 16777215u
+#define MESSAGE_HEADER 4u
+#define OFFSET_SIZE 4u
+#define SCRAMBLE 512u
+#define TABLE 2048u
+#define FIRST_CHARACTER 32u
+#define LAST_CHARACTER 126u
+#define MULTIPLIER 0x01000193u
+#define START_VALUE 0x811C9DC5u
+
+/* Where the header's numbers stand. */
+enum {
+    AT_KEY_SIZE = 12,
+    AT_SLOTS = 16,
+    AT_COUNT = 20,
+    AT_MULTIPLIER = 24,
+    AT_START = 28,
+    AT_FIRST = 32,
+    AT_LAST = 36,
+    AT_SCRAMBLE = 40,
+    AT_TABLE = 44,
+    AT_DATA = 48,
+    AT_NEXT = 52,
+    AT_LAST_PAGE = 56
+};
+
+enum { ACCEPTED = 0 };
+enum { MODE_NEW = 1, MODE_REPLACE = 2, MODE_APPEND = 3 };
+
+/* An opened image: the header's numbers, and L. */
+struct view {
+    const uint8_t *image;
+    uint32_t length;
+    uint32_t key_size;
+    uint32_t slots;
+    uint32_t count;
+    uint32_t multiplier;
+    uint32_t start;
+    uint32_t first;
+    uint32_t last;
+    uint32_t data;
+    uint32_t next;
+    uint32_t stride;
+};
+
+enum ending { MET, EMPTY, EXHAUSTED };
+
+struct found {
+    enum ending ending;
+    uint32_t slot;
+};
+
+/* Offset 0 and length 0: no message. */
+struct message {
+    uint32_t offset;
+    uint32_t length;
+    int active;
+};
+
+struct text {
+    const uint8_t *bytes;
+    size_t length;
+};
+
+/* ---- numbers and bytes ---- */
+
+static uint32_t get32(const uint8_t *at)
+{
+    return (uint32_t)at[0] << 24 | (uint32_t)at[1] << 16 |
+           (uint32_t)at[2] << 8 | (uint32_t)at[3];
+}
+
+static void put32(uint8_t *at, uint32_t value)
+{
+    at[0] = (uint8_t)(value >> 24);
+    at[1] = (uint8_t)(value >> 16);
+    at[2] = (uint8_t)(value >> 8);
+    at[3] = (uint8_t)value;
+}
+
+static int all_zero(const uint8_t *bytes, uint32_t length)
+{
+    for (uint32_t i = 0; i < length; i++)
+        if (bytes[i] != 0)
+            return 0;
+    return 1;
+}
+
+/* memcpy that takes a null pointer for no bytes. */
+static void copy(uint8_t *to, const uint8_t *from, size_t length)
+{
+    if (length > 0)
+        memcpy(to, from, length);
+}
+
+/* ---- the header ---- */
+
+/* D, for K and N in range. */
+static uint32_t data_offset(uint32_t key_size, uint32_t slots)
+{
+    uint32_t end = TABLE + slots * (key_size + OFFSET_SIZE);
+
+    return (end + PAGE - 1) / PAGE * PAGE;
+}
+
+/* M, as stored. */
+static uint32_t last_page(uint32_t data, uint32_t next)
+{
+    return next == data ? 0xFFFFFFFFu : (next - data - 1) / PAGE;
+}
+
+/* Question 1. */
+static int length_fits(size_t length)
+{
+    return length % PAGE == 0 && length >= PAGE && length <= IMAGE_MAX;
+}
+
+/* Question 5. */
+static int version_fits(const uint8_t *image)
+{
+    return memcmp(image, "BHTFv\1\0", 7) == 0 && image[7] <= 1;
+}
+
+/* Question 6. As unsigned numbers, fields with the top bit set fail too. */
+static int header_fits(const struct view *v)
+{
+    if (v->key_size < 1 || v->key_size > KEY_MAX)
+        return 0;
+    if (v->slots < 1 || v->slots > SLOTS_MAX)
+        return 0;
+    if (v->count > v->slots)
+        return 0;
+    if (v->first > v->last || v->last > 255)
+        return 0;
+    if (get32(v->image + AT_SCRAMBLE) != SCRAMBLE)
+        return 0;
+    if (get32(v->image + AT_TABLE) != TABLE)
+        return 0;
+    if (v->data != data_offset(v->key_size, v->slots))
+        return 0;
+    return v->data <= v->next && v->next <= v->length;
+}
+
+static void read_header(struct view *v)
+{
+    v->key_size = get32(v->image + AT_KEY_SIZE);
+    v->slots = get32(v->image + AT_SLOTS);
+    v->count = get32(v->image + AT_COUNT);
+    v->multiplier = get32(v->image + AT_MULTIPLIER);
+    v->start = get32(v->image + AT_START);
+    v->first = get32(v->image + AT_FIRST);
+    v->last = get32(v->image + AT_LAST);
+    v->data = get32(v->image + AT_DATA);
+    v->next = get32(v->image + AT_NEXT);
+    v->stride = v->key_size + OFFSET_SIZE;
+}
+
+/* Questions 1, 5 and 6. */
+static uint32_t open_image(struct view *v, const uint8_t *image, size_t length)
+{
+    if (!length_fits(length))
+        return 1;
+    if (!version_fits(image))
+        return 5;
+    v->image = image;
+    v->length = (uint32_t)length;
+    read_header(v);
+    return header_fits(v) ? ACCEPTED : 6;
+}
+
+/* ---- create ---- */
+
+static void write_scramble(uint8_t *image, uint32_t seed)
+{
+    uint32_t numbers = LAST_CHARACTER - FIRST_CHARACTER + 1;
+    uint32_t state = seed;
+
+    for (uint32_t i = 0; i < numbers; i++) {
+        state = state * 1664525u + 1013904223u;
+        put32(image + SCRAMBLE + 4 * i, state);
+    }
+}
+
+static void write_header(uint8_t *image, uint32_t key_size, uint32_t slots)
+{
+    uint32_t data = data_offset(key_size, slots);
+
+    memcpy(image, "BHTFv\1\0\1", 8);
+    put32(image + AT_KEY_SIZE, key_size);
+    put32(image + AT_SLOTS, slots);
+    put32(image + AT_MULTIPLIER, MULTIPLIER);
+    put32(image + AT_START, START_VALUE);
+    put32(image + AT_FIRST, FIRST_CHARACTER);
+    put32(image + AT_LAST, LAST_CHARACTER);
+    put32(image + AT_SCRAMBLE, SCRAMBLE);
+    put32(image + AT_TABLE, TABLE);
+    put32(image + AT_DATA, data);
+    put32(image + AT_NEXT, data);
+    put32(image + AT_LAST_PAGE, last_page(data, data));
+}
+
+uint32_t plain_create(uint8_t *image, size_t image_len, uint32_t key_size,
+                      uint32_t slots, uint32_t seed)
+{
+    if (!length_fits(image_len))
+        return 1;
+    if (key_size < 1 || key_size > KEY_MAX)
+        return 2;
+    if (slots > SLOTS_MAX)
+        return 3;
+    if (slots == 0)
+        slots = SLOTS_DEFAULT;
+    if (data_offset(key_size, slots) > image_len)
+        return 4;
+    memset(image, 0, image_len);
+    write_header(image, key_size, slots);
+    write_scramble(image, seed);
+    return ACCEPTED;
+}
+
+/* ---- from name to slot ---- */
+
+static uint32_t hash_of(const struct view *v, const uint8_t *key)
+{
+    const uint8_t *scramble = v->image + SCRAMBLE;
+    uint32_t hash = v->start;
+
+    for (uint32_t i = 0; i < v->key_size; i++) {
+        uint32_t c = key[i];
+
+        hash *= v->multiplier;
+        if (v->first <= c && c <= v->last)
+            hash ^= get32(scramble + 4 * (c - v->first));
+    }
+    return hash;
+}
+
+static uint32_t home_of(const struct view *v, const uint8_t *key)
+{
+    return hash_of(v, key) % v->slots;
+}
+
+static uint32_t after(const struct view *v, uint32_t slot)
+{
+    return slot + 1 == v->slots ? 0 : slot + 1;
+}
+
+/* Where a slot's key stands; its message offset stands K bytes on. */
+static uint32_t slot_at(const struct view *v, uint32_t slot)
+{
+    return TABLE + slot * v->stride;
+}
+
+static const uint8_t *key_in(const struct view *v, uint32_t slot)
+{
+    return v->image + slot_at(v, slot);
+}
+
+static uint32_t message_in(const struct view *v, uint32_t slot)
+{
+    return get32(key_in(v, slot) + v->key_size);
+}
+
+static int is_taken(const struct view *v, uint32_t slot)
+{
+    return !all_zero(key_in(v, slot), v->key_size);
+}
+
+static int same_key(const struct view *v, uint32_t slot, const uint8_t *key)
+{
+    return memcmp(key_in(v, slot), key, v->key_size) == 0;
+}
+
+static struct found search(const struct view *v, const uint8_t *key)
+{
+    struct found f = { EXHAUSTED, home_of(v, key) };
+
+    for (uint32_t read = 0; read < v->slots; read++) {
+        if (same_key(v, f.slot, key)) {
+            f.ending = MET;
+            return f;
+        }
+        if (!is_taken(v, f.slot)) {
+            f.ending = EMPTY;
+            return f;
+        }
+        f.slot = after(v, f.slot);
+    }
+    return f;
+}
+
+/* Question 7. */
+static int key_fits(const struct view *v, const uint8_t *key, size_t length)
+{
+    return length == v->key_size && !all_zero(key, v->key_size);
+}
+
+/* ---- messages ---- */
+
+/* Question 11, the message's part: no message, or a good one. */
+static int read_message(const struct view *v, uint32_t offset,
+                        struct message *m)
+{
+    uint32_t header;
+
+    m->offset = offset;
+    m->length = 0;
+    m->active = 0;
+    if (offset == 0)
+        return 1;
+    if (offset < v->data || offset > v->next - MESSAGE_HEADER)
+        return 0;
+    header = get32(v->image + offset);
+    if (header >> 24 != 'a' && header >> 24 != 'd')
+        return 0;
+    m->length = header & 0xFFFFFFu;
+    m->active = header >> 24 == 'a';
+    return m->length >= 1 && m->length <= v->next - offset - MESSAGE_HEADER;
+}
+
+static void write_active(uint8_t *image, uint32_t offset, uint32_t length)
+{
+    put32(image + offset, (uint32_t)'a' << 24 | length);
+}
+
+/* An old header, if there is one, becomes inactive. */
+static void retire(uint8_t *image, const struct message *m)
+{
+    if (m->offset != 0)
+        image[m->offset] = 'd';
+}
+
+/* Questions 12 and 13 for kept old bytes and m new ones. */
+static uint32_t ask_room(const struct view *v, uint32_t kept, size_t m)
+{
+    if (m > MESSAGE_MAX || kept + m > MESSAGE_MAX)
+        return 12;
+    if (MESSAGE_HEADER + kept + m > v->length - v->next)
+        return 13;
+    return ACCEPTED;
+}
+
+/* Takes new space at X for kept old bytes and the new ones behind them. */
+static uint32_t place(uint8_t *image, const struct view *v, struct text kept,
+                      struct text fresh)
+{
+    uint32_t offset = v->next;
+    uint32_t length = (uint32_t)(kept.length + fresh.length);
+    uint32_t next = offset + MESSAGE_HEADER + length;
+    uint8_t *to = image + offset + MESSAGE_HEADER;
+
+    write_active(image, offset, length);
+    copy(to, kept.bytes, kept.length);
+    copy(to + kept.length, fresh.bytes, fresh.length);
+    put32(image + AT_NEXT, next);
+    put32(image + AT_LAST_PAGE, last_page(v->data, next));
+    return offset;
+}
+
+/* Writes a text that fits over the old message. */
+static void overwrite(uint8_t *image, const struct message *old,
+                      struct text text)
+{
+    uint8_t *to = image + old->offset + MESSAGE_HEADER;
+
+    write_active(image, old->offset, (uint32_t)text.length);
+    copy(to, text.bytes, text.length);
+    memset(to + text.length, 0, old->length - text.length);
+}
+
+/* ---- add ---- */
+
+static void write_slot(uint8_t *image, const struct view *v, uint32_t slot,
+                       const uint8_t *key, uint32_t offset)
+{
+    uint8_t *to = image + slot_at(v, slot);
+
+    memcpy(to, key, v->key_size);
+    put32(to + v->key_size, offset);
+}
+
+static void write_offset(uint8_t *image, const struct view *v, uint32_t slot,
+                         uint32_t offset)
+{
+    put32(image + slot_at(v, slot) + v->key_size, offset);
+}
+
+static uint32_t add_absent(uint8_t *image, const struct view *v,
+                           struct found f, const uint8_t *key,
+                           struct text text)
+{
+    const struct text none = { NULL, 0 };
+    uint32_t answer = ACCEPTED;
+    uint32_t offset = 0;
+
+    if (f.ending == EXHAUSTED || v->count >= v->slots)
+        return 10;
+    if (text.length > 0)
+        answer = ask_room(v, 0, text.length);
+    if (answer != ACCEPTED)
+        return answer;
+    if (text.length > 0)
+        offset = place(image, v, none, text);
+    write_slot(image, v, f.slot, key, offset);
+    put32(image + AT_COUNT, v->count + 1);
+    return ACCEPTED;
+}
+
+/* New space for the slot's message, the old one inactive. */
+static uint32_t renew(uint8_t *image, const struct view *v, uint32_t slot,
+                      const struct message *old, struct text kept,
+                      struct text text)
+{
+    uint32_t answer = ask_room(v, (uint32_t)kept.length, text.length);
+
+    if (answer != ACCEPTED)
+        return answer;
+    retire(image, old);
+    write_offset(image, v, slot, place(image, v, kept, text));
+    return ACCEPTED;
+}
+
+static uint32_t replace(uint8_t *image, const struct view *v, uint32_t slot,
+                        const struct message *old, struct text text)
+{
+    const struct text none = { NULL, 0 };
+
+    if (text.length == 0) {
+        retire(image, old);
+        return ACCEPTED;
+    }
+    if (text.length <= old->length) {
+        overwrite(image, old, text);
+        return ACCEPTED;
+    }
+    return renew(image, v, slot, old, none, text);
+}
+
+static uint32_t append(uint8_t *image, const struct view *v, uint32_t slot,
+                       const struct message *old, struct text text)
+{
+    struct text kept = { NULL, 0 };
+
+    if (text.length == 0)
+        return ACCEPTED;
+    if (old->active) {
+        kept.bytes = v->image + old->offset + MESSAGE_HEADER;
+        kept.length = old->length;
+    }
+    return renew(image, v, slot, old, kept, text);
+}
+
+static uint32_t add_present(uint8_t *image, const struct view *v,
+                            uint32_t slot, struct text text, uint32_t mode)
+{
+    struct message old;
+
+    if (mode == MODE_NEW)
+        return 9;
+    if (!read_message(v, message_in(v, slot), &old))
+        return 11;
+    if (mode == MODE_REPLACE)
+        return replace(image, v, slot, &old, text);
+    return append(image, v, slot, &old, text);
+}
+
+uint32_t plain_add(uint8_t *image, size_t image_len, const uint8_t *key,
+                   size_t key_len, const uint8_t *data, size_t data_len,
+                   uint32_t mode)
+{
+    const struct text text = { data, data_len };
+    struct view v;
+    struct found f;
+    uint32_t answer = open_image(&v, image, image_len);
+
+    if (answer != ACCEPTED)
+        return answer;
+    if (!key_fits(&v, key, key_len))
+        return 7;
+    if (mode < MODE_NEW || mode > MODE_APPEND)
+        return 8;
+    f = search(&v, key);
+    if (f.ending == MET)
+        return add_present(image, &v, f.slot, text, mode);
+    return add_absent(image, &v, f, key, text);
+}
+
+/* ---- delete ---- */
+
+static void zero_slot(uint8_t *image, const struct view *v, uint32_t slot)
+{
+    memset(image + slot_at(v, slot), 0, v->stride);
+}
+
+static void move_slot(uint8_t *image, const struct view *v, uint32_t from,
+                      uint32_t to)
+{
+    memcpy(image + slot_at(v, to), image + slot_at(v, from), v->stride);
+    zero_slot(image, v, from);
+}
+
+/* Steps upwards from a to b, wrapping. */
+static uint32_t steps(const struct view *v, uint32_t a, uint32_t b)
+{
+    return b >= a ? b - a : b + v->slots - a;
+}
+
+/* Is the entry's home among the slots after the hole up to its own? */
+static int may_stay(const struct view *v, uint32_t hole, uint32_t slot)
+{
+    uint32_t home = home_of(v, key_in(v, slot));
+
+    return home != hole && steps(v, hole, home) <= steps(v, hole, slot);
+}
+
+/* Moves entries into the hole until an empty slot is met. On a full table
+ * with entries far from home this can take up to N * N - N + 1 steps. */
+static void close_hole(uint8_t *image, const struct view *v, uint32_t hole)
+{
+    uint32_t slot = after(v, hole);
+
+    while (is_taken(v, slot)) {
+        if (!may_stay(v, hole, slot)) {
+            move_slot(image, v, slot, hole);
+            hole = slot;
+        }
+        slot = after(v, slot);
+    }
+}
+
+/* Questions 7 and 14, for lookup and delete. */
+static uint32_t ask_present(const struct view *v, const uint8_t *key,
+                            size_t key_len, uint32_t *slot)
+{
+    struct found f;
+
+    if (!key_fits(v, key, key_len))
+        return 7;
+    f = search(v, key);
+    *slot = f.slot;
+    return f.ending == MET ? ACCEPTED : 14;
+}
+
+uint32_t plain_delete(uint8_t *image, size_t image_len, const uint8_t *key,
+                      size_t key_len)
+{
+    struct view v;
+    struct message old;
+    uint32_t slot;
+    uint32_t answer = open_image(&v, image, image_len);
+
+    if (answer == ACCEPTED)
+        answer = ask_present(&v, key, key_len, &slot);
+    if (answer != ACCEPTED)
+        return answer;
+    if (!read_message(&v, message_in(&v, slot), &old) || v.count < 1)
+        return 11;
+    retire(image, &old);
+    put32(image + AT_COUNT, v.count - 1);
+    zero_slot(image, &v, slot);
+    close_hole(image, &v, slot);
+    return ACCEPTED;
+}
+
+/* ---- lookup, count, walk, check ---- */
+
+uint32_t plain_lookup(const uint8_t *image, size_t image_len,
+                      const uint8_t *key, size_t key_len, uint32_t *offset,
+                      uint32_t *length)
+{
+    struct view v;
+    struct message m;
+    uint32_t slot;
+    uint32_t answer = open_image(&v, image, image_len);
+
+    *offset = 0;
+    *length = 0;
+    if (answer == ACCEPTED)
+        answer = ask_present(&v, key, key_len, &slot);
+    if (answer != ACCEPTED)
+        return answer;
+    if (!read_message(&v, message_in(&v, slot), &m))
+        return 11;
+    if (m.active) {
+        *offset = m.offset + MESSAGE_HEADER;
+        *length = m.length;
+    }
+    return ACCEPTED;
+}
+
+uint32_t plain_count(const uint8_t *image, size_t image_len, uint32_t *count)
+{
+    struct view v;
+    uint32_t answer = open_image(&v, image, image_len);
+
+    *count = answer == ACCEPTED ? v.count : 0;
+    return answer;
+}
+
+uint32_t plain_walk(const uint8_t *image, size_t image_len, uint32_t from,
+                    uint32_t *slot, uint32_t *key_offset)
+{
+    struct view v;
+    uint32_t answer = open_image(&v, image, image_len);
+
+    *slot = 0;
+    *key_offset = 0;
+    if (answer != ACCEPTED)
+        return answer;
+    for (uint32_t i = from; i < v.slots; i++)
+        if (is_taken(&v, i)) {
+            *slot = i;
+            *key_offset = slot_at(&v, i);
+            break;
+        }
+    return ACCEPTED;
+}
+
+/* A taken slot is good when its key's search ends there and its message
+ * passes question 11. */
+static int slot_is_good(const struct view *v, uint32_t slot)
+{
+    struct found f = search(v, key_in(v, slot));
+    struct message m;
+
+    if (f.ending != MET || f.slot != slot)
+        return 0;
+    return read_message(v, message_in(v, slot), &m);
+}
+
+uint32_t plain_check(const uint8_t *image, size_t image_len,
+                     uint32_t *verdict, uint32_t *slot)
+{
+    struct view v;
+    uint32_t taken = 0;
+    uint32_t answer = open_image(&v, image, image_len);
+
+    *verdict = 0;
+    *slot = 0;
+    if (answer != ACCEPTED)
+        return answer;
+    for (uint32_t i = 0; i < v.slots; i++) {
+        if (!is_taken(&v, i))
+            continue;
+        taken++;
+        if (!slot_is_good(&v, i)) {
+            *verdict = 1;
+            *slot = i;
+            return ACCEPTED;
+        }
+    }
+    if (taken != v.count)
+        *verdict = 2;
+    return ACCEPTED;
+}

@@ -1,0 +1,37 @@
+/* The control point file of 01-scope.md, in plain C on one image.
+ * Every call answers the document's number, 0 when accepted. */
+#ifndef PLAIN_H
+#define PLAIN_H
+
+#include <stddef.h>
+#include <stdint.h>
+
+uint32_t plain_create(uint8_t *image, size_t image_len, uint32_t key_size,
+                      uint32_t slots, uint32_t seed);
+
+uint32_t plain_add(uint8_t *image, size_t image_len, const uint8_t *key,
+                   size_t key_len, const uint8_t *data, size_t data_len,
+                   uint32_t mode);
+
+uint32_t plain_delete(uint8_t *image, size_t image_len, const uint8_t *key,
+                      size_t key_len);
+
+/* Offset of the first message byte and length; both 0 with no active message
+ * or when refused. */
+uint32_t plain_lookup(const uint8_t *image, size_t image_len,
+                      const uint8_t *key, size_t key_len, uint32_t *offset,
+                      uint32_t *length);
+
+/* 0 when refused. */
+uint32_t plain_count(const uint8_t *image, size_t image_len, uint32_t *count);
+
+/* Both 0 at the end or when refused; a key offset is never 0 otherwise. */
+uint32_t plain_walk(const uint8_t *image, size_t image_len, uint32_t from,
+                    uint32_t *slot, uint32_t *key_offset);
+
+/* Verdict 0 sound, 1 the slot fails, 2 the count fails; slot 0 unless the
+ * verdict is 1. Both 0 when refused. */
+uint32_t plain_check(const uint8_t *image, size_t image_len,
+                     uint32_t *verdict, uint32_t *slot);
+
+#endif

@@ -1,0 +1,29 @@
+/* The code under test: whatever is linked under the names bhtf_*. */
+#include "calls.h"
+
+/* With -DSUBJECT_HEADER='"name.h"' the compiler also compares the library's
+ * own header with the declarations below. */
+#ifdef SUBJECT_HEADER
+#include SUBJECT_HEADER
+#endif
+
+uint32_t bhtf_create(uint8_t *image, size_t image_len, uint32_t key_size,
+                     uint32_t slots, uint32_t seed);
+uint32_t bhtf_add(uint8_t *image, size_t image_len, const uint8_t *key,
+                  size_t key_len, const uint8_t *data, size_t data_len,
+                  uint32_t mode);
+uint32_t bhtf_delete(uint8_t *image, size_t image_len, const uint8_t *key,
+                     size_t key_len);
+uint32_t bhtf_lookup(const uint8_t *image, size_t image_len,
+                     const uint8_t *key, size_t key_len, uint32_t *offset,
+                     uint32_t *length);
+uint32_t bhtf_count(const uint8_t *image, size_t image_len, uint32_t *count);
+uint32_t bhtf_walk(const uint8_t *image, size_t image_len, uint32_t from,
+                   uint32_t *slot, uint32_t *key_offset);
+uint32_t bhtf_check(const uint8_t *image, size_t image_len,
+                    uint32_t *verdict, uint32_t *slot);
+
+const struct calls subject = {
+    bhtf_create, bhtf_add,  bhtf_delete, bhtf_lookup,
+    bhtf_count,  bhtf_walk, bhtf_check,
+};

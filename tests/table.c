@@ -1,0 +1,393 @@
+/* 01's proved table, the generator, and FNV-1 vectors, run on the code under
+ * test. Ends with "N passed, 0 failed".
+ *
+ * The hash is not an export; it is seen through home slots: on an empty table
+ * an added key lands in slot hash mod N. 65536, 65535 and 65533 have no
+ * common factor and their product exceeds 2^32, so two 32-bit hashes that
+ * agree modulo all three are equal. */
+#include "calls.h"
+
+#include <stdio.h>
+#include <stdlib.h>
+#include <string.h>
+
+#define PAGE 4096u
+#define IMAGE_ROOM (4u * 1024 * 1024)
+
+enum { AT_KEY_SIZE = 12, AT_SLOTS = 16, AT_COUNT = 20, AT_FIRST = 32 };
+enum { AT_LAST = 36, AT_DATA = 48, AT_NEXT = 52, AT_LAST_PAGE = 56 };
+enum { SCRAMBLE = 512, TABLE = 2048 };
+
+static const uint32_t three[3] = { 65536, 65535, 65533 };
+
+static unsigned passed;
+static unsigned failed;
+static uint8_t *image;
+static size_t length;
+
+/* ---- helpers ---- */
+
+static void expect(const char *what, uint32_t got, uint32_t want)
+{
+    if (got == want) {
+        passed++;
+        return;
+    }
+    failed++;
+    printf("FAILED: %s: got %u (0x%08x), expected %u (0x%08x)\n", what, got,
+           got, want, want);
+}
+
+static uint32_t get32(uint32_t offset)
+{
+    const uint8_t *at = image + offset;
+
+    return (uint32_t)at[0] << 24 | (uint32_t)at[1] << 16 |
+           (uint32_t)at[2] << 8 | (uint32_t)at[3];
+}
+
+static void put32(uint32_t offset, uint32_t value)
+{
+    for (uint32_t i = 0; i < 4; i++)
+        image[offset + i] = (uint8_t)(value >> (24 - 8 * i));
+}
+
+/* A created image with so many bytes; the bytes before were not zero. */
+static uint32_t create(size_t bytes, uint32_t k, uint32_t n, uint32_t seed)
+{
+    length = bytes;
+    memset(image, 0x5A, bytes);
+    return subject.create(image, bytes, k, n, seed);
+}
+
+static uint32_t add(uint8_t name, const char *text, size_t size,
+                    uint32_t mode)
+{
+    return subject.add(image, length, &name, 1, (const uint8_t *)text, size,
+                       mode);
+}
+
+static uint32_t delete(uint8_t name)
+{
+    return subject.remove(image, length, &name, 1);
+}
+
+/* The key byte in a slot, K = 1. */
+static uint32_t key_in(uint32_t slot)
+{
+    return image[TABLE + 5 * slot];
+}
+
+static void expect_slots(const char *what, const uint8_t *keys, uint32_t n)
+{
+    for (uint32_t i = 0; i < n; i++)
+        expect(what, key_in(i), keys[i]);
+}
+
+/* The first slot with a key, read from the bytes; n for none. */
+static uint32_t first_taken(uint32_t k, uint32_t n)
+{
+    uint32_t size = n * (k + 4);
+
+    for (uint32_t i = 0; i < size; i++)
+        if (image[TABLE + i] != 0)
+            return i / (k + 4);
+    return n;
+}
+
+/* ---- the proved table ---- */
+
+static void data_offsets(void)
+{
+    expect("create K 4 N 256", create(65536, 4, 256, 0), 0);
+    expect("D of N 256", get32(AT_DATA), 4096);
+    expect("create K 4 N 257", create(65536, 4, 257, 0), 0);
+    expect("D of N 257", get32(AT_DATA), 8192);
+    expect("create K 4 N 5033", create(65536, 4, 5033, 0), 0);
+    expect("D of N 5033", get32(AT_DATA), 45056);
+    expect("L = D", create(45056, 4, 5033, 0), 0);
+    expect("L below D", create(40960, 4, 5033, 0), 4);
+}
+
+static void default_slots(void)
+{
+    expect("create N 0", create(65536, 4, 0, 0), 0);
+    expect("N stored", get32(AT_SLOTS), 5507);
+    expect("D of N 5507", get32(AT_DATA), 49152);
+}
+
+/* M of X - D = 0, 4096 and 4097. */
+static void last_pages(void)
+{
+    static const char bytes[5000];
+
+    create(12288, 1, 4, 0);
+    expect("M of 0", get32(AT_LAST_PAGE), 0xFFFFFFFFu);
+    expect("add 4092", add(1, bytes, 4092, 1), 0);
+    expect("X - D", get32(AT_NEXT) - get32(AT_DATA), 4096);
+    expect("M of 4096", get32(AT_LAST_PAGE), 0);
+    create(12288, 1, 4, 0);
+    expect("add 4093", add(1, bytes, 4093, 1), 0);
+    expect("X - D", get32(AT_NEXT) - get32(AT_DATA), 4097);
+    expect("M of 4097", get32(AT_LAST_PAGE), 1);
+}
+
+static void hash_modulo_three(const char *what, uint8_t name, uint32_t hash)
+{
+    for (int i = 0; i < 3; i++) {
+        expect("create", create(IMAGE_ROOM, 1, three[i], 0), 0);
+        expect("add", add(name, NULL, 0, 1), 0);
+        expect(what, first_taken(1, three[i]), hash % three[i]);
+    }
+}
+
+static void seed_0_hashes(void)
+{
+    hash_modulo_three("hash of byte 32", 32, 0x3962AE40);
+    hash_modulo_three("hash of byte 1", 1, 0x050C5D1F);
+}
+
+static void four_slots(void)
+{
+    static const uint8_t names[] = { 1, 2, 3, 32 };
+    static const uint8_t full[] = { 2, 3, 32, 1 };
+    static const uint8_t after[] = { 3, 32, 0, 2 };
+
+    create(8192, 1, 4, 0);
+    for (int i = 0; i < 4; i++)
+        expect("add", add(names[i], NULL, 0, 1), 0);
+    expect_slots("full table", full, 4);
+    expect("fifth name", add(33, NULL, 0, 1), 10);
+    expect("delete 1", delete(1), 0);
+    expect_slots("after delete", after, 4);
+    expect("C", get32(AT_COUNT), 3);
+}
+
+/* An opened image: entries stand where no list of calls puts them. */
+static void three_slots(void)
+{
+    static const uint8_t before[] = { 33, 34, 32 };
+    static const uint8_t after[] = { 32, 0, 34 };
+
+    create(8192, 1, 3, 0);
+    for (uint32_t i = 0; i < 3; i++)
+        image[TABLE + 5 * i] = before[i];
+    put32(AT_COUNT, 3);
+    expect("delete 33", delete(33), 0);
+    expect_slots("after delete", after, 3);
+}
+
+static void just_fits(void)
+{
+    static const char bytes[5000];
+
+    create(8192, 1, 4, 0);
+    expect("4093 bytes", add(1, bytes, 4093, 1), 13);
+    expect("C after 13", get32(AT_COUNT), 0);
+    expect("4092 bytes", add(1, bytes, 4092, 1), 0);
+    expect("X", get32(AT_NEXT), 8192);
+}
+
+static void replacing(void)
+{
+    create(8192, 1, 4, 0);
+    expect("5 bytes", add(1, "abcde", 5, 2), 0);
+    expect("U", get32(AT_NEXT) - get32(AT_DATA), 9);
+    expect("3 bytes", add(1, "xyz", 3, 2), 0);
+    expect("U", get32(AT_NEXT) - get32(AT_DATA), 9);
+    expect("rest zeroed", get32(4096 + 4 + 3) >> 16, 0);
+    expect("4 bytes", add(1, "wxyz", 4, 2), 0);
+    expect("U", get32(AT_NEXT) - get32(AT_DATA), 17);
+}
+
+static void key_of_zeros(void)
+{
+    uint32_t a, b;
+    uint8_t zero = 0;
+
+    create(8192, 1, 4, 0);
+    expect("add", add(0, "x", 1, 1), 7);
+    expect("delete", delete(0), 7);
+    expect("lookup", subject.lookup(image, length, &zero, 1, &a, &b), 7);
+}
+
+/* The lister's example, by walk and lookup. */
+static void lister_example(void)
+{
+    static const uint32_t want[3][3] = {
+        { 0, 2, 2 }, { 1, 3, 0 }, { 3, 1, 1 }
+    };
+    uint32_t slot = 0, at = 0, offset, size, from = 0;
+
+    create(8192, 1, 4, 0);
+    add(1, "P", 1, 1);
+    add(2, "QR", 2, 1);
+    add(3, NULL, 0, 1);
+    for (int i = 0; i < 3; i++) {
+        expect("walk", subject.walk(image, length, from, &slot, &at), 0);
+        expect("slot", slot, want[i][0]);
+        expect("key", image[at], want[i][1]);
+        subject.lookup(image, length, image + at, 1, &offset, &size);
+        expect("length", size, want[i][2]);
+        from = slot + 1;
+    }
+    expect("walk", subject.walk(image, length, from, &slot, &at), 0);
+    expect("end", at, 0);
+}
+
+/* ---- the generator ---- */
+
+/* Powers of the multiplier and their sums, by another route than one step
+ * after the other: state(n) = seed * a^n + c * (1 + a + .. + a^(n-1)). */
+static uint32_t jump(uint32_t seed, uint32_t n)
+{
+    uint32_t power = 1, sum = 0;
+
+    for (uint32_t i = 0; i < n; i++) {
+        sum += power;
+        power *= 1664525u;
+    }
+    return seed * power + 1013904223u * sum;
+}
+
+static void generator(void)
+{
+    static const uint32_t seeds[] = { 0, 1, 12345, 0x80000000u, 0xFFFFFFFFu };
+
+    for (size_t s = 0; s < sizeof seeds / sizeof *seeds; s++) {
+        create(8192, 1, 4, seeds[s]);
+        for (uint32_t i = 0; i < 95; i++)
+            expect("scramble number", get32(SCRAMBLE + 4 * i),
+                   jump(seeds[s], i + 1));
+        expect("behind the scramble", get32(SCRAMBLE + 4 * 95), 0);
+    }
+}
+
+/* ---- FNV-1 ---- */
+
+struct vector {
+    const char *name;
+    uint32_t size;
+    uint32_t hash;
+};
+
+/* From the published list of FNV-1 32-bit test vectors (Noll). */
+static const struct vector published[] = {
+    { "a", 1, 0x050c5d7e },        { "b", 1, 0x050c5d7d },
+    { "c", 1, 0x050c5d7c },        { "d", 1, 0x050c5d7b },
+    { "e", 1, 0x050c5d7a },        { "f", 1, 0x050c5d79 },
+    { "fo", 2, 0x6b772514 },       { "foo", 3, 0x408f5e13 },
+    { "foob", 4, 0xb4b1178b },     { "fooba", 5, 0xfdc80fb0 },
+    { "foobar", 6, 0x31f0b262 },   { "a\0", 2, 0x70772d5a },
+    { "b\0", 2, 0x6f772bc7 },      { "c\0", 2, 0x6e772a34 },
+    { "d\0", 2, 0x6d7728a1 },      { "e\0", 2, 0x6c77270e },
+    { "f\0", 2, 0x6b77257b },      { "fo\0", 3, 0x408f5e7c },
+    { "foo\0", 4, 0xb4b117e9 },    { "foob\0", 5, 0xfdc80fd1 },
+    { "fooba\0", 6, 0x31f0b210 },  { "foobar\0", 7, 0xffe8d046 },
+    { "ch", 2, 0x6e772a5c },       { "cho", 3, 0x4197aebb },
+    { "chon", 4, 0xfcc8100f },     { "chong", 5, 0xfdf147fa },
+    { "chongo", 6, 0xbcd44ee1 },
+};
+
+#define PUBLISHED (sizeof published / sizeof *published)
+
+/* The textbook: multiply, then exclusive-or. */
+static uint32_t fnv_1(const uint8_t *name, uint32_t size)
+{
+    uint32_t hash = 2166136261u;
+
+    while (size-- > 0) {
+        hash = (uint32_t)((uint64_t)hash * 16777619u % 4294967296u);
+        hash ^= *name++;
+    }
+    return hash;
+}
+
+/* An empty image whose hash is FNV-1. */
+static void create_fnv(uint32_t k, uint32_t n)
+{
+    expect("create", create(IMAGE_ROOM, k, n, 0), 0);
+    put32(AT_FIRST, 0);
+    put32(AT_LAST, 255);
+    for (uint32_t i = 0; i < 256; i++)
+        put32(SCRAMBLE + 4 * i, i);
+}
+
+/* The name lands in the slot of its hash, and goes away again. */
+static void expect_home(const uint8_t *name, uint32_t size, uint32_t n,
+                        uint32_t hash)
+{
+    expect("add", subject.add(image, length, name, size, NULL, 0, 1), 0);
+    expect("home slot", first_taken(size, n), hash % n);
+    expect("delete", subject.remove(image, length, name, size), 0);
+    expect("empty again", first_taken(size, n), n);
+}
+
+/* Names of one length: text, bytes with zeros, high bytes, noise. */
+static void make_name(uint8_t *name, uint32_t size, uint32_t style)
+{
+    static uint32_t noise = 1;
+
+    for (uint32_t i = 0; i < size; i++) {
+        noise = noise * 69069u + 5;
+        name[i] = (uint8_t)(noise >> 24);
+        if (style == 0)
+            name[i] = (uint8_t)"chongo was here!"[i % 16];
+        if (style == 1)
+            name[i] = i + 1 == size ? 0x80 : 0;
+        if (style == 2)
+            name[i] = 255;
+    }
+    if (style == 3)
+        name[0] |= 1;
+}
+
+static void vectors_of_size(uint32_t size, uint32_t n)
+{
+    uint8_t name[32];
+
+    create_fnv(size, n);
+    for (size_t i = 0; i < PUBLISHED; i++)
+        if (published[i].size == size)
+            expect_home((const uint8_t *)published[i].name, size, n,
+                        published[i].hash);
+    for (uint32_t style = 0; style < 6; style++) {
+        make_name(name, size, style);
+        if (size == 1 && name[0] == 0)
+            continue;
+        expect_home(name, size, n, fnv_1(name, size));
+    }
+}
+
+static void fnv_vectors(void)
+{
+    for (size_t i = 0; i < PUBLISHED; i++)
+        expect("textbook FNV-1",
+               fnv_1((const uint8_t *)published[i].name, published[i].size),
+               published[i].hash);
+    for (uint32_t size = 1; size <= 32; size++)
+        for (int i = 0; i < 3; i++)
+            vectors_of_size(size, three[i]);
+}
+
+int main(void)
+{
+    image = malloc(IMAGE_ROOM);
+    if (image == NULL)
+        return 2;
+    data_offsets();
+    default_slots();
+    last_pages();
+    seed_0_hashes();
+    four_slots();
+    three_slots();
+    just_fits();
+    replacing();
+    key_of_zeros();
+    lister_example();
+    generator();
+    fnv_vectors();
+    free(image);
+    printf("%u passed, %u failed\n", passed, failed);
+    return failed != 0;
+}
