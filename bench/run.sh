@@ -105,6 +105,12 @@ fail() {
   echo "FAILED: $*"
 }
 
+finish() {
+  echo "$passed passed, $failed failed"
+  [ "$failed" -eq 0 ] && [ "$passed" -gt 0 ]
+  exit
+}
+
 # compare_images WHAT: those of the library with plain's, byte for byte.
 compare_images() {
   local image
@@ -125,8 +131,12 @@ run() {
   mkdir "$work/out"
   # The words of subjects and plan are meant to be split.
   # shellcheck disable=SC2086
-  timeout "$limit" "${pin[@]}" "$bin/turns" "$bin" "$files" "$work/out" $5 -- "${images[@]}" --seed "$seed" --fewer "$fewer" --key "$3" --slots "$4" $6 ||
-    fail "$what: a subject failed"
+  timeout "$limit" "${pin[@]}" "$bin/turns" "$bin" "$files" "$work/out" $5 -- "${images[@]}" --seed "$seed" --fewer "$fewer" --key "$3" --slots "$4" $6
+  case $? in
+  0) ;;
+  124) fail "$what: not done in $limit s"; finish ;;
+  *) fail "$what: a subject failed" ;;
+  esac
   rm -f "$files"/*
   for subject in $5; do
     sed "s/^/$1 $2 $3 $4 $subject /" "$work/out/$subject" >>"$results"
@@ -185,8 +195,9 @@ version() {
   dpkg-query -W -f '${source:Upstream-Version}' "$1"
 }
 
+# A failed run leaves the published page alone.
 pages=docs
-if [ "$quick" = 1 ] || [ "$self" = 1 ]; then pages=$bin; fi
+if [ "$quick" = 1 ] || [ "$self" = 1 ] || [ "$failed" -gt 0 ]; then pages=$bin; fi
 mkdir -p "$pages"
 cp "$results" "$bin/results"
 awk -v rounds="$rounds" -v command="$given" -v seed="$seed" -v files="$files_say" \
@@ -196,6 +207,4 @@ awk -v rounds="$rounds" -v command="$given" -v seed="$seed" -v files="$files_say
 awk -f bench/plot.awk "$results" >"$pages/performance.svg" || fail "the plot"
 grep -E '^(Library|Noise)' "$pages/PERFORMANCE.md"
 echo "written: $pages/PERFORMANCE.md, $pages/performance.svg"
-
-echo "$passed passed, $failed failed"
-[ "$failed" -eq 0 ] && [ "$passed" -gt 0 ]
+finish
