@@ -10,8 +10,14 @@ say() { printf '\n# %s\n' "$*"; }
 
 # show COMMAND..: prints a command as it would be typed, and runs it
 show() {
+  local word
   printf '$'
-  printf ' %s' "$@"
+  for word; do
+    case $word in
+      *[!A-Za-z0-9._/-]*) printf " '%s'" "$word" ;;
+      *) printf ' %s' "$word" ;;
+    esac
+  done
   printf '\n'
   "$@"
 }
@@ -20,8 +26,9 @@ need() {
   local missing=()
   command -v gcc >/dev/null || missing+=(gcc libc6-dev)
   command -v make >/dev/null || missing+=(make)
-  [ ${#missing[@]} -eq 0 ] && return
+  [ ${#missing[@]} -eq 0 ] && return 0
   say "Install ${missing[*]}"
+  apt-get update
   apt-get install -y "${missing[@]}"
 }
 

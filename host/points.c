@@ -61,16 +61,19 @@ static void note_interrupt(int number)
     interrupted = 1;
 }
 
+/* A signal that is ignored, as behind nohup, stays so. */
 static void catch_interrupts(void)
 {
     static const int numbers[] = { SIGINT, SIGTERM, SIGHUP };
-    struct sigaction action;
+    struct sigaction action, old;
 
     memset(&action, 0, sizeof action);
     action.sa_handler = note_interrupt;
     sigemptyset(&action.sa_mask);
     for (size_t i = 0; i < sizeof numbers / sizeof numbers[0]; i++)
-        sigaction(numbers[i], &action, NULL);
+        if (sigaction(numbers[i], NULL, &old) == 0 &&
+            old.sa_handler != SIG_IGN)
+            sigaction(numbers[i], &action, NULL);
 }
 
 /* ---- progress ---- */
