@@ -1,7 +1,8 @@
 #!/usr/bin/env bash
 # Builds the library and the command, and runs the main job on a temporary
 # file: the control points of a small site.
-#   LIB=path   another archive than target/staticlib/libstation.a
+#   LIB=path   another archive than target/staticlib/libstation.a, from the
+#              repository's root
 #   RT=path    the prover's command, if it is not rt
 set -euo pipefail
 cd "$(dirname "$0")/.."
@@ -47,7 +48,7 @@ build() {
   archive=$(realpath "$archive")
   if ! nm "$archive" 2>/dev/null | grep -q ' T bhtf_walk$'; then
     say "The archive has no walk and check yet: they come from the tests' C"
-    extra=(EXTRA=build/walk-check.o)
+    extra=(WALK_CHECK=plain)
   fi
   say "Build the command"
   make -s -C host LIB="$archive" "${extra[@]}"
