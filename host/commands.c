@@ -322,7 +322,8 @@ static int print_verdict(const struct buffer *copy, uint32_t key_size,
     bhtf_check(copy->bytes, copy->length, &verdict, &slot);
     if (verdict == BHTF_SOUND) {
         if (!o->quiet)
-            printf("sound: %lu points\n", (unsigned long)h.count);
+            printf("sound: %lu %s\n", (unsigned long)h.count,
+                   h.count == 1 ? "point" : "points");
         return finish_output(DONE);
     }
     if (verdict == BHTF_COUNT_FAILS) {

@@ -277,11 +277,13 @@ static int store_all(struct import *m)
 
 static void report_import(const struct import *m, int status)
 {
+    const char *points = m->stored == 1 ? "point" : "points";
+
     if (status != DONE)
-        complain("import stopped: %lu points stored in %s, the rest not",
-                 m->stored, m->o->word[0]);
+        complain("import stopped: %lu %s stored in %s, the rest not",
+                 m->stored, points, m->o->word[0]);
     else if (!m->o->quiet)
-        printf("%lu points stored\n", m->stored);
+        printf("%lu %s stored\n", m->stored, points);
 }
 
 /* ---- import ---- */

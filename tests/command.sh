@@ -86,7 +86,8 @@ PATH=$work/gcc:$PATH
 header_compiles() {
   echo '#include "bhtf.h"
 int main(void) { return bhtf_message(BHTF_ABSENT) == 0; }' >"$work/uses$1"
-  "${@:2}" -Wall -Wextra -Werror -pedantic -Ihost "$work/uses$1" "$work/gcc/libbhtf.a" -o "$work/uses" &&
+  # shellcheck disable=SC2086
+  "${@:2}" -Wall -Wextra -Werror -pedantic -Ihost "$work/uses$1" "$work/gcc/libbhtf.a" ${LDLIBS:-} -o "$work/uses" &&
     "$work/uses"
 }
 holds "the header is C99" header_compiles .c gcc -std=c99
@@ -261,7 +262,7 @@ bhtf create csv3
 gives "import from standard input" 0 '5 points' sh -c 'bhtf import csv3 - <out1'
 same "import --quiet" '' "$(bhtf import csv3 out1 --replace --quiet)"
 printf '\357\273\277name,easting,northing,height,note\nB1,1,2,3,last line without end' >bom.csv
-gives "a byte order mark" 0 '1 points' bhtf import csv3 bom.csv
+gives "a byte order mark" 0 '^1 point stored$' bhtf import csv3 bom.csv
 same "the last line" '1,2,3,last line without end' "$(bhtf get csv3 B1)"
 printf 'A1,1,2,3,\nA2,1,2,3,\nP1,9,9,9,\nA3,1,2,3,\n' >half.csv
 gives "an import stops at a refused line" 1 'line 3: P1: refused \(9\)' bhtf import csv half.csv
@@ -307,7 +308,7 @@ gives "after 40 deletions it is sound" 0 'sound: 5467' bhtf check full
 head -c 4095 a >short
 head -c 8192 /dev/zero >zeros
 head -c 8192 /dev/urandom >random
-head -c 114688 a >cut
+head -c 114688 a >clipped
 head -c 16781312 /dev/zero >long
 cp a version
 printf '\001\000\002' | dd of=version bs=1 seek=5 conv=notrunc status=none
@@ -328,7 +329,7 @@ done <<'LIST'
 5 zeros
 5 random
 5 version
-6 cut
+6 clipped
 6 header
 LIST
 cp tiny damaged
@@ -360,8 +361,8 @@ clean_status() {
   return 1
 }
 damage() {
-  local round i place
-  for round in $(seq 40); do
+  local i place
+  for _ in $(seq 40); do
     cp site hurt
     for i in $(seq $((RANDOM % 6 + 1))); do
       case $((RANDOM % 3)) in
@@ -383,7 +384,7 @@ RANDOM=1
 holds "damaged files under the sanitizers" damage
 refused_cleanly() {
   local file
-  for file in empty short zeros random cut version header; do
+  for file in empty short zeros random clipped version header; do
     clean_status stat $file && clean_status import $file out1 && clean_status list $file || return 1
   done
 }
@@ -445,6 +446,18 @@ wait "$importer"
 same "the import ends" 0 $?
 gives "a later writer gets the lock" 0 '' bhtf add shared other x --wait 0
 gives "all points are there" 0 'sound: 601' bhtf check shared
+
+# A reader whose output nobody takes.
+mkfifo stuck
+bhtf export full >stuck &
+reader=$!
+helpers+=("$reader")
+exec 7<stuck
+read -r _ <&7
+gives "a reader that cannot print keeps no lock" 0 '' bhtf add full stuck x --wait 1
+kill "$reader"
+wait "$reader" 2>/dev/null
+exec 7<&-
 
 # A writer and several readers at once: no reader may see half a change.
 a_text=$(printf 'a%.0s' $(seq 3000))
