@@ -4,6 +4,7 @@
 #   LIB=path   another archive than target/staticlib/libstation.a, from the
 #              repository's root
 #   RT=path    the prover's command, if it is not rt
+#   OUT=path   where to build, from host/; build unless given
 set -euo pipefail
 cd "$(dirname "$0")/.."
 
@@ -51,14 +52,15 @@ build() {
     extra=(WALK_CHECK=plain)
   fi
   say "Build the command"
-  make -s -C host LIB="$archive" "${extra[@]}"
+  make -s -C host OUT="$out" LIB="$archive" "${extra[@]}"
 }
 
+out=$(cd host && realpath -m "${OUT:-build}")
 need
 build
 work=$(mktemp -d)
 trap 'rm -rf "$work"' EXIT
-PATH=$PWD/host/build:$PATH
+PATH=$out:$PATH
 cp host/site.csv "$work"
 cd "$work"
 

@@ -120,6 +120,9 @@ if command -v man >/dev/null; then
   holds "the man page has no warnings" man_is_clean
 fi
 
+gives "the demonstration runs" 0 '^sound: 11 points$' \
+  env LIB="$work/gcc/libbhtf.a" OUT="$work/demo" host/demo.sh
+
 cd "$work" || exit 2
 
 # ---- help and usage ----
