@@ -3,7 +3,7 @@
 --     entered-none, inserted-steps, relocated-steps      the steps together
 -- Assumes nothing.
 use mathlib.Core.Path.{_≡_, refl, sym, ap, ap₂, _∙_, subst}
-use Prim.Native.Nat.{ℕ, _+_, _≤_, _<_}
+use Prim.Native.Nat.{ℕ, _+_, _≤_}
 use native.Mathlib.Omega.{arith}
 use mathlib.Core.Bool.{true}
 use mathlib.Core.List.{_++_}
@@ -11,11 +11,10 @@ use mathlib.Core.Option.{some}
 use lib.ListN.{length}
 use Rattle.bhtf.specs.Bytes.{Bytes, part}
 use Rattle.bhtf.specs.Limits.{freeField}
-use Rattle.bhtf.specs.Image.{field, Layout, layoutOf, putSlot, entry}
+use Rattle.bhtf.specs.Image.{field, layoutOf, putSlot, entry}
 use Rattle.bhtf.specs.Messages.{headSize, takeSpace, retire, enter, inserted, freshText, relocated}
 use Rattle.bhtf.specs.Questions.{openNumber, messageSound}
 use Rattle.bhtf.proofs.Opened.{opened-facts, facts-opened}
-use Rattle.bhtf.proofs.Kept.{Kept}
 use Rattle.bhtf.proofs.Effects.{retire-kept, retire-opened, retire-layout, retire-field, retire-behind, space-kept, space-opened, space-layout}
 use Rattle.messages.proofs.Sound.{head-four}
 use Rattle.table.proofs.Heads.{SameHead, kept-shape, head-trans}

@@ -6,16 +6,15 @@
 use mathlib.Core.Path.{_≡_, refl, sym, ap, _∙_}
 use Prim.Native.Nat.{ℕ, _+_, _≤_, _<_}
 use native.Mathlib.Omega.{arith}
-use mathlib.Core.Bool.{Bool, true, false, cond}
-use mathlib.Core.List.{[], _∷_, _++_}
-use mathlib.Core.Option.{Option, none, some}
+use mathlib.Core.Bool.{true, false}
+use mathlib.Core.List.{_++_}
+use mathlib.Core.Option.{none, some}
 use lib.ListN.{length, length-append}
-use lib.Dec.{leb, eqb}
 use borrow.Author.Tests.{le-leb, lt-leb, eq-eqb, ne-eqb}
 use Rattle.bhtf.specs.Bytes.{Bytes, part}
 use Rattle.bhtf.specs.Limits.{freeField}
 use Rattle.bhtf.specs.Image.{field, Layout, layoutOf}
-use Rattle.bhtf.specs.Messages.{headSize, isActive, lengthAt, textAt, shown, held, retire, overwrite, relocated, freshText, renewedText, renewed, renewedAt}
+use Rattle.bhtf.specs.Messages.{isActive, lengthAt, textAt, shown, held, retire, overwrite, relocated, freshText, renewedText, renewed, renewedAt}
 use Rattle.bhtf.specs.Questions.{messageSound}
 use Rattle.bhtf.proofs.Tests.{by-bool, by-eq}
 use Rattle.bhtf.proofs.Bytes.{part-length}

@@ -2,7 +2,6 @@
 use native.Mathlib.Omega.{arith}
 use mathlib.Core.Path.{sym, ap, _∙_}
 use Prim.Native.Nat.{ℕ}
-use Rattle.bhtf.specs.Image.{layoutOf}
 use Rattle.bhtf.specs.Questions.{nameAllowed}
 use Rattle.bhtf.proofs.Opened.{opened-facts}
 use Rattle.bhtf.proofs.Outcomes.{add-closed, add-7, add-8}

@@ -1,7 +1,6 @@
 -- The slot that the search ended at is taken where C is below N. Else, and where no slot was empty, the answer is 10. Assumes nothing.
 use native.Mathlib.Omega.{arith}
 use mathlib.Core.Path.{sym, _∙_}
-use Prim.Native.Nat.{ℕ}
 use borrow.Author.Tests.{le-ltb}
 use Rattle.bhtf.specs.Image.{field, layoutOf}
 use Rattle.bhtf.proofs.Opened.{opened-facts}
