@@ -1,16 +1,9 @@
 // The exports for the station host, on numbers and byte slices: each call answers document 01's number, 0 when accepted.
 // host/bhtf.h declares them for C.
-use inspect::check::Verdict;
-use inspect::check::check;
-use inspect::walk::walk_start;
-use layout::places::Slot;
 use lookup::count;
 use lookup::locate;
 ghost use mathlib.Core.Path.{_≡_};
 ghost use Rattle.bhtf.specs.Calls.{create, add, delete, lookup, lookupStart, lookupLength, count};
-ghost use Rattle.bhtf.specs.Inspect.{keyWalk, stopNumber, keyStart, check, verdictNumber};
-ghost use Rattle.inspect.specs.Stops.{stopSlot};
-ghost use Rattle.station.specs.Codes.{verdictCode, verdictSlot};
 
 // Makes the slice an empty file: keys of `size` bytes, `slots` slots (0 for 5,507), the scramble of the seed.
 #[no_mangle]

@@ -5,7 +5,7 @@ use lib.ListN.{length}
 use Rattle.bhtf.specs.Image.{layoutOf}
 use Rattle.bhtf.specs.Messages.{takeSpace}
 use Rattle.bhtf.proofs.Opened.{opened-facts}
-use Rattle.messages.proofs.Sound.{area-is}
+use Rattle.messages.proofs.Sound.{shape-area}
 use Rattle.add.proofs.Numbers.{room-fits}
 use Rattle.add.proofs.Texts.{text-none}
 use Rattle.add.proofs.Steps.{head-space, inserted-steps}
@@ -32,7 +32,7 @@ take-space-requires c κs =
     let img = S .args .image .now in
     let fits = room-fits img (length (S .args .bytes .now)) (S .pre .4) in (
       S .pre .0,
-      area-is img (S .args .shape) (S .pre .1),
+      shape-area img (S .args .shape) (S .pre .1),
       omega (arith, c .new2 .ensures),
       omega (arith, fits .0),
       omega (arith, fits .1),

@@ -5,7 +5,7 @@ use Prim.Native.Nat.{_+_}
 use lib.ListN.{length}
 use Rattle.bhtf.specs.Image.{Layout}
 use Rattle.bhtf.proofs.Opened.{opened-facts}
-use Rattle.messages.proofs.Sound.{sound-head, area-is}
+use Rattle.messages.proofs.Sound.{sound-head, shape-area}
 use Rattle.table.proofs.Headers.{placed-opened}
 use Rattle.add.proofs.Numbers.{room-fits}
 use Rattle.add.proofs.Steps.{head-retire, retired-free, head-relocated, relocated-steps}
@@ -48,7 +48,7 @@ take-space-requires c κs =
     let head = head-retire img (old .last .0) (S .pre .0) o (S .pre .4) (old .ensures) in
     let free = retired-free img (old .last .0) (S .pre .0) o (S .pre .4) (old .ensures) in (
       head .opened,
-      area-is img (S .args .shape) (S .pre .1) ∙ sym (ap (λ (g : Layout). g .D) (head .layout)),
+      shape-area img (S .args .shape) (S .pre .1) ∙ sym (ap (λ (g : Layout). g .D) (head .layout)),
       omega (arith, start .ensures, free, S .pre .5),
       omega (arith, fits .0),
       omega (arith, free, head .size, fits .1),
