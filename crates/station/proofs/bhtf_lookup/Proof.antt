@@ -1,30 +1,35 @@
+-- Start and length as `locate` answers them; both fit 32 bits. Assumes nothing.
 use borrow.Author.Needs.{needs}
+use mathlib.Core.Path.{_∙_}
+use native.Mathlib.Omega.{arith}
+use Rattle.bhtf.specs.Calls.{lookup}
+use Rattle.station.proofs.Small.{lookup-small}
 use Rattle.station.proofs.bhtf_lookup.Statement.{statement}
 use Rattle.station.proofs.bhtf_lookup.Tie as tie
-use Rattle.station.proofs.bhtf_lookup.Reads as reads
-use Rattle.station.proofs.bhtf_lookup.Lts as lts
-use Rattle.layout.proofs.places.Offset.at.Reads as at-reads
-use Rattle.lookup.proofs.locate.Reads as locate-reads
 
--- src/lib.rt:42:9
 locate-requires : tie.Need-locate-requires
 locate-requires c κs = search needs
 
--- src/lib.rt:44:15
 at-requires : tie.Need-at-requires
 at-requires c κs = search needs
 
--- src/lib.rt:44:15
 cast-offset : tie.Need-cast-offset
-cast-offset c = ?
+cast-offset c =
+    let L = c .before .before in
+    let A = L .before .before .before .args in
+    omega (arith, lookup-small (A .image .now) (A .key .now), c .at .ensures, L .locate .ensures .1)
 
--- src/lib.rt:45:15
 cast-length : tie.Need-cast-length
-cast-length c = ?
+cast-length c =
+    let L = c .before .before .before in
+    let A = L .before .before .before .args in
+    omega (arith, lookup-small (A .image .now) (A .key .now), L .locate .ensures .2)
 
--- src/lib.rt:36:1
 returns : tie.Need-returns
-returns c = ?
+unfolding lookup
+returns c =
+    let L = c .before .before .before in
+    (L .locate .ensures .0, c .before .at .ensures ∙ L .locate .ensures .1, L .locate .ensures .2)
 
 pub bhtf-lookup-spec : {M : Type 1} → statement M
 bhtf-lookup-spec = tie.close (tie.spec locate-requires at-requires cast-offset cast-length returns)
