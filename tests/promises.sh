@@ -24,5 +24,5 @@ while IFS='#' read -r path name; do
   fi
 done < <(grep -oE '\((\.\./)?crates/[^ )]+#[^ )]+\)' "$doc" | sed 's/^(\(\.\.\/\)\?//; s/)$//' | sort -u)
 [ "$checked" -gt 0 ] || { echo "$doc names nothing"; exit 1; }
-echo "$checked names of $doc are there"
+[ "$bad" -eq 0 ] && echo "$checked names of $doc are there"
 exit $bad
