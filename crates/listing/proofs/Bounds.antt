@@ -1,0 +1,117 @@
+-- How long the text of an image of at most 65,536 bytes is.
+--     listed-bound, printed-bound      at most 262,144 bytes
+-- Each slot of K + 4 bytes gives a line of at most 13 + 2 K bytes, which is at most 4 bytes of text for each of its own.
+-- Assumes nothing.
+use mathlib.Core.Path.{_≡_, refl, sym, ap, _∙_}
+use Prim.Native.Nat.{ℕ, zero, suc, _+_, _*_, _≤_, _<_}
+use native.Mathlib.Nat.{suc-mul}
+use native.Mathlib.Omega.{arith}
+use mathlib.Core.Bool.{Bool, true, false, cond}
+use mathlib.Core.List.{[]}
+use lib.ListN.{length, length-append}
+use lib.Dec.{leb}
+use borrow.Author.Tests.{le-leb, lt-leb}
+use Rattle.bhtf.specs.Bytes.{Bytes}
+use Rattle.bhtf.specs.Image.{Layout, layoutOf, slotSize, slot, keyOf, offsetOf}
+use Rattle.bhtf.specs.Messages.{lengthAt, isActive}
+use Rattle.bhtf.specs.Questions.{sizeAllowed, versionKnown, headerSound, messageSound, opened, openNumber}
+use Rattle.bhtf.specs.Inspect.{taken}
+use Rattle.bhtf.proofs.Tests.{by-bool, by-eq, by-le}
+use Rattle.bhtf.proofs.Slots.{length-slot, length-keyOf}
+use Rattle.bhtf.proofs.Opened.{firstNo-none, firstNo-yes, firstNo-no, opened-facts, opened-room}
+use Rattle.bhtf.proofs.Effects.{message-end}
+use Rattle.messages.proofs.Sound.{active-some}
+use Rattle.listing.specs.Text.{decimal, hexes}
+use Rattle.listing.specs.Listed.{heading, lengthText, line, row, lines, refusedText, listed, mostListed, tooLong, printed}
+use Rattle.listing.proofs.Numbers.{decimal-5, length-hexes}
+use Rattle.listing.proofs.Rows.{text-bad, text-none, text-active, row-taken, row-vacant, line-length, refused-length, listed-closed, listed-open}
+
+module _ (img : Bytes) (small : length img ≤ 65536) (open₀ : openNumber img ≡ 0) where
+  text-bound : (o : ℕ) → length (lengthText (layoutOf img) img o) ≤ 5
+  text-bound o =
+      let f = opened-facts img open₀ in
+      by-bool (messageSound (layoutOf img) img o)
+      (λ s. by-bool (isActive img o)
+      (λ a.
+      let z : o ≡ 0 → ⊥ = λ e. omega (arith, active-some img o a) in
+      let m : lengthAt (layoutOf img) img o < 100000 = omega (arith, message-end img f o s z, f .free-high) in
+      omega (arith, ap length (text-active (layoutOf img) img o o refl s a (lengthAt (layoutOf img) img o) refl), decimal-5 (lengthAt (layoutOf img) img o) m))
+      (λ a. omega (arith, ap length (text-none (layoutOf img) img o o refl s a), decimal-5 0 (omega arith))))
+      (λ s. omega (arith, ap length (text-bad (layoutOf img) img o o refl s)))
+
+  line-bound : (i : ℕ) → i < layoutOf img .N → length (line (layoutOf img) img i) ≤ 4 * slotSize (layoutOf img)
+  unfolding slotSize
+  line-bound i l =
+      let f = opened-facts img open₀ in
+      let n : layoutOf img .N ≤ 65536 = unfold layoutOf in f .slots-high in
+      let key = keyOf (layoutOf img) (slot (layoutOf img) img i) in
+      let k : length key ≡ layoutOf img .K =
+      length-keyOf (layoutOf img) (slot (layoutOf img) img i) (length-slot (layoutOf img) img (opened-room img f) i l) in
+      let o = offsetOf (layoutOf img) (slot (layoutOf img) img i) in
+      omega (arith, line-length (layoutOf img) img i, decimal-5 i (omega arith), length-hexes key, text-bound o)
+
+  row-bound : (i : ℕ) → i < layoutOf img .N → length (row (layoutOf img) img i) ≤ 4 * slotSize (layoutOf img)
+  row-bound i l =
+      by-bool (taken (layoutOf img) img i)
+      (λ t. omega (arith, ap length (row-taken (layoutOf img) img i t), line-bound i l))
+      (λ t. omega (arith, ap length (row-vacant (layoutOf img) img i t)))
+
+  lines-bound : (left i : ℕ) → i + left ≤ layoutOf img .N
+      → length (lines (layoutOf img) img left i) ≤ 4 * (left * slotSize (layoutOf img))
+  unfolding lines
+  lines-bound zero i h = omega arith
+  lines-bound (suc left) i h =
+      let ih : length (lines (layoutOf img) img left (suc i)) ≤ 4 * (left * slotSize (layoutOf img)) =
+      lines-bound left (suc i) (omega arith) in
+      omega (
+        arith,
+        length-append (row (layoutOf img) img i) (lines (layoutOf img) img left (suc i)),
+        row-bound i (omega arith),
+        suc-mul left (slotSize (layoutOf img)),
+      )
+
+  open-bound : length (listed img) ≤ 262144
+  open-bound =
+      let r = opened-room img (opened-facts img open₀) in
+      omega (
+        arith,
+        ap length (listed-open img (layoutOf img .N) open₀ refl),
+        length-append heading (lines (layoutOf img) img (layoutOf img .N) 0),
+        lines-bound (layoutOf img .N) 0 (omega arith),
+        r .table,
+        r .area,
+      )
+
+-- the number that refuses is 1, 5 or 6
+number-bound : (img : Bytes) → openNumber img < 100000
+unfolding openNumber opened
+number-bound img =
+    let small : (n : ℕ) → openNumber img ≡ n → n < 100000 → openNumber img < 100000 = λ n e l. omega arith in
+    by-bool (sizeAllowed (length img))
+    (λ a. by-bool (versionKnown img)
+    (λ b. by-bool (headerSound img)
+    (λ c. small 0 (firstNo-yes 1 _ _ a ∙ firstNo-yes 5 _ _ b ∙ firstNo-yes 6 _ [] c ∙ firstNo-none) (omega arith))
+    (λ c. small 6 (firstNo-yes 1 _ _ a ∙ firstNo-yes 5 _ _ b ∙ firstNo-no 6 _ [] c) (omega arith)))
+    (λ b. small 5 (firstNo-yes 1 _ _ a ∙ firstNo-no 5 _ _ b) (omega arith)))
+    (λ a. small 1 (firstNo-no 1 _ _ a) (omega arith))
+
+pub listed-bound : (img : Bytes) → length img ≤ 65536 → length (listed img) ≤ 262144
+listed-bound img small =
+    by-eq (openNumber img) 0 (open-bound img small)
+    (λ n.
+    omega (arith, ap length (listed-closed img (openNumber img) refl n), refused-length (openNumber img), decimal-5 (openNumber img) (number-bound img)))
+
+-- ---- the lister's input
+pub printed-listed : (bytes : Bytes) → length bytes ≤ mostListed → printed bytes ≡ listed bytes
+unfolding printed
+printed-listed bytes h = ap (λ (b : Bool). cond b (listed bytes) tooLong) (le-leb (length bytes) mostListed h)
+
+pub printed-long : (bytes : Bytes) → mostListed < length bytes → printed bytes ≡ tooLong
+unfolding printed
+printed-long bytes h = ap (λ (b : Bool). cond b (listed bytes) tooLong) (lt-leb (length bytes) mostListed h)
+
+pub printed-bound : (bytes : Bytes) → length (printed bytes) ≤ 262144
+printed-bound bytes =
+    by-le (length bytes) mostListed
+    (λ h. omega (arith, ap length (printed-listed bytes h), listed-bound bytes h))
+    (λ h. omega (arith, ap length (printed-long bytes h)))

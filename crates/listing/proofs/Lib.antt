@@ -1,0 +1,4 @@
+pub mod Putting
+pub mod Numbers
+pub mod Rows
+pub mod Bounds

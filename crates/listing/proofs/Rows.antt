@@ -1,0 +1,89 @@
+-- Lines of slots: their cases, their turns in the loop over slots, and their lengths.
+--     text-bad, text-none, text-active      the length of a slot's message
+--     row-taken, row-vacant, lines-step, lines-end      a slot's line, and the lines from slot i on
+--     listed-closed, listed-open      the whole text
+--     line-length      of a line's pieces
+-- Assumes nothing.
+use mathlib.Core.Path.{_≡_, refl, sym, ap, ap₂, _∙_}
+use Prim.Native.Nat.{ℕ, zero, suc, _+_, _-_, _≤_, _<_}
+use native.Mathlib.Omega.{arith}
+use mathlib.Core.Bool.{Bool, true, false, cond}
+use mathlib.Core.List.{[], _∷_, _++_}
+use lib.ListN.{length, length-append}
+use Rattle.bhtf.specs.Bytes.{Bytes}
+use Rattle.bhtf.specs.Image.{Layout, layoutOf, slot, keyOf, offsetOf}
+use Rattle.bhtf.specs.Messages.{lengthAt, isActive}
+use Rattle.bhtf.specs.Questions.{messageSound, openNumber}
+use Rattle.bhtf.specs.Inspect.{taken}
+use Rattle.inspect.proofs.Stopping.{opened-yes, opened-no}
+use Rattle.listing.specs.Text.{decimal, hexes, space, feed}
+use Rattle.listing.specs.Listed.{heading, bad, lengthText, line, row, lines, refusedText, listed}
+
+-- o is the offset that stands in the slot
+module _ (g : Layout) (img : Bytes) (o o′ : ℕ) (q : o ≡ o′) where
+  pub text-bad : messageSound g img o ≡ false → lengthText g img o′ ≡ bad
+  unfolding lengthText
+  text-bad s =
+      ap (λ (b : Bool). cond b (decimal (cond (isActive img o′) (lengthAt g img o′) 0)) bad) (ap (messageSound g img) (sym q) ∙ s)
+
+  sound-text : messageSound g img o ≡ true → lengthText g img o′ ≡ decimal (cond (isActive img o) (lengthAt g img o) 0)
+  unfolding lengthText
+  sound-text s =
+      ap (λ (b : Bool). cond b (decimal (cond (isActive img o′) (lengthAt g img o′) 0)) bad) (ap (messageSound g img) (sym q) ∙ s)
+      ∙ ap (λ (n : ℕ). decimal (cond (isActive img n) (lengthAt g img n) 0)) (sym q)
+
+  pub text-none : messageSound g img o ≡ true → isActive img o ≡ false → lengthText g img o′ ≡ decimal 0
+  text-none s a = sound-text s ∙ ap (λ (b : Bool). decimal (cond b (lengthAt g img o) 0)) a
+
+  pub text-active : messageSound g img o ≡ true → isActive img o ≡ true → (m : ℕ) → m ≡ lengthAt g img o
+      → lengthText g img o′ ≡ decimal m
+  text-active s a m e = sound-text s ∙ ap (λ (b : Bool). decimal (cond b (lengthAt g img o) 0)) a ∙ ap decimal (sym e)
+
+module _ (g : Layout) (img : Bytes) where
+  pub row-taken : (i : ℕ) → taken g img i ≡ true → row g img i ≡ line g img i
+  unfolding row
+  row-taken i t = ap (λ (b : Bool). cond b (line g img i) []) t
+
+  pub row-vacant : (i : ℕ) → taken g img i ≡ false → row g img i ≡ []
+  unfolding row
+  row-vacant i t = ap (λ (b : Bool). cond b (line g img i) []) t
+
+  pub lines-step : (n i : ℕ) → i < n → lines g img (n - i) i ≡ row g img i ++ lines g img (n - (i + 1)) (i + 1)
+  unfolding lines
+  lines-step n i l =
+      let q : n - i ≡ suc (n - (i + 1)) = omega arith in
+      let r : suc i ≡ i + 1 = omega arith in
+      ap (λ (m : ℕ). lines g img m i) q ∙ ap (λ (k : ℕ). row g img i ++ lines g img (n - (i + 1)) k) r
+
+  pub lines-end : (n i : ℕ) → n ≤ i → lines g img (n - i) i ≡ []
+  unfolding lines
+  lines-end n i l =
+      let q : n - i ≡ 0 = omega arith in
+      ap (λ (m : ℕ). lines g img m i) q
+
+  pub lines-start : (n : ℕ) → lines g img (n - 0) 0 ≡ lines g img n 0
+  lines-start n =
+      let q : n - 0 ≡ n = omega arith in
+      ap (λ (m : ℕ). lines g img m 0) q
+
+  pub line-length : (i : ℕ) → length (line g img i)
+      ≡ length (decimal i) + 1 + length (hexes (keyOf g (slot g img i))) + 1 + length (lengthText g img (offsetOf g (slot g img i))) + 1
+  unfolding line
+  line-length i = simp length-append
+
+pub refused-length : (n : ℕ) → length (refusedText n) ≡ 8 + length (decimal n) + 1
+unfolding refusedText
+refused-length n = simp length-append
+
+pub listed-closed : (img : Bytes) (n : ℕ) → n ≡ openNumber img → (n ≡ 0 → ⊥) → listed img ≡ refusedText n
+unfolding listed
+listed-closed img n q h =
+    opened-no img (heading ++ lines (layoutOf img) img (layoutOf img .N) 0) (refusedText (openNumber img)) (λ z. h (q ∙ z))
+    ∙ ap refusedText (sym q)
+
+pub listed-open : (img : Bytes) (slots : ℕ) → openNumber img ≡ 0 → layoutOf img .N ≡ slots
+    → listed img ≡ heading ++ lines (layoutOf img) img slots 0
+unfolding listed
+listed-open img slots h q =
+    opened-yes img (heading ++ lines (layoutOf img) img (layoutOf img .N) 0) (refusedText (openNumber img)) h
+    ∙ ap (λ (n : ℕ). heading ++ lines (layoutOf img) img n 0) q

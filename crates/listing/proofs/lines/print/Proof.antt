@@ -1,0 +1,51 @@
+-- `listing::lines::print` meets its contract.
+-- Assumes nothing.
+use native.Mathlib.Omega.{arith}
+use mathlib.Core.Path.{sym}
+use Rattle.listing.proofs.Bounds.{listed-bound, printed-listed, printed-long}
+use Rattle.listing.proofs.Putting.{put-same}
+use borrow.Author.Needs.{needs}
+use Rattle.listing.proofs.lines.print.Statement.{statement}
+use Rattle.listing.proofs.lines.print.Tie as tie
+
+slice-aggregate-put-bytes : tie.Need-slice-aggregate-put-bytes
+slice-aggregate-put-bytes c = search needs
+
+put-bytes-requires : tie.Need-put-bytes-requires
+put-bytes-requires c κs = search needs
+
+same-length : tie.Need-same-length
+same-length c = search needs
+
+returns : tie.Need-returns
+returns c =
+    let S = c .before .before .before .before .before .before .before .before in
+    let bytes = S .args .input .now in
+    put-same (sym (printed-long bytes (c .before .before .before .before .before .if1 .taken))) (c .before .before .put-bytes .ensures)
+
+list-requires : tie.Need-list-requires
+list-requires c κs =
+    let S = c .before .before .before .before in
+    let bytes = S .args .input .now in
+    omega (arith, S .pre, listed-bound bytes (c .before .if1 .left))
+
+same-length-2 : tie.Need-same-length-2
+same-length-2 c = search needs
+
+returns-2 : tie.Need-returns-2
+returns-2 c =
+    let S = c .before .before .before .before .before .before .before in
+    let bytes = S .args .input .now in
+    put-same (sym (printed-listed bytes (c .before .before .before .before .if1 .left))) (c .before .before .list .ensures)
+
+pub print-spec : {M : Type 1} → statement M
+print-spec =
+    tie.close
+    (tie.spec
+    slice-aggregate-put-bytes
+    put-bytes-requires
+    same-length
+    returns
+    list-requires
+    same-length-2
+    returns-2)
