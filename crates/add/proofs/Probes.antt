@@ -1,6 +1,6 @@
--- The search's answer taken apart by `let .. else`: what each arm knows.
---     else-absent, else-exhausted      the arms that the pattern leaves
---     met-is, empty-is                 the arm that it takes
+-- The search's answer for an absent key, taken apart by `let .. else`, and the slot where a search ended.
+--     else-exhausted      an absent key, where the pattern `Found::Empty` leaves
+--     empty-is            where it takes
 --     met-below, empty-below, key-fits      so that the slot and the name may be used
 -- Assumes nothing.
 use mathlib.Core.Path.{_≡_, refl, ap, _∙_}
@@ -34,21 +34,11 @@ neither : {a b : ℕ} (n : ℕ) → (n ≡ a → ⊥) → (n ≡ b → ⊥) → 
 neither n x y (inl e) = x e
 neither n x y (inr e) = y e
 
-pub else-absent : (f : Found) → OneOf (1 ∷ 2 ∷ []) (tagOf the-type f) → isMet (probeOf f) ≡ false
-unfolding probeOf isMet
-else-absent (Met s) h = absurd (neither 0 (λ e. omega arith) (λ e. omega arith) h)
-else-absent (Empty s) h = refl
-else-absent Exhausted h = refl
-
 pub else-exhausted : (f : Found) → OneOf (0 ∷ 2 ∷ []) (tagOf the-type f) → isMet (probeOf f) ≡ false → probeOf f ≡ exhausted
 unfolding probeOf isMet
 else-exhausted (Met s) h n = absurd (true≢false n)
 else-exhausted (Empty s) h n = absurd (neither 1 (λ e. omega arith) (λ e. omega arith) h)
 else-exhausted Exhausted h n = refl
-
-pub met-is : {f : Found} {s : Slot} → f ≡ Met s → probeOf f ≡ met (s .0)
-unfolding probeOf
-met-is e = ap probeOf e
 
 pub empty-is : {f : Found} {s : Slot} → f ≡ Empty s → probeOf f ≡ empty (s .0)
 unfolding probeOf

@@ -1,14 +1,12 @@
 -- Questions 1, 5 and 6, then 7 and 8, then the search, whose answer tells a present point from an absent one. Assumes nothing.
 use native.Mathlib.Omega.{arith}
 use mathlib.Core.Path.{sym, ap, _∙_}
-use Prim.Native.Nat.{ℕ}
-use Rattle.bhtf.specs.Questions.{nameAllowed}
+use Rattle.bhtf.specs.Search.{isMet}
 use Rattle.bhtf.proofs.Opened.{opened-facts}
 use Rattle.bhtf.proofs.Outcomes.{add-closed, add-7, add-8}
 use Rattle.layout.proofs.Headers.{was-no, was-yes}
-use Rattle.table.proofs.Headers.{layout-key}
+use Rattle.table.proofs.Taken.{named-no, named-yes, not-met, met-slot}
 use Rattle.add.proofs.Numbers.{add-unchanged}
-use Rattle.add.proofs.Probes.{else-absent, met-is}
 use borrow.Author.Needs.{needs}
 use Rattle.add.proofs.add.Statement.{statement}
 use Rattle.add.proofs.add.Tie as tie
@@ -49,8 +47,7 @@ returns-2 c =
     let bytes = A .bytes .now in
     let open₀ = sym (c .before .before .before .before .before .open-number .ensures) ∙ c .before .before .before .before .if1 .left in
     let shape = c .before .before .read-shape in
-    let K = layout-key img (shape .result) (shape .ensures) in
-    let name = ap (λ (k : ℕ). nameAllowed k key) K ∙ was-no (c .before .name-allowed .ensures) (c .if2 .taken) in
+    let name = named-no img key (shape .result) (shape .ensures) (c .before .name-allowed .ensures) (c .if2 .taken) in
     add-unchanged img key bytes (A .mode) 7 (sym (add-7 img key open₀ bytes (A .mode) name)) (λ z. omega arith)
 
 mode-known-requires : tie.Need-mode-known-requires
@@ -68,8 +65,7 @@ returns-3 c =
     let bytes = A .bytes .now in
     let open₀ = sym (c .before .before .before .before .before .before .before .open-number .ensures) ∙ c .before .before .before .before .before .before .if1 .left in
     let shape = c .before .before .before .before .read-shape in
-    let K = layout-key img (shape .result) (shape .ensures) in
-    let name = ap (λ (k : ℕ). nameAllowed k key) K ∙ was-yes (c .before .before .before .name-allowed .ensures) (c .before .before .if2 .left) in
+    let name = named-yes img key (shape .result) (shape .ensures) (c .before .before .before .name-allowed .ensures) (c .before .before .if2 .left) in
     let mode = was-no (c .before .mode-known .ensures) (c .if3 .taken) in
     add-unchanged img key bytes (A .mode) 8 (sym (add-8 img key open₀ bytes (A .mode) name mode)) (λ z. omega arith)
 
@@ -90,10 +86,10 @@ add-absent-requires c κs =
     let bytes = A .bytes .now in
     let open₀ = sym (c .before .before .before .before .before .before .before .before .before .before .before .open-number .ensures) ∙ c .before .before .before .before .before .before .before .before .before .before .if1 .left in
     let shape = c .before .before .before .before .before .before .before .before .read-shape in
-    let K = layout-key img (shape .result) (shape .ensures) in
-    let name = ap (λ (k : ℕ). nameAllowed k key) K ∙ was-yes (c .before .before .before .before .before .before .before .name-allowed .ensures) (c .before .before .before .before .before .before .if2 .left) in
+    let name = named-yes img key (shape .result) (shape .ensures) (c .before .before .before .before .before .before .before .name-allowed .ensures) (c .before .before .before .before .before .before .if2 .left) in
     let found = c .before .before .search in
-    (open₀, shape .ensures, name, found .ensures, else-absent (found .result) (c .before .match .keys2))
+    let other = not-met img key (shape .result) (shape .ensures) (found .result) (found .ensures) (c .before .match .keys2) in
+    (open₀, shape .ensures, name, found .ensures, ap isMet (found .ensures) ∙ other)
 
 same-length-4 : tie.Need-same-length-4
 same-length-4 c = c .before .before .add-absent .kept .0
@@ -111,10 +107,10 @@ add-present-requires c κs =
     let bytes = A .bytes .now in
     let open₀ = sym (c .before .before .before .before .before .before .before .before .before .before .before .before .before .open-number .ensures) ∙ c .before .before .before .before .before .before .before .before .before .before .before .before .if1 .left in
     let shape = c .before .before .before .before .before .before .before .before .before .before .read-shape in
-    let K = layout-key img (shape .result) (shape .ensures) in
-    let name = ap (λ (k : ℕ). nameAllowed k key) K ∙ was-yes (c .before .before .before .before .before .before .before .before .before .name-allowed .ensures) (c .before .before .before .before .before .before .before .before .if2 .left) in
+    let name = named-yes img key (shape .result) (shape .ensures) (c .before .before .before .before .before .before .before .before .before .name-allowed .ensures) (c .before .before .before .before .before .before .before .before .if2 .left) in
     let found = c .before .before .before .before .search in
-    (open₀, shape .ensures, name, was-yes (c .before .before .before .before .before .before .before .mode-known .ensures) (c .before .before .before .before .before .before .if3 .left), sym (found .ensures) ∙ met-is (c .before .before .found .given .1))
+    let at = met-slot img key (shape .result) (shape .ensures) (found .result) (found .ensures) _ (c .before .before .found .given .1) in
+    (open₀, shape .ensures, name, was-yes (c .before .before .before .before .before .before .before .mode-known .ensures) (c .before .before .before .before .before .before .if3 .left), at)
 
 same-length-5 : tie.Need-same-length-5
 same-length-5 c = c .before .before .add-present .kept .0
