@@ -1,33 +1,33 @@
 -- The image that create leaves: its header is accepted, its slots are empty, and the new book reflects it.
 --     fresh-reflects      create's image and the new book
 -- Assumes nothing.
-use mathlib.Core.Path.{_≡_, refl, sym, ap, ap₂, _∙_, subst}
-use Prim.Native.Nat.{ℕ, zero, suc, _+_, _-_, _*_, _%_, _^_, _≤_, _<_}
+use mathlib.Core.Path.{_≡_, refl, sym, ap, ap₂, _∙_}
+use Prim.Native.Nat.{ℕ, zero, suc, _+_, _-_, _*_, _≤_, _<_}
 use native.Mathlib.Omega.{arith}
 use native.Mathlib.Nat.{add-zero}
-use mathlib.Core.Bool.{Bool, true, false, cond, not, _&&_}
-use mathlib.Core.List.{List, [], _∷_, _++_}
+use mathlib.Core.Bool.{true}
+use mathlib.Core.List.{_++_}
 use mathlib.Core.Option.{Option, none, some}
-use lib.ListN.{length, take, drop, replicate, length-append, length-replicate, replicate-append-replicate, take-append-drop}
+use lib.ListN.{length, take, drop, replicate, length-append, length-replicate, replicate-append-replicate}
 use lib.Seq.{drop-append-add, take-at, drop-at}
-use lib.Dec.{eqb, leb}
-use borrow.Author.Tests.{eqb-true, eqb-false, leb-true, le-leb}
+use lib.Dec.{eqb}
+use borrow.Author.Tests.{eqb-false}
 use Rattle.bhtf.specs.Bytes.{Bytes, part, number, digits, zeros, same}
-use Rattle.bhtf.specs.Limits.{pageSize, mostImage, mostKey, mostSlots, keyField, slotsField, pointsField, firstField, lastField, scrambleField, tableField, dataField, freeField, tableStart, scrambleCount, lengthWidth, mostLength, defaultSlots}
+use Rattle.bhtf.specs.Limits.{keyField, slotsField, pointsField, dataField, freeField, scrambleCount}
 use Rattle.bhtf.specs.Image.{field, dataStart, Layout, layoutOf, slotSize, slotStart, slot, blank, vacant}
 use Rattle.bhtf.specs.Create.{drawnBytes, slotsAsked, freshHeader, freshImage}
 use Rattle.bhtf.specs.Messages.{headSize}
 use Rattle.bhtf.specs.Questions.{versionKnown}
 use Rattle.bhtf.specs.Book.{newBook}
 use Rattle.bhtf.specs.Demand.{termsOf}
-use Rattle.bhtf.proofs.Tests.{by-bool, by-eq, and-left, and-right, not-both}
+use Rattle.bhtf.proofs.Tests.{by-bool, by-eq, not-both}
 use Rattle.bhtf.proofs.Bytes.{length-digits, number-digits-fits, length-zeros}
 use Rattle.bhtf.proofs.Slots.{Room, slot-end, slot-above, vacant-blank}
 use Rattle.bhtf.proofs.Opened.{Opened, opened-room}
 use Rattle.bhtf.proofs.Accepted.{Accepted}
-use Rattle.bhtf.proofs.Table.{Sound, Taken, entryOf, weight, weigh}
+use Rattle.bhtf.proofs.Table.{Taken, entryOf, weight, weigh}
 use Rattle.bhtf.proofs.Insert.{entry-absent, weigh-vacant}
-use Rattle.bhtf.proofs.Total.{total, total-same, total-zero}
+use Rattle.bhtf.proofs.Total.{total-same, total-zero}
 use Rattle.agreement.proofs.File.{Allowed, allowed-zero, pointOf-none, File}
 use Rattle.agreement.proofs.Entries.{find-none}
 use Rattle.agreement.proofs.Reflect.{Reflects}

@@ -6,36 +6,33 @@
 --     added-found, deleted-gone       after an accepted add the point is found with its text; after an accepted delete it is not
 --     stays-found, stays-gone         and so it stays until a call names it
 -- Assumes nothing.
-use mathlib.Core.Path.{_≡_, refl, sym, ap, ap₂, _∙_, subst}
-use Prim.Native.Nat.{ℕ, zero, suc, _+_, _-_, _≤_, _<_}
+use mathlib.Core.Path.{_≡_, refl, sym, ap, _∙_, subst}
+use Prim.Native.Nat.{ℕ, zero, suc, _+_, _<_}
 use native.Mathlib.Omega.{arith}
-use native.Mathlib.Numerals.{add-one}
-use mathlib.Core.Bool.{Bool, true, false, cond, not, _&&_}
-use mathlib.Core.List.{List, [], _∷_, _++_}
-use mathlib.Core.Option.{Option, none, some}
+use mathlib.Core.Bool.{Bool, false, not}
+use mathlib.Core.List.{List}
+use mathlib.Core.Option.{none}
 use lib.ListN.{length}
 use lib.Dec.{eqb}
 use borrow.Author.Tests.{eq-eqb}
 use Rattle.bhtf.specs.Bytes.{Bytes, allZero}
-use Rattle.bhtf.specs.Limits.{pointsField}
-use Rattle.bhtf.specs.Image.{field, Layout, layoutOf, slot, keyOf, offsetOf, vacant}
+use Rattle.bhtf.specs.Image.{Layout, layoutOf, slot, vacant}
 use Rattle.bhtf.specs.Search.{search, met}
-use Rattle.bhtf.specs.Questions.{openNumber, messageSound, nameAllowed}
+use Rattle.bhtf.specs.Questions.{nameAllowed}
 use Rattle.bhtf.specs.Create.{slotsAsked}
-use Rattle.bhtf.specs.Calls.{create, perform, Call, deleting, stateAfter, delete}
-use Rattle.bhtf.specs.Book.{Book, newBook, bookStep, find, without, bookDelete, deleteFound, guarded, stepOf}
-use Rattle.bhtf.specs.Demand.{termsOf, fileText, bookText, textOf}
+use Rattle.bhtf.specs.Calls.{create, perform, Call, stateAfter}
+use Rattle.bhtf.specs.Book.{Book, newBook, bookStep}
+use Rattle.bhtf.specs.Demand.{termsOf}
 use Rattle.bhtf.specs.Inspect.{lowest, taken, endsAt, slotSound, slotFails, countSound, verdictOf, check, sound}
-use Rattle.bhtf.proofs.Tests.{by-bool, and-true, not-both}
+use Rattle.bhtf.proofs.Tests.{by-bool, and-true}
 use Rattle.bhtf.proofs.Slots.{length-slot, length-keyOf}
 use Rattle.bhtf.proofs.Opened.{facts-opened}
-use Rattle.bhtf.proofs.Table.{Taken, keyAt, entryOf}
+use Rattle.bhtf.proofs.Table.{Taken, keyAt}
 use Rattle.bhtf.proofs.Probe.{search-finds}
 use Rattle.bhtf.proofs.Insert.{entry-taken, count-taken}
 use Rattle.agreement.proofs.File.{Allowed, File, file-room, file-some}
-use Rattle.agreement.proofs.Entries.{find-without-other}
 use Rattle.agreement.proofs.Reflect.{Reflects}
-use Rattle.agreement.proofs.Theorem.{reflects-after, points-agree, reflects-created}
+use Rattle.agreement.proofs.Theorem.{reflects-after, reflects-created}
 
 -- the file and the book after some list of calls from an accepted create
 pub record Reached (img : Bytes) (b : Book) : Type 0 where

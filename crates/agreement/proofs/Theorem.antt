@@ -8,17 +8,17 @@
 -- Assumes nothing.
 use mathlib.Core.Path.{_≡_, refl, sym, ap, ap₂, _∙_, subst}
 use Prim.Native.Nat.{ℕ}
-use mathlib.Core.Bool.{Bool, true, false, cond, _&&_}
+use mathlib.Core.Bool.{cond, _&&_}
 use mathlib.Core.List.{List, [], _∷_}
-use mathlib.Core.Option.{Option, none, some}
+use mathlib.Core.Option.{none, some}
 use lib.ListN.{length}
 use Rattle.bhtf.specs.Bytes.{Bytes}
 use Rattle.bhtf.specs.Image.{Layout, layoutOf}
-use Rattle.bhtf.specs.Search.{search, met, isMet}
+use Rattle.bhtf.specs.Search.{search, isMet}
 use Rattle.bhtf.specs.Questions.{nameAllowed, createNumber}
 use Rattle.bhtf.specs.Create.{slotsAsked, freshImage}
-use Rattle.bhtf.specs.Calls.{Answer, Outcome, plain, create, lookup, Call, adding, deleting, looking, counting, perform, answers, stateAfter}
-use Rattle.bhtf.specs.Book.{Book, newBook, find, bookStep}
+use Rattle.bhtf.specs.Calls.{Answer, plain, create, lookup, Call, adding, deleting, looking, counting, perform, answers, stateAfter}
+use Rattle.bhtf.specs.Book.{Book, newBook, bookStep}
 use Rattle.bhtf.specs.Demand.{fileText, textOf, bookText, termsOf, Agrees, Agreement}
 use Rattle.bhtf.proofs.Tests.{by-bool}
 use Rattle.bhtf.proofs.Accepted.{accepted-facts}

@@ -6,10 +6,10 @@
 --     stays-found         a point that is found stays so until it is deleted
 -- Assumes nothing.
 use mathlib.Core.Path.{_≡_, refl, sym, ap, _∙_, subst}
-use Prim.Native.Nat.{ℕ, zero, suc}
+use Prim.Native.Nat.{ℕ}
 use native.Mathlib.Omega.{arith}
 use mathlib.Core.Logic.{_⊎_, inl, inr}
-use mathlib.Core.Bool.{Bool, true, false, cond}
+use mathlib.Core.Bool.{false}
 use mathlib.Core.List.{List, [], _∷_, _++_}
 use mathlib.Core.Option.{Option, none, some}
 use lib.ListN.{length}
@@ -17,18 +17,18 @@ use lib.Dec.{eqb, leb}
 use borrow.Author.Tests.{eqb-false, eq-eqb, ne-eqb}
 use Rattle.bhtf.specs.Bytes.{Bytes}
 use Rattle.bhtf.specs.Image.{Layout}
-use Rattle.bhtf.specs.Questions.{Question, ask, firstNo, named, nameAllowed}
+use Rattle.bhtf.specs.Questions.{Question, ask, firstNo, nameAllowed}
 use Rattle.bhtf.specs.Calls.{Outcome, plain, Call, adding, deleting, looking, counting, perform, stateAfter, add, delete}
-use Rattle.bhtf.specs.Book.{Entry, Book, find, without, withEntry, stepOf, guarded, entered, placed, roomAsks, addAbsent, replace, append, addPresent, addFound, bookAdd, deleteFound, bookDelete, lookupFound, bookLookup, bookCount, bookStep}
+use Rattle.bhtf.specs.Book.{Entry, Book, find, withEntry, stepOf, guarded, entered, placed, addAbsent, replace, append, addPresent, addFound, bookAdd, deleteFound, bookDelete, lookupFound, bookLookup, bookCount, bookStep}
 use Rattle.bhtf.specs.Demand.{fileText, bookText, textOf}
 use Rattle.bhtf.proofs.Tests.{by-bool, by-eq}
 use Rattle.bhtf.proofs.Opened.{firstNo-no}
 use Rattle.agreement.proofs.File.{by-name}
 use Rattle.agreement.proofs.Entries.{Distinct, find-same, find-without-other, find-without-same, find-withEntry, find-withEntry-other}
 use Rattle.agreement.proofs.Reflect.{Reflects}
-use Rattle.agreement.proofs.Simple.{Same, same-delete}
+use Rattle.agreement.proofs.Simple.{same-delete}
 use Rattle.agreement.proofs.Add.{same-add}
-use Rattle.agreement.proofs.Theorem.{step, points-agree, reflects-after}
+use Rattle.agreement.proofs.Theorem.{points-agree, reflects-after}
 use Rattle.agreement.proofs.Reached.{Reached, reached-reflects}
 
 -- ---- what a step does to the book's entries: nothing, or one entry is put in or taken out
