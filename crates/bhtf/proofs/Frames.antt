@@ -7,17 +7,16 @@
 use mathlib.Core.Path.{_≡_, refl, sym, ap, _∙_}
 use Prim.Native.Nat.{ℕ, _+_, _≤_, _<_}
 use native.Mathlib.Omega.{arith}
-use mathlib.Core.Bool.{true, false}
 use mathlib.Core.Logic.{_↔_}
 use lib.ListN.{length}
 use Rattle.bhtf.specs.Bytes.{Bytes, part, number}
 use Rattle.bhtf.specs.Limits.{tableStart}
-use Rattle.bhtf.specs.Image.{field, Layout, slotSize, slot, putSlot, keyOf, blank, vacant}
+use Rattle.bhtf.specs.Image.{field, Layout, slot, putSlot, keyOf, blank, vacant}
 use Rattle.bhtf.specs.Messages.{moved, closed}
 use Rattle.bhtf.proofs.Tests.{by-eq, not-both}
 use Rattle.bhtf.proofs.Slots.{Room, length-slot, slot-putSlot-same, slot-putSlot-other, part-putSlot-header, part-putSlot-data, length-blank, vacant-blank}
 use Rattle.bhtf.proofs.Table.{Taken, keyAt, weigh, weight}
-use Rattle.bhtf.proofs.Spread.{over, over-putSlot, over-moved, room-half, slot-moved-from, slot-moved-hole, slot-moved-other}
+use Rattle.bhtf.proofs.Spread.{over, over-moved, room-half, slot-moved-from, slot-moved-hole, slot-moved-other}
 use Rattle.bhtf.proofs.Walk.{Going, hole-other, closed-induct}
 use Rattle.bhtf.proofs.Insert.{Stands, weigh-taken, weigh-vacant, weight-putSlot}
 
