@@ -7,7 +7,8 @@ use mathlib.Core.Path.{_≡_, refl, sym, ap, ap₂, _∙_}
 use Prim.Native.Nat.{ℕ, _+_, _≤_, _<_}
 use native.Mathlib.Omega.{arith}
 use mathlib.Core.List.{[], _∷_, _++_}
-use lib.ListN.{length, length-append, take-append-drop}
+use lib.ListN.{length, take, length-append, take-append-drop}
+use lib.Seq.{length-take-le}
 use Rattle.bhtf.specs.Bytes.{Bytes, store}
 use Rattle.bhtf.proofs.Bytes.{length-store}
 use Rattle.messages.proofs.Stores.{store-append}
@@ -66,6 +67,13 @@ pub record Rest (b : Bytes) (p : ℕ) (w : Bytes) (n : Bytes) (a : ℕ) (r : Byt
 pub rest-start : (b : Bytes) (p : ℕ) (w r : Bytes) → r ≡ w → Rest b p w b p r
 rest-start b p w r e =
     record { stored = ap (store b p) e; ends = ap (λ (x : Bytes). p + length x) e; size = refl }
+
+-- the place behind a text lies in the slice
+pub put-within : {b : Bytes} {p : ℕ} {c : Bytes} {q : ℕ} {v : Bytes} → Put b p c q v → p + length v ≤ length b
+    → (q ≤ length c) × (q ≡ length (take q c))
+put-within {b} {p} {c} {q} {v} h room =
+    let l : q ≤ length c = omega (arith, h .ends, put-length h room) in
+    (l, sym (length-take-le q c l))
 
 -- the text v that is put is the first of what is left
 pub rest-put : {b : Bytes} {p : ℕ} {w n : Bytes} {a : ℕ} {r n′ : Bytes} {a′ : ℕ} {v r′ : Bytes}

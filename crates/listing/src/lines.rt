@@ -15,7 +15,7 @@ use table::search::key_of;
 use table::search::offset_of;
 ghost use Prim.Native.Nat.{_+_, _≤_, _<_};
 ghost use mathlib.Core.Path.{_≡_};
-ghost use lib.ListN.{length};
+ghost use lib.ListN.{length, take};
 ghost use Rattle.bhtf.specs.Image.{layoutOf};
 ghost use Rattle.bhtf.specs.Questions.{openNumber};
 ghost use Rattle.layout.specs.Shapes.{shapeOf};
@@ -105,10 +105,11 @@ pub fn list(image: &[u8], out: &mut [u8]) -> usize
     put_lines(image, read_shape(image), out, at)
 }
 
-// What the lister prints for its input.
+// What the lister prints for its input. The second clause follows from the first; it lets a caller take the text as a part.
 pub fn print(input: &[u8], out: &mut [u8]) -> usize
     requires { ⌜ mostPrinted ≤ length (now out) ⌝ }
-    ensures { λ r. ⌜ Put (now (out .entry)) 0 (now (out .exit)) r (printed (now (input .entry))) ⌝ }
+    ensures text { λ r. ⌜ Put (now (out .entry)) 0 (now (out .exit)) r (printed (now (input .entry))) ⌝ }
+    ensures within { λ r. ⌜ (r ≤ length (now (out .exit))) × (r ≡ length (take r (now (out .exit)))) ⌝ }
 {
     if 65536 < input.len() {
         return put_bytes(out, 0, b"too long\n");

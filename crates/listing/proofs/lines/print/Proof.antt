@@ -2,8 +2,8 @@
 -- Assumes nothing.
 use native.Mathlib.Omega.{arith}
 use mathlib.Core.Path.{sym}
-use Rattle.listing.proofs.Bounds.{listed-bound, printed-listed, printed-long}
-use Rattle.listing.proofs.Putting.{put-same}
+use Rattle.listing.proofs.Bounds.{listed-bound, printed-bound, printed-listed, printed-long}
+use Rattle.listing.proofs.Putting.{put-same, put-within}
 use borrow.Author.Needs.{needs}
 use Rattle.listing.proofs.lines.print.Statement.{statement}
 use Rattle.listing.proofs.lines.print.Tie as tie
@@ -21,7 +21,8 @@ returns : tie.Need-returns
 returns c =
     let S = c .before .before .before .before .before .before .before .before in
     let bytes = S .args .input .now in
-    put-same (sym (printed-long bytes (c .before .before .before .before .before .if1 .taken))) (c .before .before .put-bytes .ensures)
+    let text = put-same (sym (printed-long bytes (c .before .before .before .before .before .if1 .taken))) (c .before .before .put-bytes .ensures) in
+    (text, put-within text (omega (arith, S .pre, printed-bound bytes)))
 
 list-requires : tie.Need-list-requires
 list-requires c κs =
@@ -36,7 +37,8 @@ returns-2 : tie.Need-returns-2
 returns-2 c =
     let S = c .before .before .before .before .before .before .before in
     let bytes = S .args .input .now in
-    put-same (sym (printed-listed bytes (c .before .before .before .before .if1 .left))) (c .before .before .list .ensures)
+    let text = put-same (sym (printed-listed bytes (c .before .before .before .before .if1 .left))) (c .before .before .list .ensures) in
+    (text, put-within text (omega (arith, S .pre, printed-bound bytes)))
 
 pub print-spec : {M : Type 1} → statement M
 print-spec =
