@@ -18,11 +18,11 @@ while IFS='#' read -r path name; do
   if [ ! -f "$path" ]; then
     echo "$doc names $path, which is not there"
     bad=1
-  elif ! grep -qE "^ *((unfoldable|abbrev|pub|fn|extern \"C\"|record|data) )*(fn )?$(printf '%s' "$name" | sed 's/[.[\*^$+?(){|]/\\&/g')( |\(|$)" "$path"; then
+  elif ! grep -qE "^ *((unfoldable|abbrev|pub|fn|extern \"C\"|record|data) )*(fn )?$(printf '%s' "$name" | sed 's/[.[\*^$+?(){|]/\\&/g')( |\(|<|$)" "$path"; then
     echo "$doc names $name in $path, which does not declare it"
     bad=1
   fi
 done < <(grep -oE '\((\.\./)?crates/[^ )]+#[^ )]+\)' "$doc" | sed 's/^(\(\.\.\/\)\?//; s/)$//' | sort -u)
 [ "$checked" -gt 0 ] || { echo "$doc names nothing"; exit 1; }
-echo "$checked names of $doc are there"
+[ "$bad" -eq 0 ] && echo "$checked names of $doc are there"
 exit $bad

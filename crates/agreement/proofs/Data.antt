@@ -3,32 +3,25 @@
 --     change-refl       and so is none
 --     point-lies, point-away     the message of a point, and that a store inside its stretch meets no other's
 -- Assumes nothing.
-use mathlib.Core.Path.{_≡_, refl, sym, ap, ap₂, _∙_, subst}
-use Prim.Native.Nat.{ℕ, zero, suc, _+_, _-_, _*_, _^_, _≤_, _<_}
+use mathlib.Core.Path.{_≡_, refl, sym, ap, _∙_}
+use Prim.Native.Nat.{ℕ, _+_, _≤_, _<_}
 use native.Mathlib.Omega.{arith}
-use mathlib.Core.Logic.{_⊎_, inl, inr}
-use mathlib.Core.Bool.{Bool, true, false, cond, not, _&&_, _||_, true≢false, false≢true}
-use mathlib.Core.List.{List, [], _∷_, _++_}
-use mathlib.Core.Option.{Option, none, some}
-use lib.ListN.{length, take, drop, length-append}
-use lib.Seq.{take-at, take-append-le, drop-append-le}
-use lib.Dec.{eqb, leb}
-use borrow.Author.Tests.{eqb-true, eq-eqb, ne-eqb, not-true, not-false}
-use Rattle.bhtf.specs.Bytes.{Bytes, part, store, number, digits, zeros}
-use Rattle.bhtf.specs.Limits.{active, inactive, leastLength, pointsField, freeField, pageField, slotsField, dataField, tableStart}
-use Rattle.bhtf.specs.Image.{field, setField, lastPage, Layout, layoutOf, slotSize, offsetOf, slot}
-use Rattle.bhtf.specs.Messages.{headSize, letterAt, lengthAt, textAt, isActive, shown, held, message, setFree, takeSpace, retire, overwrite}
+use mathlib.Core.Logic.{inl, inr}
+use mathlib.Core.Bool.{true}
+use mathlib.Core.Option.{some}
+use lib.ListN.{length}
+use Rattle.bhtf.specs.Bytes.{Bytes, store}
+use Rattle.bhtf.specs.Limits.{pointsField, freeField, tableStart}
+use Rattle.bhtf.specs.Image.{field, Layout, offsetOf, slot}
 use Rattle.bhtf.specs.Questions.{messageSound}
-use Rattle.bhtf.proofs.Tests.{by-bool, by-eq, and-left, and-right, and-true, or-left, or-right, not-both}
-use Rattle.bhtf.proofs.Bytes.{Apart, length-store, part-store-other, part-store-same, part-store-inside, part-part, part-length, length-digits, number-digits-fits, length-zeros}
-use Rattle.bhtf.proofs.Slots.{Room, slot-store-data, slot-setField, field-store-other, field-setField-other, field-setField-same, length-setField}
-use Rattle.bhtf.proofs.Opened.{Opened}
-use Rattle.bhtf.proofs.Kept.{Kept, kept-refl, kept-trans, kept-store, kept-free, kept-page}
-use Rattle.bhtf.proofs.Table.{Sound, entryOf, weight}
+use Rattle.bhtf.proofs.Bytes.{Apart}
+use Rattle.bhtf.proofs.Slots.{slot-store-data, field-store-other}
+use Rattle.bhtf.proofs.Kept.{kept-refl, kept-store}
+use Rattle.bhtf.proofs.Table.{Sound, entryOf}
 use Rattle.bhtf.proofs.Probe.{entryOf-frame}
 use Rattle.bhtf.proofs.Insert.{weight-frame, sound-keys}
-use Rattle.bhtf.proofs.Stretch.{size, Lies, sound-lies, lies-sound, none-sound, SameOn, same-on-refl, same-on-trans, same-on-store, lengthAt-same, textAt-same, letterAt-same}
-use Rattle.agreement.proofs.File.{Allowed, valueOf, pointOf, pointOf-some, File, file-slots, file-data, file-room, file-some, Change, file-change, apart-sym}
+use Rattle.bhtf.proofs.Stretch.{size, Lies, sound-lies, same-on-refl, same-on-store}
+use Rattle.agreement.proofs.File.{Allowed, File, file-slots, file-room, file-some, Change}
 
 -- ---- the table over images with the same slots
 

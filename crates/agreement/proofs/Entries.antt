@@ -2,15 +2,15 @@
 --     Distinct es      no name stands twice
 -- Assumes nothing.
 use mathlib.Core.Path.{_≡_, refl, sym, ap, _∙_}
-use Prim.Native.Nat.{ℕ, zero, suc}
-use mathlib.Core.Bool.{Bool, true, false, cond}
+use Prim.Native.Nat.{ℕ, suc}
+use mathlib.Core.Bool.{false}
 use mathlib.Core.List.{List, [], _∷_}
 use mathlib.Core.Option.{Option, none, some}
 use native.Mathlib.Omega.{arith}
 use lib.ListN.{length}
 use Rattle.bhtf.specs.Bytes.{Bytes, same}
 use Rattle.bhtf.specs.Book.{Entry, find, without, withEntry}
-use Rattle.bhtf.proofs.Tests.{by-bool, not-both}
+use Rattle.bhtf.proofs.Tests.{by-bool}
 use Rattle.bhtf.proofs.Bytes.{same-refl, same-true, same-false}
 
 abbrev pub Distinct : List Entry → Type 0
@@ -120,3 +120,16 @@ length-withEntry-new e es h = ap (λ (l : List Entry). suc (length l)) (without-
 pub length-withEntry-old : (e : Entry) (es : List Entry) (x : Entry) → find (e .name) es ≡ some x → length (withEntry e es) ≡ length es
 unfolding withEntry
 length-withEntry-old e es x h = length-without (e .name) es x h
+
+-- ---- the entry found has the name asked for
+pub find-same : (name : Bytes) (es : List Entry) (x : Entry) → find name es ≡ some x → x .name ≡ name
+unfolding find
+find-same name [] x h = absurd (none-some x h)
+find-same name (e ∷ es) x h =
+    let ih : find name es ≡ some x → x .name ≡ name = find-same name es x in
+    by-same (e .name) name
+    (λ q. let w : some e ≡ some x = sym (find-here e es name q) ∙ h in ap (λ (y : Entry). y .name) (some-entry w) ∙ q)
+    (λ n. ih (sym (find-on e es name n) ∙ h))
+  where
+    some-entry : some e ≡ some x → x ≡ e
+    some-entry w = cc

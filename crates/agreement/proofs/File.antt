@@ -7,28 +7,28 @@
 --     change-trans, change-any    changes in turn; a step that concerns no point
 -- Assumes nothing.
 use mathlib.Core.Path.{_≡_, refl, sym, ap, ap₂, _∙_, subst}
-use Prim.Native.Nat.{ℕ, zero, suc, _+_, _-_, _*_, _^_, _≤_, _<_}
+use Prim.Native.Nat.{ℕ, _+_, _≤_, _<_}
 use native.Mathlib.Omega.{arith}
-use mathlib.Core.Logic.{_⊎_, inl, inr}
-use mathlib.Core.Bool.{Bool, true, false, cond, not, _&&_}
-use mathlib.Core.List.{List, [], _∷_}
+use mathlib.Core.Logic.{inl, inr}
+use mathlib.Core.Bool.{true, false, not}
+use mathlib.Core.List.{[]}
 use mathlib.Core.Option.{Option, none, some}
 use lib.ListN.{length}
 use lib.Dec.{eqb}
-use borrow.Author.Tests.{eqb-true, eq-eqb, ne-eqb, not-true, not-false}
+use borrow.Author.Tests.{eqb-true, not-true}
 use Rattle.bhtf.specs.Bytes.{Bytes, allZero, same}
-use Rattle.bhtf.specs.Limits.{pointsField, freeField, slotsField, dataField, lastField}
-use Rattle.bhtf.specs.Image.{field, Layout, layoutOf, offsetOf, slot}
+use Rattle.bhtf.specs.Limits.{pointsField, freeField, slotsField, dataField}
+use Rattle.bhtf.specs.Image.{field, Layout, layoutOf, offsetOf}
 use Rattle.bhtf.specs.Messages.{headSize, shown, held, isActive}
 use Rattle.bhtf.specs.Questions.{nameAllowed, messageSound}
 use Rattle.bhtf.specs.Book.{Entry}
-use Rattle.bhtf.proofs.Tests.{by-bool, by-eq, and-left, and-right, not-both}
+use Rattle.bhtf.proofs.Tests.{by-bool, by-eq, and-left, and-right}
 use Rattle.bhtf.proofs.Bytes.{Apart, same-true, same-false}
 use Rattle.bhtf.proofs.Slots.{Room}
 use Rattle.bhtf.proofs.Opened.{Opened, opened-room}
 use Rattle.bhtf.proofs.Kept.{Kept, kept-trans, kept-layout, opened-kept}
 use Rattle.bhtf.proofs.Table.{Sound, entryOf, weight}
-use Rattle.bhtf.proofs.Stretch.{size, Lies, sound-lies, lies-sound, none-sound, SameOn, same-on-trans, letterAt-same, lengthAt-same, shown-same, held-same, lies-same}
+use Rattle.bhtf.proofs.Stretch.{size, Lies, sound-lies, lies-sound, none-sound, SameOn, same-on-trans, lengthAt-same, shown-same, held-same, lies-same}
 
 -- ---- names
 

@@ -1,64 +1,36 @@
 -- The image that create leaves: its header is accepted, its slots are empty, and the new book reflects it.
 --     fresh-reflects      create's image and the new book
 -- Assumes nothing.
-use mathlib.Core.Path.{_≡_, refl, sym, ap, ap₂, _∙_, subst}
-use Prim.Native.Nat.{ℕ, zero, suc, _+_, _-_, _*_, _%_, _^_, _≤_, _<_}
+use mathlib.Core.Path.{_≡_, refl, sym, ap, ap₂, _∙_}
+use Prim.Native.Nat.{ℕ, zero, suc, _+_, _-_, _*_, _≤_, _<_}
 use native.Mathlib.Omega.{arith}
 use native.Mathlib.Nat.{add-zero}
-use mathlib.Core.Bool.{Bool, true, false, cond, not, _&&_}
-use mathlib.Core.List.{List, [], _∷_, _++_}
+use mathlib.Core.Bool.{true}
+use mathlib.Core.List.{_++_}
 use mathlib.Core.Option.{Option, none, some}
-use lib.ListN.{length, take, drop, replicate, length-append, length-replicate, replicate-append-replicate, take-append-drop}
+use lib.ListN.{length, take, drop, replicate, length-append, length-replicate, replicate-append-replicate}
 use lib.Seq.{drop-append-add, take-at, drop-at}
-use lib.Dec.{eqb, leb}
-use borrow.Author.Tests.{eqb-true, eqb-false, leb-true, le-leb}
+use lib.Dec.{eqb}
+use borrow.Author.Tests.{eqb-false}
 use Rattle.bhtf.specs.Bytes.{Bytes, part, number, digits, zeros, same}
-use Rattle.bhtf.specs.Limits.{pageSize, mostImage, mostKey, mostSlots, keyField, slotsField, pointsField, firstField, lastField, scrambleField, tableField, dataField, freeField, tableStart, scrambleCount, lengthWidth, mostLength, defaultSlots}
+use Rattle.bhtf.specs.Limits.{keyField, slotsField, pointsField, dataField, freeField, scrambleCount}
 use Rattle.bhtf.specs.Image.{field, dataStart, Layout, layoutOf, slotSize, slotStart, slot, blank, vacant}
 use Rattle.bhtf.specs.Create.{drawnBytes, slotsAsked, freshHeader, freshImage}
 use Rattle.bhtf.specs.Messages.{headSize}
-use Rattle.bhtf.specs.Questions.{ask, firstNo, sizeAllowed, keyAllowed, slotsAllowed, tableFits, createAsks, createNumber, versionKnown}
+use Rattle.bhtf.specs.Questions.{versionKnown}
 use Rattle.bhtf.specs.Book.{newBook}
 use Rattle.bhtf.specs.Demand.{termsOf}
-use Rattle.bhtf.proofs.Tests.{by-bool, by-eq, and-left, and-right, not-both}
+use Rattle.bhtf.proofs.Tests.{by-bool, by-eq, not-both}
 use Rattle.bhtf.proofs.Bytes.{length-digits, number-digits-fits, length-zeros}
 use Rattle.bhtf.proofs.Slots.{Room, slot-end, slot-above, vacant-blank}
-use Rattle.bhtf.proofs.Opened.{firstNo-head, firstNo-tail, roundUp-least, Opened, opened-room}
-use Rattle.bhtf.proofs.Table.{Sound, Taken, entryOf, weight, weigh}
+use Rattle.bhtf.proofs.Opened.{Opened, opened-room}
+use Rattle.bhtf.proofs.Accepted.{Accepted}
+use Rattle.bhtf.proofs.Table.{Taken, entryOf, weight, weigh}
 use Rattle.bhtf.proofs.Insert.{entry-absent, weigh-vacant}
-use Rattle.bhtf.proofs.Total.{total, total-same, total-zero}
+use Rattle.bhtf.proofs.Total.{total-same, total-zero}
 use Rattle.agreement.proofs.File.{Allowed, allowed-zero, pointOf-none, File}
 use Rattle.agreement.proofs.Entries.{find-none}
 use Rattle.agreement.proofs.Reflect.{Reflects}
-
--- ---- what create's questions give
-
-pub record Accepted (L K N : ℕ) : Type 0 where
-  pub page : L % pageSize ≡ 0
-  pub size-low : pageSize ≤ L
-  pub size-high : L ≤ mostImage
-  pub key-low : 1 ≤ K
-  pub key-high : K ≤ mostKey
-  pub slots-high : N ≤ mostSlots
-  pub area : dataStart K N ≤ L
-
-pub accepted : (L K N : ℕ) → createNumber L K N ≡ 0 → Accepted L K N
-unfolding createNumber createAsks sizeAllowed keyAllowed slotsAllowed tableFits
-accepted L K N h =
-    let h2 = firstNo-tail 1 (eqb (L % pageSize) 0 && leb pageSize L && leb L mostImage) _ (λ z. omega arith) h in
-    let h3 = firstNo-tail 2 (leb 1 K && leb K mostKey) _ (λ z. omega arith) h2 in
-    let h4 = firstNo-tail 3 (leb N mostSlots) _ (λ z. omega arith) h3 in
-    let size = firstNo-head 1 (eqb (L % pageSize) 0 && leb pageSize L && leb L mostImage) _ (λ z. omega arith) h in
-    let key = firstNo-head 2 (leb 1 K && leb K mostKey) _ (λ z. omega arith) h2 in
-    record {
-      page = eqb-true _ _ (and-left _ (leb pageSize L) (and-left _ (leb L mostImage) size));
-      size-low = leb-true _ _ (and-right (eqb (L % pageSize) 0) _ (and-left _ (leb L mostImage) size));
-      size-high = leb-true _ _ (and-right (eqb (L % pageSize) 0 && leb pageSize L) _ size);
-      key-low = leb-true _ _ (and-left (leb 1 K) _ key);
-      key-high = leb-true _ _ (and-right (leb 1 K) _ key);
-      slots-high = leb-true _ _ (firstNo-head 3 (leb N mostSlots) _ (λ z. omega arith) h3);
-      area = leb-true _ _ (firstNo-head 4 (leb (dataStart K N) L) [] (λ z. omega arith) h4);
-    }
 
 pub slotsAsked-some : (N : ℕ) → 1 ≤ slotsAsked N
 unfolding slotsAsked
@@ -142,11 +114,11 @@ module _ (L K N seed : ℕ) (ok : Accepted L K N) (pos : 1 ≤ N) where
 
   fresh-D : field img dataField ≡ dataStart K N
   unfolding field img freshImage freshHeader part digits
-  fresh-D = number-digits-fits 4 (dataStart K N) (omega (arith, ok .area, ok .size-high))
+  fresh-D = number-digits-fits 4 (dataStart K N) (omega (arith, ok .fits, ok .size-high))
 
   fresh-X : field img freeField ≡ dataStart K N
   unfolding field img freshImage freshHeader part digits
-  fresh-X = number-digits-fits 4 (dataStart K N) (omega (arith, ok .area, ok .size-high))
+  fresh-X = number-digits-fits 4 (dataStart K N) (omega (arith, ok .fits, ok .size-high))
 
   fresh-opened : Opened img
   unfolding field img freshImage freshHeader part digits number versionKnown same
@@ -167,7 +139,7 @@ module _ (L K N seed : ℕ) (ok : Accepted L K N) (pos : 1 ≤ N) where
         table-at = refl;
         data-at = rw (fresh-D, fresh-K, fresh-N) refl;
         free-low = rw fresh-D (omega arith);
-        free-high = rw (fresh-X, fresh-length) (ok .area);
+        free-high = rw (fresh-X, fresh-length) (ok .fits);
       }
 
   g : Layout

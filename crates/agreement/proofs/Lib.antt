@@ -4,10 +4,16 @@ pub mod Retire
 pub mod Space
 pub mod Overwrite
 pub mod Slots
+pub mod Remove
 pub mod Entries
 pub mod Reflect
 pub mod Simple
 pub mod Place
+pub mod Asked
+pub mod Present
+pub mod Absent
 pub mod Add
 pub mod Fresh
 pub mod Theorem
+pub mod Reached
+pub mod Users

@@ -2,32 +2,32 @@
 --     room-both        questions 12 and 13, of the file and of the book
 --     relocate, insert, insert-bare      the relation afterwards
 -- Assumes nothing.
-use mathlib.Core.Path.{_≡_, refl, sym, ap, ap₂, _∙_, subst}
-use Prim.Native.Nat.{ℕ, zero, suc, _+_, _-_, _*_, _^_, _≤_, _<_}
+use mathlib.Core.Path.{_≡_, sym, ap, ap₂, _∙_, subst}
+use Prim.Native.Nat.{ℕ, _+_, _-_, _^_, _≤_, _<_}
 use native.Mathlib.Omega.{arith}
-use mathlib.Core.Bool.{Bool, true, false, cond, not, _&&_}
-use mathlib.Core.List.{List, [], _∷_}
-use mathlib.Core.Option.{Option, none, some}
+use mathlib.Core.Bool.{Bool}
+use mathlib.Core.List.{[], _∷_}
+use mathlib.Core.Option.{none, some}
 use lib.ListN.{length}
-use lib.Dec.{eqb, leb}
+use lib.Dec.{leb}
 use borrow.Author.Tests.{leb-true, le-leb, lt-leb}
 use Rattle.bhtf.specs.Bytes.{Bytes}
 use Rattle.bhtf.specs.Limits.{leastLength, pointsField, freeField}
 use Rattle.bhtf.specs.Image.{field, Layout, layoutOf, slot, putSlot, entry, offsetOf}
 use Rattle.bhtf.specs.Search.{met, empty, search}
 use Rattle.bhtf.specs.Messages.{headSize, retire, takeSpace, enter, inserted, relocated}
-use Rattle.bhtf.specs.Questions.{Question, ask, firstNo, lengthAllowed, spaceLeft}
-use Rattle.bhtf.specs.Book.{Entry, Terms, Book, find, withEntry, roomAsks, entered, placed}
+use Rattle.bhtf.specs.Questions.{ask, firstNo, lengthAllowed, spaceLeft}
+use Rattle.bhtf.specs.Book.{Terms, Book, find, roomAsks, entered, placed}
 use Rattle.bhtf.proofs.Tests.{by-le}
 use Rattle.bhtf.proofs.Opened.{firstNo-head, firstNo-tail}
 use Rattle.bhtf.proofs.Table.{entryOf}
 use Rattle.bhtf.proofs.Probe.{search-frame}
 use Rattle.bhtf.proofs.Insert.{entry-met, entry-empty}
 use Rattle.bhtf.proofs.Stretch.{lies-sound}
-use Rattle.agreement.proofs.File.{Allowed, valueOf, pointOf, pointOf-none, File, file-some, file-room, file-data, Change, file-change, change-trans, change-any}
+use Rattle.agreement.proofs.File.{Allowed, pointOf, pointOf-none, File, file-some, file-room, Change, file-change, change-trans, change-any}
 use Rattle.agreement.proofs.Retire.{retire-change, retire-slot, retire-field}
-use Rattle.agreement.proofs.Space.{written-value, space-change, space-file, space-slot, space-entry, space-free, space-points, space-written, space-some, space-lies, space-away}
-use Rattle.agreement.proofs.Slots.{Fresh, fresh-none, set-change, set-point, set-field, enter-change, enter-point, enter-points, enter-free}
+use Rattle.agreement.proofs.Space.{written-value, space-change, space-file, space-slot, space-free, space-points, space-written, space-some, space-lies, space-away}
+use Rattle.agreement.proofs.Slots.{Fresh, set-change, set-point, set-field, enter-change, enter-point, enter-points, enter-free}
 use Rattle.agreement.proofs.Entries.{length-withEntry-new, length-withEntry-old}
 use Rattle.agreement.proofs.Reflect.{Reflects, reflect-entered}
 use Rattle.agreement.proofs.Simple.{found-met}

@@ -2,21 +2,19 @@
 --     Reflects g img b      the file img, of layout g, holds what the book b says
 --     reflect-entered, reflect-without      kept by a change to one point
 -- Assumes nothing.
-use mathlib.Core.Path.{_≡_, refl, sym, ap, ap₂, _∙_, subst}
-use Prim.Native.Nat.{ℕ, zero, suc, _+_, _-_, _*_, _^_, _≤_, _<_}
+use mathlib.Core.Path.{_≡_, sym, ap, _∙_}
+use Prim.Native.Nat.{ℕ, _+_, _-_}
 use native.Mathlib.Omega.{arith}
-use mathlib.Core.Bool.{Bool, true, false}
-use mathlib.Core.List.{List, [], _∷_}
-use mathlib.Core.Option.{Option, none, some}
+use mathlib.Core.Bool.{false}
+use mathlib.Core.Option.{none, some}
 use lib.ListN.{length}
 use Rattle.bhtf.specs.Bytes.{Bytes}
 use Rattle.bhtf.specs.Limits.{pointsField, freeField}
-use Rattle.bhtf.specs.Image.{field, Layout, layoutOf}
+use Rattle.bhtf.specs.Image.{field, Layout}
 use Rattle.bhtf.specs.Messages.{headSize}
 use Rattle.bhtf.specs.Questions.{nameAllowed}
 use Rattle.bhtf.specs.Book.{Entry, Terms, Book, find, without, withEntry, entered}
-use Rattle.bhtf.proofs.Tests.{by-bool, not-both}
-use Rattle.bhtf.proofs.Kept.{Kept}
+use Rattle.bhtf.proofs.Tests.{not-both}
 use Rattle.agreement.proofs.File.{Allowed, by-name, pointOf, File, Change, file-change, point-other}
 use Rattle.agreement.proofs.Entries.{Distinct, find-without-other, find-without-same, distinct-without, find-withEntry, find-withEntry-other, distinct-withEntry}
 

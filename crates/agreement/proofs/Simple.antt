@@ -1,35 +1,33 @@
 -- Count, lookup and delete: the file's answer is the book's, and the relation is kept.
 --     Same g o p      an outcome of the file and one of the book: equal answers, and states that reflect one another
 -- Assumes nothing.
-use mathlib.Core.Path.{_≡_, refl, sym, ap, ap₂, _∙_, subst}
-use Prim.Native.Nat.{ℕ, zero, suc, _+_, _-_, _*_, _^_, _≤_, _<_}
+use mathlib.Core.Path.{_≡_, refl, sym, ap, _∙_, subst}
+use Prim.Native.Nat.{ℕ, suc, _+_, _-_, _≤_}
 use native.Mathlib.Omega.{arith}
-use native.Mathlib.Numerals.{add-one}
-use mathlib.Core.Bool.{Bool, true, false, cond, not, _&&_}
+use mathlib.Core.Bool.{Bool, true, false, cond}
 use mathlib.Core.List.{List, [], _∷_}
-use mathlib.Core.Option.{Option, none, some}
+use mathlib.Core.Option.{none, some}
 use lib.ListN.{length}
-use lib.Dec.{eqb, leb}
-use borrow.Author.Tests.{eqb-true, eq-eqb, ne-eqb, le-leb}
+use borrow.Author.Tests.{ne-eqb, le-leb}
 use Rattle.bhtf.specs.Bytes.{Bytes, part}
 use Rattle.bhtf.specs.Limits.{pointsField, freeField}
 use Rattle.bhtf.specs.Image.{field, setField, Layout, layoutOf, slot, offsetOf}
-use Rattle.bhtf.specs.Search.{Probe, met, empty, exhausted, search, isMet, slotOf}
+use Rattle.bhtf.specs.Search.{met, search, isMet, slotOf}
 use Rattle.bhtf.specs.Messages.{headSize, isActive, textAt, lengthAt, shown, held, retire, closed, deleted, deletedAt}
 use Rattle.bhtf.specs.Questions.{Question, ask, firstNo, nameAllowed, messageSound, metMessageSound, somePoint, opened, openNumber, lookupAsks, deleteAsks, lookupNumber, deleteNumber}
-use Rattle.bhtf.specs.Calls.{Answer, Outcome, plain, settled, delete, lookup, lookupOffset, lookupStart, lookupLength, count, countOf}
-use Rattle.bhtf.specs.Book.{Entry, Book, find, without, stepOf, guarded, bookDelete, deleteFound, bookLookup, lookupFound, bookCount}
+use Rattle.bhtf.specs.Calls.{Outcome, plain, settled, delete, lookup, lookupOffset, lookupStart, lookupLength, count, countOf}
+use Rattle.bhtf.specs.Book.{Book, find, without, stepOf, guarded, bookDelete, deleteFound, bookLookup, lookupFound, bookCount}
 use Rattle.bhtf.proofs.Tests.{by-bool, not-both, and-true}
 use Rattle.bhtf.proofs.Bytes.{part-length}
 use Rattle.bhtf.proofs.Opened.{firstNo-none, firstNo-yes, firstNo-no, facts-opened, firstNo-opened}
-use Rattle.bhtf.proofs.Table.{entryOf, weight}
+use Rattle.bhtf.proofs.Outcomes.{settled-yes, settled-no}
+use Rattle.bhtf.proofs.Table.{entryOf}
 use Rattle.bhtf.proofs.Probe.{by-search, search-frame}
 use Rattle.bhtf.proofs.Insert.{entry-met, entry-empty, entry-exhausted}
-use Rattle.bhtf.proofs.Stretch.{sound-lies}
-use Rattle.agreement.proofs.File.{Allowed, valueOf, pointOf, pointOf-some, pointOf-none, File, file-some, Change, file-change, change-trans}
+use Rattle.agreement.proofs.File.{Allowed, valueOf, pointOf-some, pointOf-none, File, file-some, Change, file-change, change-trans}
 use Rattle.agreement.proofs.Data.{point-end}
-use Rattle.agreement.proofs.Retire.{active-offset, shown-active, shown-inactive, retire-change, retire-slot, retire-entry, retire-field, retire-value}
-use Rattle.agreement.proofs.Slots.{remove-change, remove-point, remove-points, remove-free}
+use Rattle.agreement.proofs.Retire.{active-offset, shown-active, shown-inactive, retire-change, retire-slot, retire-field}
+use Rattle.agreement.proofs.Remove.{remove-change, remove-point, remove-points, remove-free}
 use Rattle.agreement.proofs.Entries.{length-without}
 use Rattle.agreement.proofs.Reflect.{Reflects, reflect-without}
 
@@ -38,22 +36,6 @@ pub record Same (g : Layout) (o : Outcome Bytes) (p : Outcome Book) : Type 0 whe
   pub after : Reflects g (o .after) (p .after)
 
 -- ---- outcomes by their numbers
-
-pub settled-yes : (n : ℕ) (img x : Bytes) → n ≡ 0 → settled n img x ≡ x
-unfolding settled
-settled-yes n img x h = rw h refl
-
-pub settled-no : (n : ℕ) (img x : Bytes) → (n ≡ 0 → ⊥) → settled n img x ≡ img
-unfolding settled
-settled-no n img x h = rw (ne-eqb n 0 h) refl
-
-step-yes : (b : Book) (asks : List Question) (y : Book) → firstNo asks ≡ 0 → stepOf b asks y .after ≡ y
-unfolding stepOf
-step-yes b asks y h = rw h refl
-
-step-no : (b : Book) (asks : List Question) (y : Book) → (firstNo asks ≡ 0 → ⊥) → stepOf b asks y .after ≡ b
-unfolding stepOf
-step-no b asks y h = rw (ne-eqb (firstNo asks) 0 h) refl
 
 pub guarded-yes : (b : Book) (asks : List Question) (s : Outcome Book) → firstNo asks ≡ 0 → guarded b asks s ≡ s
 unfolding guarded

@@ -1,38 +1,30 @@
--- Steps in the table: a point's slot written where it was met, entered where the search ended, and removed.
+-- Steps in the table: a point's slot written where it was met, or entered where the search ended.
 --     set-change, set-point          an offset written into the point's slot
 --     enter-change, enter-point      a new point
---     remove-change, remove-point    a point gone
 -- Assumes nothing.
-use mathlib.Core.Path.{_≡_, refl, sym, ap, ap₂, _∙_, subst}
-use Prim.Native.Nat.{ℕ, zero, suc, _+_, _-_, _*_, _^_, _≤_, _<_}
+use mathlib.Core.Path.{_≡_, refl, sym, ap, ap₂, _∙_}
+use Prim.Native.Nat.{ℕ, _+_, _^_, _≤_, _<_}
 use native.Mathlib.Omega.{arith}
-use mathlib.Core.Logic.{_⊎_, inl, inr, _↔_}
-use mathlib.Core.Bool.{Bool, true, false, cond, not, _&&_, _||_, true≢false, false≢true}
-use mathlib.Core.List.{List, [], _∷_, _++_}
-use mathlib.Core.Option.{Option, none, some}
-use lib.ListN.{length, take, drop, length-append}
-use lib.Dec.{eqb, leb}
-use borrow.Author.Tests.{eqb-true, eq-eqb, ne-eqb, not-true, not-false}
-use Rattle.bhtf.specs.Bytes.{Bytes, part, store, number, digits, zeros}
-use Rattle.bhtf.specs.Limits.{active, inactive, leastLength, pointsField, freeField, pageField, slotsField, dataField, tableStart}
-use Rattle.bhtf.specs.Image.{field, setField, Layout, layoutOf, slotSize, offsetOf, slot, putSlot, keyOf, entry, vacant}
-use Rattle.bhtf.specs.Messages.{headSize, enter, closed}
+use mathlib.Core.Logic.{inr}
+use mathlib.Core.Bool.{true}
+use mathlib.Core.Option.{some}
+use lib.ListN.{length}
+use Rattle.bhtf.specs.Bytes.{Bytes, digits}
+use Rattle.bhtf.specs.Limits.{pointsField, freeField, tableStart}
+use Rattle.bhtf.specs.Image.{field, setField, Layout, slotSize, offsetOf, slot, putSlot, keyOf, entry}
+use Rattle.bhtf.specs.Messages.{headSize, enter}
 use Rattle.bhtf.specs.Search.{search, met, empty}
 use Rattle.bhtf.specs.Questions.{messageSound}
-use Rattle.bhtf.proofs.Tests.{by-bool, by-eq, and-left, and-right, and-true, or-left, or-right, not-both}
-use Rattle.bhtf.proofs.Bytes.{Apart, length-store, part-store-other, part-store-same, part-store-inside, part-part, part-length, length-digits, number-digits-fits, length-zeros}
-use Rattle.bhtf.proofs.Slots.{Room, slot-above, slot-end, slot-setField, part-putSlot-data, field-putSlot, length-putSlot, length-entry, keyOf-entry, offsetOf-entry, field-store-other, field-setField-other, field-setField-same, length-setField}
-use Rattle.bhtf.proofs.Opened.{Opened}
+use Rattle.bhtf.proofs.Tests.{by-eq}
+use Rattle.bhtf.proofs.Bytes.{Apart, length-digits}
+use Rattle.bhtf.proofs.Slots.{Room, slot-above, slot-end, slot-setField, part-putSlot-data, field-putSlot, length-putSlot, length-entry, keyOf-entry, offsetOf-entry, field-setField-other, field-setField-same}
 use Rattle.bhtf.proofs.Kept.{Kept, kept-trans, kept-store, kept-points}
-use Rattle.bhtf.proofs.Table.{Sound, Taken, keyAt, entryOf, weight}
-use Rattle.bhtf.proofs.Probe.{search-met, search-empty, met-taken, search-keys}
-use Rattle.bhtf.proofs.Insert.{weight-frame, insert-sound, insert-entry, insert-other, insert-weight, replace-sound, replace-entry, replace-other, replace-weight, entry-met, delete-entry, delete-other}
-use Rattle.bhtf.proofs.Frames.{part-closed-header, part-closed-data, field-closed, weight-closed, stands-closed, Stands}
-use Rattle.bhtf.proofs.Walk.{length-closed}
-use Rattle.bhtf.proofs.Delete.{sound-closed, gone-closed}
+use Rattle.bhtf.proofs.Table.{Sound, entryOf, weight}
+use Rattle.bhtf.proofs.Probe.{search-met, search-empty}
+use Rattle.bhtf.proofs.Insert.{weight-frame, insert-sound, insert-entry, insert-other, insert-weight, replace-sound, replace-entry, replace-other, replace-weight}
 use Rattle.bhtf.proofs.Stretch.{size, Lies, sound-lies, lies-sound, none-sound, SameOn, same-on-trans, same-on-store, lengthAt-same, shown-same, held-same, lies-same}
 use Rattle.agreement.proofs.Data.{frame-entry, frame-sound, file-above, some-same}
-use Rattle.agreement.proofs.File.{Allowed, allowed-length, allowed-zero, valueOf, pointOf, pointOf-some, pointOf-none, none-value, File, file-slots, file-data, file-room, file-some, Change, file-change, apart-sym}
+use Rattle.agreement.proofs.File.{Allowed, allowed-length, allowed-zero, valueOf, pointOf, pointOf-some, none-value, File, file-slots, file-room, file-some, Change}
 
 -- ---- a step that leaves the data area alone and writes the offset x into the point's slot
 
@@ -128,19 +120,19 @@ module _ (g : Layout) (img : Bytes) (f : File g img) (i : ℕ) (s : Bytes) (l : 
 -- ---- C's write
 
 module _ (g : Layout) (img : Bytes) (r : Room g (length img)) (lo : tableStart ≤ g .D) (long : 60 ≤ length img) (n : ℕ) where
-  points-slot : (k : ℕ) → k < g .N → slot g (setField img pointsField n) k ≡ slot g img k
+  pub points-slot : (k : ℕ) → k < g .N → slot g (setField img pointsField n) k ≡ slot g img k
   points-slot k h = slot-setField g img r pointsField n k (omega arith) h
 
-  points-same : (p m : ℕ) → g .D ≤ p → SameOn img (setField img pointsField n) p m
+  pub points-same : (p m : ℕ) → g .D ≤ p → SameOn img (setField img pointsField n) p m
   unfolding setField
   points-same p m h =
       same-on-store img pointsField (digits 4 n) p m (rw (length-digits 4 n) (omega (arith, long)))
       (inr (rw (length-digits 4 n) (omega (arith, lo))))
 
-  points-free : field (setField img pointsField n) freeField ≡ field img freeField
+  pub points-free : field (setField img pointsField n) freeField ≡ field img freeField
   points-free = field-setField-other img pointsField n freeField (omega (arith, long)) (inr (omega arith))
 
-  points-is : n < 2 ^ 32 → field (setField img pointsField n) pointsField ≡ n
+  pub points-is : n < 2 ^ 32 → field (setField img pointsField n) pointsField ≡ n
   points-is h = field-setField-same img pointsField n (omega (arith, long)) h
 
 -- ---- the offset x written into the slot where the point was met
@@ -271,134 +263,3 @@ module _ (g : Layout) (img : Bytes) (f : File g img) (key : Bytes) (a : Allowed 
 
   pub enter-point : pointOf g (enter g img i key x) key ≡ some (valueOf g img key x)
   enter-point = slot-point g img f key a x fr (enter g img i key x) enter-kept enter-free enter-same entry-is
-
--- ---- a point gone
-
-module _ (g : Layout) (img : Bytes) (f : File g img) (key : Bytes) (a : Allowed g key) (i : ℕ) (m : search g img key ≡ met i)
-    (some-point : 1 ≤ field img pointsField) where
-  fewer : Bytes
-  fewer = setField img pointsField (field img pointsField - 1)
-
-  gone : Bytes
-  gone = closed g fewer i
-
-  lt₁ : i < g .N
-  lt₁ = search-met g img key (file-some f) i m .0
-
-  long₁ : 60 ≤ length img
-  long₁ = omega (arith, f .opened .size-low)
-
-  few₁ : field img pointsField - 1 < 2 ^ 32
-  few₁ = omega (arith, f .opened .points, f .opened .slots-high)
-
-  length-fewer : length fewer ≡ length img
-  unfolding fewer
-  length-fewer = length-setField img pointsField (field img pointsField - 1) (omega (arith, long₁))
-
-  room-fewer : Room g (length fewer)
-  room-fewer = rw length-fewer (file-room f)
-
-  fewer-slot : (k : ℕ) → k < g .N → slot g fewer k ≡ slot g img k
-  unfolding fewer
-  fewer-slot = points-slot g img (file-room f) (file-above f) long₁ (field img pointsField - 1)
-
-  sound-fewer : Sound g fewer
-  sound-fewer = frame-sound g img fewer (file-some f) fewer-slot (f .table)
-
-  taken₁ : Taken g fewer i
-  taken₁ = ap (vacant g) (fewer-slot i lt₁) ∙ met-taken g img key (file-some f) i (allowed-zero g key a) m
-
-  key₁ : keyAt g fewer i ≡ key
-  key₁ = ap (keyOf g) (fewer-slot i lt₁) ∙ search-met g img key (file-some f) i m .1
-
-  sound-gone : Sound g gone
-  unfolding gone
-  sound-gone = sound-closed g fewer room-fewer i lt₁ sound-fewer
-
-  gone-key : (k : ℕ) → k < g .N → Taken g gone k → keyAt g gone k ≡ key → ⊥
-  unfolding gone
-  gone-key k h t e = gone-closed g fewer room-fewer i lt₁ sound-fewer taken₁ k h t (e ∙ sym key₁)
-
-  gone-others : (s : Bytes) → (keyOf g s ≡ key → ⊥) → Stands g fewer s ↔ Stands g gone s
-  unfolding gone
-  gone-others s n = stands-closed g fewer room-fewer i lt₁ s (λ e. n (e ∙ key₁))
-
-  remove-entry : entryOf g gone key ≡ none
-  remove-entry = delete-entry g fewer gone key (file-some f) sound-fewer sound-gone gone-key gone-others (allowed-zero g key a)
-
-  remove-other : (key′ : Bytes) → Allowed g key′ → (key′ ≡ key → ⊥) → entryOf g gone key′ ≡ entryOf g img key′
-  remove-other key′ a′ n =
-      delete-other g fewer gone key (file-some f) sound-fewer sound-gone gone-key gone-others key′ n (allowed-zero g key′ a′)
-      ∙ frame-entry g img fewer (file-some f) fewer-slot key′
-
-  gone-kept : Kept fewer gone
-  unfolding gone
-  gone-kept =
-      record {
-        size = length-closed g fewer room-fewer i lt₁;
-        front = part-closed-header g fewer room-fewer i lt₁ 0 20 (omega arith);
-        middle = part-closed-header g fewer room-fewer i lt₁ 24 28 (omega arith);
-        rest = part-closed-header g fewer room-fewer i lt₁ 60 1988 (omega arith);
-      }
-
-  remove-kept : Kept img gone
-  unfolding fewer
-  remove-kept = kept-trans (kept-points img (field img pointsField - 1) long₁) gone-kept
-
-  remove-same : (p n : ℕ) → g .D ≤ p → SameOn img gone p n
-  unfolding gone fewer
-  remove-same p n h =
-      same-on-trans (points-same g img (file-room f) (file-above f) long₁ (field img pointsField - 1) p n h)
-      (record { on = λ q k lo hi. part-closed-data g fewer room-fewer i lt₁ q k (omega arith) })
-
-  gone-points : field gone pointsField ≡ field img pointsField - 1
-  unfolding gone fewer
-  gone-points =
-      field-closed g fewer room-fewer i lt₁ pointsField (omega arith)
-      ∙ points-is g img (file-room f) (file-above f) long₁ (field img pointsField - 1) few₁
-
-  gone-free : field gone freeField ≡ field img freeField
-  unfolding gone fewer
-  gone-free =
-      field-closed g fewer room-fewer i lt₁ freeField (omega arith)
-      ∙ points-free g img (file-room f) (file-above f) long₁ (field img pointsField - 1)
-
-  gone-counted : field gone pointsField ≡ weight g gone (λ s. 1)
-  unfolding gone
-  gone-counted =
-      gone-points
-      ∙ omega (arith, f .counted, weight-closed g fewer room-fewer i lt₁ taken₁ (λ s. 1), weight-frame g img fewer (λ s. 1) fewer-slot)
-
-  remove-change′ : Change g img gone key
-  remove-change′ =
-      record {
-        kept = remove-kept;
-        free-low = rw gone-free (omega arith);
-        free-high = rw gone-free (f .opened .free-high);
-        points = rw gone-points (omega (arith, f .opened .points, file-slots f));
-        sound = sound-gone;
-        counted = gone-counted;
-        others = remove-other;
-        still = λ key′ s a′ n e′ z. remove-same _ _ (sound-lies g img _ (f .messages key′ s a′ e′) z .low);
-        here = λ s a₁ e₁. absurd (none-some s (sym remove-entry ∙ e₁));
-        here-apart = λ s key′ s′ a₁ a′ n e₁ e′ z z′. absurd (none-some s (sym remove-entry ∙ e₁));
-      }
-    where
-      none-some : (s : Bytes) → _≡_ {A = Option Bytes} none (some s) → ⊥
-      none-some s e = let z : _≡_ {A = ℕ} 0 1 = cc in omega arith
-
-  pub remove-change : Change g img (closed g (setField img pointsField (field img pointsField - 1)) i) key
-  unfolding gone fewer
-  remove-change = remove-change′
-
-  pub remove-point : pointOf g (closed g (setField img pointsField (field img pointsField - 1)) i) key ≡ none
-  unfolding gone fewer
-  remove-point = pointOf-none g gone key remove-entry
-
-  pub remove-points : field (closed g (setField img pointsField (field img pointsField - 1)) i) pointsField ≡ field img pointsField - 1
-  unfolding gone fewer
-  remove-points = gone-points
-
-  pub remove-free : field (closed g (setField img pointsField (field img pointsField - 1)) i) freeField ≡ field img freeField
-  unfolding gone fewer
-  remove-free = gone-free

@@ -8,23 +8,25 @@
 -- Assumes nothing.
 use mathlib.Core.Path.{_≡_, refl, sym, ap, ap₂, _∙_, subst}
 use Prim.Native.Nat.{ℕ}
-use mathlib.Core.Bool.{Bool, true, false, cond, _&&_}
+use mathlib.Core.Bool.{cond, _&&_}
 use mathlib.Core.List.{List, [], _∷_}
-use mathlib.Core.Option.{Option, none, some}
+use mathlib.Core.Option.{none, some}
 use lib.ListN.{length}
 use Rattle.bhtf.specs.Bytes.{Bytes}
 use Rattle.bhtf.specs.Image.{Layout, layoutOf}
-use Rattle.bhtf.specs.Search.{search, met, isMet}
+use Rattle.bhtf.specs.Search.{search, isMet}
 use Rattle.bhtf.specs.Questions.{nameAllowed, createNumber}
 use Rattle.bhtf.specs.Create.{slotsAsked, freshImage}
-use Rattle.bhtf.specs.Calls.{Answer, Outcome, plain, create, lookup, Call, adding, deleting, looking, counting, perform, answers, stateAfter}
-use Rattle.bhtf.specs.Book.{Book, newBook, find, bookStep}
+use Rattle.bhtf.specs.Calls.{Answer, plain, create, lookup, Call, adding, deleting, looking, counting, perform, answers, stateAfter}
+use Rattle.bhtf.specs.Book.{Book, newBook, bookStep}
 use Rattle.bhtf.specs.Demand.{fileText, textOf, bookText, termsOf, Agrees, Agreement}
 use Rattle.bhtf.proofs.Tests.{by-bool}
+use Rattle.bhtf.proofs.Accepted.{accepted-facts}
+use Rattle.bhtf.proofs.Outcomes.{settled-yes}
 use Rattle.agreement.proofs.Reflect.{Reflects}
-use Rattle.agreement.proofs.Simple.{Same, settled-yes, same-count, same-lookup, same-delete, lookup-shows, found-met, found-none, by-met}
+use Rattle.agreement.proofs.Simple.{Same, same-count, same-lookup, same-delete, lookup-shows, found-met, found-none, by-met}
 use Rattle.agreement.proofs.Add.{same-add}
-use Rattle.agreement.proofs.Fresh.{accepted, slotsAsked-some, fresh-reflects}
+use Rattle.agreement.proofs.Fresh.{slotsAsked-some, fresh-reflects}
 
 pub step : (g : Layout) (img : Bytes) (b : Book) → Reflects g img b → (c : Call) → Same g (perform c img) (bookStep c b)
 unfolding perform bookStep
@@ -70,11 +72,20 @@ from-reflected g img b r calls = (
   λ name. points-agree g (stateAfter perform calls img) (stateAfter bookStep calls b) (reflects-after g calls img b r) name,
 )
 
+-- create's image and the new book are in the relation
+pub reflects-created : (img : Bytes) (K N seed : ℕ) → create img K N seed .answer .number ≡ 0
+    → (g : Layout) × Reflects g (create img K N seed .after) (newBook (termsOf (length img) K (slotsAsked N)))
+unfolding create plain
+reflects-created img K N seed ok =
+    let fresh = freshImage (length img) K (slotsAsked N) seed in (
+      layoutOf fresh,
+      subst (λ (i : Bytes). Reflects (layoutOf fresh) i (newBook (termsOf (length img) K (slotsAsked N))))
+          (sym (settled-yes (createNumber (length img) K (slotsAsked N)) img fresh ok))
+          (fresh-reflects (length img) K (slotsAsked N) seed (accepted-facts (length img) K (slotsAsked N) ok) (slotsAsked-some N)),
+    )
+
 pub agreement : Agreement
-unfolding Agreement create plain
+unfolding Agreement
 agreement img K N seed ok calls =
-    let acc = accepted (length img) K (slotsAsked N) ok in
-    let r = fresh-reflects (length img) K (slotsAsked N) seed acc (slotsAsked-some N) in
-    subst (λ (i : Bytes). Agrees i (newBook (termsOf (length img) K (slotsAsked N))) calls)
-    (sym (settled-yes (createNumber (length img) K (slotsAsked N)) img (freshImage (length img) K (slotsAsked N) seed) ok))
-    (from-reflected _ _ _ r calls)
+    let c = reflects-created img K N seed ok in
+    from-reflected (c .0) _ _ (c .1) calls

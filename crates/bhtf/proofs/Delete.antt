@@ -18,9 +18,11 @@ use Rattle.bhtf.proofs.Tests.{by-le, by-eq, not-both}
 use Rattle.bhtf.proofs.Slots.{Room}
 use Rattle.bhtf.proofs.Cyclic.{dist-lt, dist-self, dist-zero, dist-same, dist-back, dist-from-next, dist-next-self, round3}
 use Rattle.bhtf.proofs.Table.{Taken, keyAt, homeAt, Sound}
-use Rattle.bhtf.proofs.Spread.{home-lt, slot-moved-hole, slot-moved-other}
+use Rattle.bhtf.proofs.Spread.{slot-moved-hole, slot-moved-other}
+use Rattle.bhtf.proofs.Probe.{home-lt}
 use Rattle.bhtf.proofs.Walk.{Going, stays, hole-other, stays-near, goes-far, closed-induct}
-use Rattle.bhtf.proofs.Frames.{Stands, taken-same, by-moved, stands-walked, zeroed-other, zeroed-same, zeroed-taken}
+use Rattle.bhtf.proofs.Frames.{taken-same, by-moved, stands-walked, zeroed-other, zeroed-same, zeroed-taken}
+use Rattle.bhtf.proofs.Insert.{Stands}
 
 pub record Mending (g : Layout) (img : Bytes) (h j : ℕ) : Type 0 where
   pub paths : (s k : ℕ) → s < g .N → k < g .N → Taken g img s

@@ -2,12 +2,12 @@
 -- rely on it.
 --     retire, takeSpace, setField C      each keeps what no call changes, and the header is accepted again
 -- Assumes nothing.
-use mathlib.Core.Path.{_≡_, refl, sym, ap, ap₂, _∙_, subst}
-use Prim.Native.Nat.{ℕ, zero, suc, _+_, _-_, _*_, _^_, _≤_, _<_}
+use mathlib.Core.Path.{_≡_, refl, ap, _∙_}
+use Prim.Native.Nat.{ℕ, _+_, _≤_, _<_}
 use native.Mathlib.Omega.{arith}
-use mathlib.Core.Logic.{_⊎_, inl, inr}
-use mathlib.Core.Bool.{Bool, true, false, cond, not, _&&_}
-use mathlib.Core.List.{List, [], _∷_, _++_}
+use mathlib.Core.Logic.{inl, inr}
+use mathlib.Core.Bool.{true, not}
+use mathlib.Core.List.{[], _∷_}
 use lib.ListN.{length, length-append}
 use lib.Dec.{eqb}
 use borrow.Author.Tests.{eq-eqb, not-true}
@@ -15,13 +15,13 @@ use Rattle.bhtf.specs.Bytes.{Bytes, part, store, digits}
 use Rattle.bhtf.specs.Limits.{active, inactive, pointsField, freeField, pageField, slotsField, dataField, tableStart}
 use Rattle.bhtf.specs.Image.{field, setField, lastPage, Layout, layoutOf, slot}
 use Rattle.bhtf.specs.Messages.{headSize, isActive, message, setFree, takeSpace, retire}
-use Rattle.bhtf.specs.Questions.{openNumber, messageSound}
+use Rattle.bhtf.specs.Questions.{messageSound}
 use Rattle.bhtf.proofs.Tests.{by-bool, and-left, not-both}
-use Rattle.bhtf.proofs.Bytes.{Apart, length-store, part-store-other, part-store-above, length-digits}
-use Rattle.bhtf.proofs.Slots.{Room, slot-store-data, slot-setField, field-store-other, field-setField-other, field-setField-same, length-setField}
-use Rattle.bhtf.proofs.Opened.{Opened, opened-facts, facts-opened, opened-room}
+use Rattle.bhtf.proofs.Bytes.{length-store, part-store-above, length-digits}
+use Rattle.bhtf.proofs.Slots.{slot-store-data, field-store-other, field-setField-other, field-setField-same, length-setField}
+use Rattle.bhtf.proofs.Opened.{Opened, opened-room}
 use Rattle.bhtf.proofs.Kept.{Kept, kept-refl, kept-trans, kept-store, kept-points, kept-free, kept-page, kept-layout, opened-kept}
-use Rattle.bhtf.proofs.Stretch.{size, Lies, sound-lies}
+use Rattle.bhtf.proofs.Stretch.{size, sound-lies}
 
 -- the data area begins above the table's start
 pub area-above : (img : Bytes) → Opened img → tableStart ≤ field img dataField

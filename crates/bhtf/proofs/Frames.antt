@@ -7,18 +7,18 @@
 use mathlib.Core.Path.{_≡_, refl, sym, ap, _∙_}
 use Prim.Native.Nat.{ℕ, _+_, _≤_, _<_}
 use native.Mathlib.Omega.{arith}
-use mathlib.Core.Bool.{true, false}
 use mathlib.Core.Logic.{_↔_}
 use lib.ListN.{length}
 use Rattle.bhtf.specs.Bytes.{Bytes, part, number}
 use Rattle.bhtf.specs.Limits.{tableStart}
-use Rattle.bhtf.specs.Image.{field, Layout, slotSize, slot, putSlot, keyOf, blank, vacant}
+use Rattle.bhtf.specs.Image.{field, Layout, slot, putSlot, keyOf, blank, vacant}
 use Rattle.bhtf.specs.Messages.{moved, closed}
 use Rattle.bhtf.proofs.Tests.{by-eq, not-both}
 use Rattle.bhtf.proofs.Slots.{Room, length-slot, slot-putSlot-same, slot-putSlot-other, part-putSlot-header, part-putSlot-data, length-blank, vacant-blank}
 use Rattle.bhtf.proofs.Table.{Taken, keyAt, weigh, weight}
-use Rattle.bhtf.proofs.Spread.{over, over-putSlot, over-moved, room-half, slot-moved-from, slot-moved-hole, slot-moved-other}
+use Rattle.bhtf.proofs.Spread.{over, over-moved, room-half, slot-moved-from, slot-moved-hole, slot-moved-other}
 use Rattle.bhtf.proofs.Walk.{Going, hole-other, closed-induct}
+use Rattle.bhtf.proofs.Insert.{Stands, weigh-taken, weigh-vacant, weight-putSlot}
 
 -- ---- the bytes outside the table
 module _ (g : Layout) (img : Bytes) (r : Room g (length img)) (h j : ℕ) (lh : h < g .N) (lj : j < g .N) (p m : ℕ) where
@@ -62,24 +62,10 @@ module _ (g : Layout) (img : Bytes) (r : Room g (length img)) (i : ℕ) (l : i <
   field-closed at f = ap number (part-closed-header at 4 f)
 
 -- ---- sums over the entries
-pub weigh-vacant : (g : Layout) (w : Bytes → ℕ) (s : Bytes) → vacant g s ≡ true → weigh g w s ≡ 0
-unfolding weigh
-weigh-vacant g w s v = rw v
-
-pub weigh-taken : (g : Layout) (w : Bytes → ℕ) (s : Bytes) → vacant g s ≡ false → weigh g w s ≡ w s
-unfolding weigh
-weigh-taken g w s t = rw t
-
 -- the sum is one over the slots
 pub weight-over : (g : Layout) (img : Bytes) (w : Bytes → ℕ) → weight g img w ≡ over g img (λ i s. weigh g w s)
 unfolding weight over
 weight-over g img w = refl
-
--- a write to a slot
-pub weight-putSlot : (g : Layout) (img : Bytes) → Room g (length img) → (w : Bytes → ℕ) (i : ℕ) (s : Bytes) → i < g .N
-    → length s ≡ slotSize g → weight g (putSlot g img i s) w + weigh g w (slot g img i) ≡ weight g img w + weigh g w s
-weight-putSlot g img r w i s l e =
-    omega (arith, weight-over g (putSlot g img i s) w, weight-over g img w, over-putSlot g img r (λ i s. weigh g w s) i s l e)
 
 -- a move keeps every sum
 pub weight-moved : (g : Layout) (img : Bytes) (h j : ℕ) → Going g img h j → Taken g img j → (w : Bytes → ℕ)
@@ -105,14 +91,12 @@ weight-closed g img r i l t w =
             skip = λ img′ h j w′ s t a e. e;
             move = λ img′ h j w′ s t a e. e ∙ weight-moved g img′ h j s t w;
           }),
-      weight-putSlot g img r w i (blank g) l (length-blank g),
+      weight-putSlot g img i (blank g) w r l (length-blank g),
       weigh-vacant g w (blank g) (vacant-blank g),
       weigh-taken g w (slot g img i) t,
     )
 
 -- ---- what stands in the table
-abbrev pub Stands : Layout → Bytes → Bytes → Type 0
-Stands g img s = (k : ℕ) × (k < g .N) × Taken g img k × (slot g img k ≡ s)
 
 -- slots with the same bytes are taken together
 pub taken-same : (g : Layout) (a b : Bytes) (i k : ℕ) → slot g a i ≡ slot g b k → Taken g b k → Taken g a i

@@ -4,16 +4,14 @@
 --     kept-store, kept-field        a write above the header, and a write of C, X or M, keep them
 -- Assumes nothing.
 use mathlib.Core.Path.{_≡_, refl, sym, ap, ap₂, _∙_, fun-ext}
-use Prim.Native.Nat.{ℕ, zero, suc, _+_, _-_, _*_, _≤_, _<_}
+use Prim.Native.Nat.{ℕ, _+_, _-_, _*_, _≤_, _<_}
 use native.Mathlib.Omega.{arith}
-use mathlib.Core.Logic.{_⊎_, inl, inr}
-use mathlib.Core.Bool.{Bool, true, false, _&&_}
-use mathlib.Core.List.{List, [], _∷_}
+use mathlib.Core.Logic.{inl, inr}
 use lib.ListN.{length, getD}
 use lib.Seq.{getD-take}
 use Rattle.bhtf.specs.Bytes.{Bytes, part, store, number, digits}
 use Rattle.bhtf.specs.Limits.{keyField, slotsField, pointsField, multiplierField, startField, firstField, lastField, scrambleField, tableField, dataField, freeField, pageField, scrambleStart, tableStart}
-use Rattle.bhtf.specs.Image.{field, setField, hashFrom, hash, scramble, Layout, layoutOf}
+use Rattle.bhtf.specs.Image.{field, setField, hash, scramble, layoutOf}
 use Rattle.bhtf.specs.Questions.{versionKnown}
 use Rattle.bhtf.proofs.Bytes.{Apart, length-store, part-store-other, part-part, length-digits}
 use Rattle.bhtf.proofs.Opened.{Opened}

@@ -1,10 +1,12 @@
 pub mod Tests
 pub mod Bytes
 pub mod Slots
+pub mod Stores
 pub mod Cyclic
 pub mod Total
 pub mod Table
 pub mod Opened
+pub mod Accepted
 pub mod Kept
 pub mod Cases
 pub mod Spread

@@ -3,18 +3,17 @@
 --     opened-facts, facts-opened        from `openNumber img ≡ 0`, and to it
 --     firstNo-opened, firstNo-refused    a call's number after questions 1, 5 and 6
 -- Assumes nothing.
-use mathlib.Core.Path.{_≡_, refl, sym, ap, _∙_, subst}
-use Prim.Native.Nat.{ℕ, zero, suc, _+_, _-_, _*_, _/_, _%_, _^_, _≤_, _<_}
-use native.Mathlib.Nat.{div-add-mod', mod-lt, mul-le-mul}
+use mathlib.Core.Path.{_≡_, refl, sym, _∙_, subst}
+use Prim.Native.Nat.{ℕ, _+_, _*_, _%_, _^_, _≤_, _<_}
 use native.Mathlib.Omega.{arith}
-use mathlib.Core.Bool.{Bool, true, false, cond, _&&_, true≢false, false≢true}
+use mathlib.Core.Bool.{Bool, true, false, _&&_}
 use mathlib.Core.List.{List, [], _∷_}
-use lib.ListN.{length, getD}
-use lib.Dec.{leb, ltb, eqb}
+use lib.ListN.{length}
+use lib.Dec.{leb, eqb}
 use borrow.Author.Tests.{leb-true, le-leb, eqb-true, eq-eqb}
-use Rattle.bhtf.specs.Bytes.{Bytes, part, same}
-use Rattle.bhtf.specs.Limits.{pageSize, mostImage, mostKey, mostSlots, mostCharacter, magic, major, minor, patch, keyField, slotsField, pointsField, firstField, lastField, scrambleField, tableField, dataField, freeField, scrambleStart, tableStart}
-use Rattle.bhtf.specs.Image.{field, roundUp, dataStart, Layout, layoutOf, slotSize}
+use Rattle.bhtf.specs.Bytes.{Bytes}
+use Rattle.bhtf.specs.Limits.{pageSize, mostImage, mostKey, mostSlots, mostCharacter, keyField, slotsField, pointsField, firstField, lastField, scrambleField, tableField, dataField, freeField, scrambleStart, tableStart}
+use Rattle.bhtf.specs.Image.{field, roundUp, dataStart, layoutOf, slotSize}
 use Rattle.bhtf.specs.Questions.{Question, ask, firstNo, sizeAllowed, keyAllowed, slotsAllowed, versionKnown, headerSound, opened, openNumber}
 use Rattle.bhtf.proofs.Tests.{by-bool, and-left, and-right, and-true}
 use Rattle.bhtf.proofs.Slots.{Room}

@@ -1,14 +1,13 @@
 -- Laws of fields and slots: what is read after a write, there and elsewhere.
 --     Room g img        the table and the data area lie in the image: 2,048 + N × (K + 4) ≤ D ≤ L
 -- Assumes nothing.
-use mathlib.Core.Path.{_≡_, refl, sym, ap, ap₂, _∙_, subst}
-use Prim.Native.Nat.{ℕ, zero, suc, _+_, _-_, _*_, _^_, _≤_, _<_}
+use mathlib.Core.Path.{_≡_, sym, ap, ap₂, _∙_}
+use Prim.Native.Nat.{ℕ, suc, _+_, _*_, _^_, _≤_, _<_}
 use native.Mathlib.Nat.{mul-le-mul-right, suc-mul}
 use native.Mathlib.Omega.{arith}
-use mathlib.Core.Bool.{Bool, true, false}
-use mathlib.Core.Logic.{_⊎_, inl, inr}
-use mathlib.Core.List.{List, [], _∷_, _++_}
-use lib.ListN.{length, take, drop, replicate, length-append, length-replicate, replicate-append-replicate}
+use mathlib.Core.Bool.{true}
+use mathlib.Core.Logic.{inl, inr}
+use lib.ListN.{length, take, replicate, length-append, length-replicate, replicate-append-replicate}
 use lib.Seq.{take-at, drop-at, length-take-le}
 use Rattle.bhtf.specs.Bytes.{Bytes, part, store, number, digits, zeros, allZero}
 use Rattle.bhtf.specs.Limits.{tableStart}

@@ -6,7 +6,6 @@
 -- Assumes nothing.
 use mathlib.Core.Path.{_≡_, sym, ap, _∙_, subst}
 use Prim.Native.Nat.{ℕ, _+_, _-_, _*_, _≤_, _<_}
-use native.Mathlib.Nat.{mod-lt}
 use native.Mathlib.Omega.{arith}
 use mathlib.Core.Bool.{Bool, true, false, cond}
 use lib.ListN.{length}
@@ -16,13 +15,9 @@ use Rattle.bhtf.specs.Search.{dist}
 use Rattle.bhtf.specs.Messages.{moved}
 use Rattle.bhtf.proofs.Slots.{Room, length-slot, length-putSlot, slot-putSlot-same, slot-putSlot-other, length-blank, vacant-blank}
 use Rattle.bhtf.proofs.Cyclic.{dist-lt, round3}
+use Rattle.bhtf.proofs.Probe.{home-lt}
 use Rattle.bhtf.proofs.Total.{total, total-change, total-bound}
 use Rattle.bhtf.proofs.Table.{Taken, keyAt, homeAt}
-
--- a home is a slot
-pub home-lt : (g : Layout) (key : Bytes) → 0 < g .N → home g key < g .N
-unfolding home
-home-lt g key h = mod-lt (g .hashed key) h
 
 -- ---- sums over the slots
 unfoldable pub over : Layout → Bytes → (ℕ → Bytes → ℕ) → ℕ

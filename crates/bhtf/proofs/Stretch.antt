@@ -3,21 +3,20 @@
 --     Lies g img o          question 11 as facts: inside the data area, with a letter and a length that are allowed
 --     SameOn img img′ p n   the two images agree on the n bytes from p on
 -- Assumes nothing.
-use mathlib.Core.Path.{_≡_, refl, sym, ap, ap₂, _∙_, subst}
-use Prim.Native.Nat.{ℕ, zero, suc, _+_, _-_, _*_, _^_, _≤_, _<_}
+use mathlib.Core.Path.{_≡_, refl, ap, _∙_}
+use Prim.Native.Nat.{ℕ, _+_, _≤_}
 use native.Mathlib.Omega.{arith}
-use mathlib.Core.Logic.{_⊎_, inl, inr}
-use mathlib.Core.Bool.{Bool, true, false, cond, not, _&&_, _||_}
-use mathlib.Core.List.{List, [], _∷_, _++_}
+use mathlib.Core.Logic.{inl, inr}
+use mathlib.Core.Bool.{true, _&&_, _||_}
 use lib.ListN.{length}
 use lib.Dec.{leb, eqb}
-use borrow.Author.Tests.{leb-true, le-leb, eqb-true, eq-eqb, ne-eqb}
+use borrow.Author.Tests.{leb-true, le-leb, eqb-true}
 use Rattle.bhtf.specs.Bytes.{Bytes, part, store, number}
 use Rattle.bhtf.specs.Limits.{active, inactive, leastLength, freeField}
 use Rattle.bhtf.specs.Image.{field, Layout}
 use Rattle.bhtf.specs.Messages.{headSize, letterAt, lengthAt, textAt, isActive, shown, held}
 use Rattle.bhtf.specs.Questions.{messageSound}
-use Rattle.bhtf.proofs.Tests.{by-bool, by-or, and-left, and-right, and-true, or-left, or-right, not-both}
+use Rattle.bhtf.proofs.Tests.{by-or, and-left, and-right, and-true, or-right}
 use Rattle.bhtf.proofs.Bytes.{Apart, part-store-other}
 
 abbrev pub size : Layout → Bytes → ℕ → ℕ

@@ -20,7 +20,8 @@ use Rattle.bhtf.proofs.Tests.{by-bool, not-both}
 use Rattle.bhtf.proofs.Slots.{Room, length-putSlot, slot-putSlot-same, length-blank, vacant-blank}
 use Rattle.bhtf.proofs.Cyclic.{next-lt, dist-lt, dist-back, dist-from-next, dist-next-self, among-dist}
 use Rattle.bhtf.proofs.Table.{Taken, keyAt, homeAt}
-use Rattle.bhtf.proofs.Spread.{home-lt, spread, spread-bound, spread-moved, length-moved, room-moved, vacant-moved, room-putSlot}
+use Rattle.bhtf.proofs.Spread.{spread, spread-bound, spread-moved, length-moved, room-moved, vacant-moved, room-putSlot}
+use Rattle.bhtf.proofs.Probe.{home-lt}
 
 pub record Going (g : Layout) (img : Bytes) (h j : ℕ) : Type 0 where
   pub room : Room g (length img)

@@ -1,8 +1,8 @@
 -- Document 01, "The plain control book": entries with distinct names, and the space used. It knows nothing of slots or bytes
 -- of an image: "Each step is fed its call's arguments and nothing from the file."
 -- Assumes nothing.
-use Prim.Native.Nat.{ℕ, zero, suc, _+_}
-use mathlib.Core.Bool.{Bool, true, false, cond, not}
+use Prim.Native.Nat.{ℕ, _+_}
+use mathlib.Core.Bool.{false, cond}
 use mathlib.Core.List.{List, [], _∷_, _++_}
 use mathlib.Core.Option.{Option, none, some}
 use lib.ListN.{length}

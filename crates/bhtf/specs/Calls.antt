@@ -4,7 +4,7 @@
 --     create, add, delete, lookup, count     for any bytes, names, data and modes
 --     answers, stateAfter     of a list of calls, each on the state that the last one left
 -- Assumes nothing.
-use Prim.Native.Nat.{ℕ, zero, suc, _+_}
+use Prim.Native.Nat.{ℕ, _+_}
 use mathlib.Core.Bool.{cond, _&&_}
 use mathlib.Core.List.{List, [], _∷_}
 use lib.ListN.{length}

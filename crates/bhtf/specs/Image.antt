@@ -5,10 +5,10 @@
 --     layoutOf img          the layout that an image's header gives
 --     slot g img i          the bytes of slot i; keyOf and offsetOf take them apart
 -- Assumes nothing.
-use Prim.Native.Nat.{ℕ, zero, suc, _+_, _-_, _*_, _/_, _%_}
+use Prim.Native.Nat.{ℕ, _+_, _-_, _*_, _/_, _%_}
 use mathlib.Core.Bool.{Bool, cond, _&&_}
 use mathlib.Core.List.{[], _∷_, _++_}
-use lib.ListN.{length, take, drop}
+use lib.ListN.{take, drop}
 use lib.Dec.{leb, eqb}
 use lib.Bits.{bitXor}
 use Rattle.bhtf.specs.Bytes.{Bytes, part, store, number, digits, zeros, allZero}

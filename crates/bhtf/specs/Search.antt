@@ -2,7 +2,7 @@
 -- Assumes nothing.
 use Prim.Native.Nat.{ℕ, zero, suc, _+_, _-_}
 use mathlib.Core.Bool.{Bool, true, false, cond}
-use lib.Dec.{leb, ltb, eqb}
+use lib.Dec.{leb, ltb}
 use Rattle.bhtf.specs.Bytes.{Bytes, same}
 use Rattle.bhtf.specs.Image.{Layout, slot, keyOf, vacant, home}
 

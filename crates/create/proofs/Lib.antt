@@ -1,3 +1,3 @@
-pub mod Accepted
+pub mod Numbered
 pub mod SeedZero
 pub mod Stores

@@ -9,7 +9,7 @@
 use mathlib.Core.Path.{_≡_, refl, sym, ap, ap₂, _∙_}
 use mathlib.Core.List.{List, [], _∷_, _++_, append-assoc, append-nil}
 use Prim.Native.Nat.{ℕ, zero, suc, _+_, _-_, _*_, _≤_, _<_, zero-le, suc-le-suc}
-use native.Mathlib.Nat.{add-zero, zero-add, add-suc, suc-add, le-of-suc-le-suc, not-suc-le-zero}
+use native.Mathlib.Nat.{add-zero, zero-add, add-suc, suc-add}
 use native.Mathlib.Numerals.{add-one}
 use native.Mathlib.Omega.{arith}
 use lib.ListN.{length, getD, take, drop, replicate, length-append, replicate-append-replicate, take-append-drop}
@@ -149,12 +149,6 @@ unfolding allDigits digits freshHeader
 header-digits K N D e = rw e
 
 -- ---- the fresh image
-
-take-zeros : (n m : ℕ) → n ≤ m → take n (zeros m) ≡ zeros n
-unfolding zeros
-take-zeros zero m h = refl
-take-zeros (suc n) zero h = absurd (not-suc-le-zero h)
-take-zeros (suc n) (suc m) h = ap (λ (t : Bytes). 0 ∷ t) (take-zeros n m (le-of-suc-le-suc h))
 
 drop-zeros : (n m : ℕ) → drop n (zeros m) ≡ zeros (m - n)
 unfolding zeros

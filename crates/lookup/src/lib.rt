@@ -1,1 +1,104 @@
 // Lookup and count.
+//     count    the number of points held
+//     locate   where a point's active message stands, as numbers
+//     lookup   the message as a part of the lent image
+use layout::places::Offset;
+use layout::questions::name_allowed;
+use layout::questions::open_number;
+use layout::shape::read_shape;
+use messages::look::held_at;
+use messages::look::is_active;
+use messages::look::message_sound;
+use messages::look::text_start;
+use table::search::Found;
+use table::search::offset_of;
+use table::search::search;
+use words::fields::read_u32;
+ghost use mathlib.Core.Path.{_≡_};
+ghost use lib.ListN.{length};
+ghost use Rattle.bhtf.specs.Calls.{lookup, lookupStart, lookupLength, count};
+ghost use Rattle.bhtf.specs.Questions.{lookupNumber};
+
+// What count answers: the number of the first question answered no, 0 where there is none; and the points held.
+pub struct Counted {
+    pub number: u32,
+    pub points: u32,
+}
+
+// What lookup answers, as numbers: where the message's text begins and how long it is, both 0 with no active message.
+pub struct Located {
+    pub number: u32,
+    pub start: Offset,
+    pub length: usize,
+}
+
+// The number of points held; 0 beside the number when refused.
+pub fn count(image: &[u8]) -> Counted
+    ensures { λ r. ⌜ (r .number ≡ count (now (image .entry)) .answer .number) × (r .points ≡ count (now (image .entry)) .answer .amount) ⌝ }
+{
+    let number = open_number(image);
+    if number != 0 {
+        return Counted { number, points: 0 };
+    }
+    let points = read_u32(image, 20);
+    Counted { number: 0, points }
+}
+
+// An answer that shows no message.
+fn nothing(number: u32) -> Located
+    ensures { λ r. ⌜ (r .number ≡ number) × (r .start .0 ≡ 0) × (r .length ≡ 0) ⌝ }
+{
+    let start = Offset::new(0);
+    Located {
+        number,
+        start,
+        length: 0,
+    }
+}
+
+// Where the active message of the key's point stands.
+pub fn locate(image: &[u8], key: &[u8]) -> Located
+    ensures { λ r. ⌜ (r .number ≡ lookupNumber (now (image .entry)) (now (key .entry)))
+        × (r .start .0 ≡ lookupStart (now (image .entry)) (now (key .entry)))
+        × (r .length ≡ lookupLength (now (image .entry)) (now (key .entry))) ⌝ }
+{
+    let number = open_number(image);
+    if number != 0 {
+        return nothing(number);
+    }
+    let shape = read_shape(image);
+    if !name_allowed(key, shape.key) {
+        return nothing(7);
+    }
+    let found = search(image, shape, key);
+    let Found::Met(slot) = found else {
+        return nothing(14);
+    };
+    let o = offset_of(image, shape, slot);
+    if !message_sound(image, shape, o) {
+        return nothing(11);
+    }
+    if !is_active(image, o) {
+        return nothing(0);
+    }
+    let start = text_start(o);
+    let length = held_at(image, o);
+    Located {
+        number: 0,
+        start,
+        length,
+    }
+}
+
+// The active message of the key's point, as a part of the image: its first 0 bytes where there is none, or when refused.
+pub fn lookup<'a>(image: &'a [u8], key: &[u8], number: &mut u32) -> &'a [u8]
+    ensures { λ r. ⌜ (now (number .exit) ≡ lookup (now (image .entry)) (now (key .entry)) .answer .number)
+        × (now r ≡ lookup (now (image .entry)) (now (key .entry)) .answer .text)
+        × (length (now r) ≡ lookup (now (image .entry)) (now (key .entry)) .answer .amount) ⌝ }
+{
+    let found = locate(image, key);
+    *number = found.number;
+    let start = found.start.at();
+    let end = start + found.length;
+    &image[start..end]
+}

@@ -1,3 +1,3 @@
-pub mod Stores
 pub mod Sound
 pub mod Placed
+pub mod After

@@ -1,4 +1,4 @@
--- What the leaves below a call write, by numbers alone; `Messages` of the proofs ties each to the specification's definition.
+-- What the leaves below a call write, by numbers alone; proofs/Placed ties each to the specification's definition.
 --     written t            the bytes of an active message with the text t
 --     freeSet D img x      the image with next free offset x, and the last page that x gives
 -- Assumes nothing.

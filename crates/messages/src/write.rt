@@ -30,7 +30,7 @@ pub fn retire(image: &mut [u8], o: Offset)
     }
 }
 
-// Writes an active message: its header, and the bytes behind the text's first `before` bytes, which stand there already.
+// Writes an active message: its header, and the bytes behind the text's first `before` bytes, which stand there.
 pub fn write_message(space: &mut [u8], before: usize, bytes: &[u8])
     requires { ⌜ (length (now space) ≡ 4 + before + length (now bytes)) × (before + length (now bytes) < 2 ^ 24) ⌝ }
     ensures { λ _. ⌜ now (space .exit) ≡ written (part (now (space .entry)) 4 before ++ now (bytes .entry)) ⌝ }

@@ -3,12 +3,12 @@
 --     head-putSlot, head-moved       a write to a slot, and a move, keep them
 --     kept-shape             the shape is among what no call changes
 -- Assumes nothing.
-use mathlib.Core.Path.{_≡_, refl, sym, ap, _∙_, subst}
+use mathlib.Core.Path.{_≡_, refl, sym, ap, _∙_}
 use Prim.Native.Nat.{ℕ, _+_, _≤_, _<_}
 use native.Mathlib.Omega.{arith}
 use lib.ListN.{length}
 use Rattle.bhtf.specs.Bytes.{Bytes, part, number}
-use Rattle.bhtf.specs.Limits.{pointsField, multiplierField, startField, lastField, freeField}
+use Rattle.bhtf.specs.Limits.{pointsField, multiplierField, startField, freeField}
 use Rattle.bhtf.specs.Image.{field, Layout, layoutOf, slotSize, slotStart, slot, putSlot, blank}
 use Rattle.bhtf.specs.Messages.{moved}
 use Rattle.bhtf.specs.Questions.{openNumber}
@@ -23,7 +23,15 @@ use Rattle.layout.specs.Shapes.{shapeOf}
 pub kept-shape : {img img′ : Bytes} → Kept img img′ → shapeOf img′ ≡ shapeOf img
 unfolding shapeOf
 kept-shape {img} {img′} k =
-    rw (kept-key k, kept-slots k, kept-data k, at multiplierField 0 refl (omega arith), at startField 4 refl (omega arith), kept-first k, kept-last k) refl
+    rw (
+      kept-key k,
+      kept-slots k,
+      kept-data k,
+      at multiplierField 0 refl (omega arith),
+      at startField 4 refl (omega arith),
+      kept-first k,
+      kept-last k,
+    ) refl
   where
     at : (p q : ℕ) → p ≡ 24 + q → q + 4 ≤ 28 → field img′ p ≡ field img p
     at p q e h =

@@ -4,10 +4,10 @@
 use mathlib.Core.Path.{_≡_, refl, sym, ap, _∙_}
 use Prim.Native.Nat.{ℕ, suc, _-_, _<_}
 use native.Mathlib.Omega.{arith}
-use mathlib.Core.Bool.{Bool, true, false}
+use mathlib.Core.Bool.{true, false}
 use Rattle.bhtf.specs.Bytes.{Bytes, same, allZero}
-use Rattle.bhtf.specs.Image.{Layout, slot, keyOf, vacant, home}
-use Rattle.bhtf.specs.Search.{Probe, met, empty, exhausted, next, probe, search}
+use Rattle.bhtf.specs.Image.{Layout, vacant, home}
+use Rattle.bhtf.specs.Search.{met, empty, exhausted, next, probe, search}
 use Rattle.bhtf.proofs.Table.{keyAt}
 use Rattle.bhtf.proofs.Probe.{turn-met, turn-empty, turn-on}
 

@@ -5,25 +5,25 @@
 --     walking-start, walking-turn, walking-less, walking-end
 -- Assumes nothing.
 use mathlib.Core.Path.{_≡_, refl, sym, ap, ap₂, _∙_, subst}
-use Prim.Native.Nat.{ℕ, suc, _+_, _*_, _≤_, _<_}
+use Prim.Native.Nat.{ℕ, _+_, _*_, _<_}
 use native.Mathlib.Omega.{arith}
 use mathlib.Core.Bool.{Bool, true, false, cond}
 use mathlib.Core.Logic.{inl, inr}
-use lib.ListN.{length}
 use Rattle.bhtf.specs.Bytes.{Bytes, part, store}
-use Rattle.bhtf.specs.Image.{Layout, layoutOf, slotSize, slotStart, slot, putSlot, blank, vacant}
+use Rattle.bhtf.specs.Image.{Layout, layoutOf, slotStart, slot, putSlot, blank, vacant}
 use Rattle.bhtf.specs.Messages.{Walked, among, moved, walk, closed}
 use Rattle.bhtf.specs.Questions.{openNumber}
 use Rattle.bhtf.specs.Search.{next}
 use Rattle.bhtf.proofs.Tests.{by-bool}
 use Rattle.bhtf.proofs.Bytes.{Apart}
-use Rattle.bhtf.proofs.Slots.{Room, slots-apart, length-blank}
-use Rattle.bhtf.proofs.Table.{Taken, homeAt}
-use Rattle.bhtf.proofs.Walk.{Going, stays, left, looks, going-closed, going-skip, going-move, left-skip, left-move, turn-image, turn-skip, turn-move, closed-looks, hole-other}
+use Rattle.bhtf.proofs.Slots.{slots-apart, length-blank}
+use Rattle.bhtf.proofs.Table.{Taken}
+use Rattle.bhtf.proofs.Walk.{Going, stays, left, looks, going-closed, going-skip, going-move, left-skip, left-move}
+use Rattle.bhtf.proofs.Walk.{turn-image, turn-skip, turn-move, closed-looks, hole-other}
 use Rattle.layout.specs.Shapes.{shapeOf}
 use Rattle.layout.specs.declared.shape.Shape.{Shape}
 use Rattle.table.specs.Slots.{Placed, homeIn}
-use Rattle.table.specs.Walks.{staysAt, lookedImage, lookedHole}
+use Rattle.table.specs.Walks.{staysAt, Beside, lookedImage, lookedHole}
 use Rattle.table.proofs.Headers.{layout-slots, slot-place, slot-room, room, placed-opened}
 use Rattle.table.proofs.Heads.{SameHead, head-trans, head-putSlot, head-half, head-moved}
 
@@ -39,7 +39,8 @@ module _ (img : Bytes) (s : Shape) (is : s ≡ shapeOf img) (hole j : ℕ) (from
       apart-at _ _ _ from (s .key + 4) to (from-at ∙ sym (slot-place img s is j)) (sym (slot-room img s is))
       (to-at ∙ sym (slot-place img s is hole)) (slots-apart (layoutOf img) j hole (λ e. n (sym e)))
 
-  pub copied-slot : store img to (part img from (s .key + 4)) ≡ putSlot (layoutOf img) img hole (slot (layoutOf img) img j)
+  pub copied-slot : store img to (part img from (s .key + 4))
+      ≡ putSlot (layoutOf img) img hole (slot (layoutOf img) img j)
   unfolding putSlot slot
   copied-slot =
       ap₂ (λ (p q : ℕ). store img p (part img q (s .key + 4)))
@@ -47,22 +48,22 @@ module _ (img : Bytes) (s : Shape) (is : s ≡ shapeOf img) (hole j : ℕ) (from
       ∙ ap (λ (m : ℕ). store img (slotStart (layoutOf img) hole) (part img (slotStart (layoutOf img) j) m)) (sym (slot-room img s is))
 
 -- the image half way, b, and after slot j was zeroed by b's own layout
-pub moved-code : (img b : Bytes) (s : Shape) (hole j : ℕ) → openNumber img ≡ 0 → s ≡ shapeOf img → hole < s .slots → j < s .slots
+pub moved-code : (img b : Bytes) (s : Shape) (hole j : ℕ) → openNumber img ≡ 0 → s ≡ shapeOf img → Beside s hole j
     → b ≡ putSlot (layoutOf img) img hole (slot (layoutOf img) img j)
     → putSlot (layoutOf b) b j (blank (layoutOf b)) ≡ moved (layoutOf img) img hole j
 unfolding moved
-moved-code img b s hole j h is lh lj e =
+moved-code img b s hole j h is d e =
     let n = layout-slots img s is in
-    let half = head-half (layoutOf img) img h (room img h) hole j (omega arith) (omega arith) in
+    let half = head-half (layoutOf img) img h (room img h) hole j (omega (arith, d .hole-lt)) (omega (arith, d .slot-lt)) in
     ap (λ (x : Bytes). putSlot (layoutOf x) x j (blank (layoutOf x))) e
     ∙ ap (λ (g : Layout). putSlot g (putSlot (layoutOf img) img hole (slot (layoutOf img) img j)) j (blank g))
     (half .layout)
 
-pub placed-code : (img b : Bytes) (s : Shape) (hole j : ℕ) → openNumber img ≡ 0 → s ≡ shapeOf img → hole < s .slots → j < s .slots
+pub placed-code : (img b : Bytes) (s : Shape) (hole j : ℕ) → openNumber img ≡ 0 → s ≡ shapeOf img → Beside s hole j
     → b ≡ putSlot (layoutOf img) img hole (slot (layoutOf img) img j) → Placed b s
-placed-code img b s hole j h is lh lj e =
+placed-code img b s hole j h is d e =
     let n = layout-slots img s is in
-    let half = head-half (layoutOf img) img h (room img h) hole j (omega arith) (omega arith) in
+    let half = head-half (layoutOf img) img h (room img h) hole j (omega (arith, d .hole-lt)) (omega (arith, d .slot-lt)) in
     subst (λ (x : Bytes). Placed x s) (sym e) (placed-opened _ s (half .opened) (is ∙ sym (half .shape)))
 
 -- ---- a look
@@ -89,7 +90,7 @@ pub record Walking (start : Bytes) (s : Shape) (h₀ j₀ : ℕ) (img : Bytes) (
   pub same : walk (looks (layoutOf start) start h₀ j₀) (layoutOf start) start h₀ j₀ .image
       ≡ walk (looks (layoutOf start) img h j) (layoutOf start) img h j .image
 
-module _ (start : Bytes) (s : Shape) (h₀ j₀ : ℕ) (img : Bytes) (h j : ℕ) (w : Walking start s h₀ j₀ img h j) where
+module _ {start : Bytes} {s : Shape} {h₀ j₀ : ℕ} {img : Bytes} {h j : ℕ} (w : Walking start s h₀ j₀ img h j) where
   pub walking-slots : layoutOf start .N ≡ s .slots
   walking-slots = sym (ap (λ (g : Layout). g .N) (w .head .layout)) ∙ layout-slots img s (w .shape)
 
@@ -111,7 +112,7 @@ module _ (start : Bytes) (s : Shape) (h₀ j₀ : ℕ) (img : Bytes) (h j : ℕ)
   walking-other t = hole-other (layoutOf start) img h j (w .going) (taken t)
 
   -- the state after a look, and the measure
-  abbrev After : Bytes → ℕ → ℕ → Type 0
+  abbrev pub After : Bytes → ℕ → ℕ → Type 0
   After img′ h′ j′ = Walking start s h₀ j₀ img′ h′ j′ × (left (layoutOf start) img′ h′ j′ < left (layoutOf start) img h j)
 
   after-stays : Taken (layoutOf start) img j → stays (layoutOf start) img h j ≡ true → After img h (next (layoutOf start .N) j)

@@ -6,7 +6,7 @@ use Prim.Native.Nat.{ℕ, _+_, _*_, _≤_}
 use lib.ListN.{length}
 use mathlib.Core.Bool.{Bool}
 use Rattle.bhtf.specs.Bytes.{Bytes}
-use Rattle.bhtf.specs.Image.{layoutOf, slot, keyOf, offsetOf, vacant, home}
+use Rattle.bhtf.specs.Image.{layoutOf, slot, keyOf, offsetOf, vacant, home, putSlot, blank}
 use Rattle.layout.specs.Shapes.{shapeOf}
 use Rattle.layout.specs.declared.shape.Shape.{Shape}
 
@@ -28,3 +28,7 @@ offsetIn img i = offsetOf (layoutOf img) (slot (layoutOf img) img i)
 -- the home of its entry
 abbrev pub homeIn : Bytes → ℕ → ℕ
 homeIn img i = home (layoutOf img) (keyIn img i)
+
+-- the image with slot i zeroed
+abbrev pub clearedIn : Bytes → ℕ → Bytes
+clearedIn img i = putSlot (layoutOf img) img i (blank (layoutOf img))

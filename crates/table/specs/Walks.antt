@@ -1,11 +1,15 @@
 -- One look of delete's walk at a taken slot j: the image and the hole from then on.
+--     Beside s hole j       the hole and another slot
+--     Looked img hole j hole′ img′       what a look leaves
 -- Assumes nothing.
-use Prim.Native.Nat.{ℕ}
+use mathlib.Core.Path.{_≡_}
+use Prim.Native.Nat.{ℕ, _<_}
 use mathlib.Core.Bool.{Bool, cond}
 use Rattle.bhtf.specs.Bytes.{Bytes}
-use Rattle.bhtf.specs.Image.{Layout, slot, keyOf, home}
+use Rattle.bhtf.specs.Image.{Layout, layoutOf, slot, keyOf, home}
 use Rattle.bhtf.specs.Messages.{among, moved}
 use Rattle.bhtf.specs.Search.{next}
+use Rattle.layout.specs.declared.shape.Shape.{Shape}
 
 -- "An entry whose home is not among the slots from the one after the hole up to its own moves into the hole"
 abbrev pub staysAt : Layout → Bytes → ℕ → ℕ → Bool
@@ -16,3 +20,12 @@ lookedImage g img hole j = cond (staysAt g img hole j) img (moved g img hole j)
 
 unfoldable pub lookedHole : Layout → Bytes → ℕ → ℕ → ℕ
 lookedHole g img hole j = cond (staysAt g img hole j) hole j
+
+pub record Beside (s : Shape) (hole j : ℕ) : Type 0 where
+  pub hole-lt : hole < s .slots
+  pub slot-lt : j < s .slots
+  pub other : hole ≡ j → ⊥
+
+pub record Looked (img : Bytes) (hole j hole′ : ℕ) (img′ : Bytes) : Type 0 where
+  pub hole-is : hole′ ≡ lookedHole (layoutOf img) img hole j
+  pub image-is : img′ ≡ lookedImage (layoutOf img) img hole j

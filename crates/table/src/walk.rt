@@ -9,13 +9,13 @@ use words::runs::copy_apart;
 use words::runs::zero;
 ghost use mathlib.Core.Path.{_≡_};
 ghost use Prim.Native.Nat.{_≤_, _<_};
-ghost use Rattle.bhtf.specs.Image.{layoutOf, putSlot, blank};
+ghost use Rattle.bhtf.specs.Image.{layoutOf};
 ghost use Rattle.bhtf.specs.Messages.{among, moved, closed};
 ghost use Rattle.bhtf.specs.Questions.{openNumber};
 ghost use Rattle.bhtf.specs.Search.{next, dist};
 ghost use Rattle.layout.specs.Shapes.{shapeOf};
-ghost use Rattle.table.specs.Slots.{vacantIn, homeIn, Placed};
-ghost use Rattle.table.specs.Walks.{lookedImage, lookedHole};
+ghost use Rattle.table.specs.Slots.{vacantIn, homeIn, clearedIn, Placed};
+ghost use Rattle.table.specs.Walks.{Beside, Looked};
 
 // Steps upwards, with wrap, from slot a to slot b.
 fn dist(slots: usize, a: Slot, b: Slot) -> usize
@@ -42,7 +42,7 @@ fn stays(slots: usize, hole: Slot, j: Slot, home: Slot) -> bool
 // Zeroes slot i, its offset too.
 fn clear_slot(image: &mut [u8], shape: Shape, i: Slot)
     requires { ⌜ Placed (now image) shape × (i .0 < shape .slots) ⌝ }
-    ensures { λ _. ⌜ now (image .exit) ≡ putSlot (layoutOf (now (image .entry))) (now (image .entry)) (i .0) (blank (layoutOf (now (image .entry)))) ⌝ }
+    ensures { λ _. ⌜ now (image .exit) ≡ clearedIn (now (image .entry)) (i .0) ⌝ }
 {
     let size = shape.key;
     let a = i.start(size).at();
@@ -52,7 +52,7 @@ fn clear_slot(image: &mut [u8], shape: Shape, i: Slot)
 
 // Moves the entry of slot j into the hole; slot j is zeroed.
 fn move_slot(image: &mut [u8], shape: Shape, hole: Slot, j: Slot)
-    requires { ⌜ (openNumber (now image) ≡ 0) × (shape ≡ shapeOf (now image)) × (hole .0 < shape .slots) × (j .0 < shape .slots) × (hole .0 ≡ j .0 → ⊥) ⌝ }
+    requires { ⌜ (openNumber (now image) ≡ 0) × (shape ≡ shapeOf (now image)) × Beside shape (hole .0) (j .0) ⌝ }
     ensures { λ _. ⌜ now (image .exit) ≡ moved (layoutOf (now (image .entry))) (now (image .entry)) (hole .0) (j .0) ⌝ }
 {
     let size = shape.key;
@@ -80,8 +80,8 @@ fn home_of(image: &[u8], shape: Shape, i: Slot) -> Slot
 
 // Looks at slot j, which is taken: its entry stays, or moves into the hole. Answers the hole from then on.
 fn look(image: &mut [u8], shape: Shape, hole: Slot, j: Slot) -> Slot
-    requires { ⌜ (openNumber (now image) ≡ 0) × (shape ≡ shapeOf (now image)) × (hole .0 < shape .slots) × (j .0 < shape .slots) × (hole .0 ≡ j .0 → ⊥) ⌝ }
-    ensures { λ r. ⌜ (r .0 ≡ lookedHole (layoutOf (now (image .entry))) (now (image .entry)) (hole .0) (j .0)) × (now (image .exit) ≡ lookedImage (layoutOf (now (image .entry))) (now (image .entry)) (hole .0) (j .0)) ⌝ }
+    requires { ⌜ (openNumber (now image) ≡ 0) × (shape ≡ shapeOf (now image)) × Beside shape (hole .0) (j .0) ⌝ }
+    ensures { λ r. ⌜ Looked (now (image .entry)) (hole .0) (j .0) (r .0) (now (image .exit)) ⌝ }
 {
     if stays(shape.slots, hole, j, home_of(image, shape, j)) {
         return hole;

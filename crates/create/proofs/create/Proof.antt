@@ -5,7 +5,7 @@ use Prim.Native.Nat.{ℕ}
 use lib.ListN.{length}
 use Rattle.bhtf.specs.Create.{freshImage}
 use Rattle.bhtf.specs.Questions.{createNumber}
-use Rattle.create.proofs.Accepted.{create-answers, create-kept, create-fresh}
+use Rattle.create.proofs.Numbered.{create-answers, create-kept, create-fresh}
 use Rattle.create.proofs.create.Statement.{statement}
 use Rattle.create.proofs.create.Tie as tie
 

@@ -2,7 +2,7 @@
 use mathlib.Core.Path.{sym}
 use native.Mathlib.Omega.{arith}
 use Rattle.layout.proofs.Headers.{was-no, was-yes}
-use Rattle.create.proofs.Accepted.{create-1, create-2, create-3, create-4, create-0, key-most, slots-most}
+use Rattle.create.proofs.Numbered.{create-1, create-2, create-3, create-4, create-0, key-most, slots-most}
 use borrow.Author.Needs.{needs}
 use Rattle.create.proofs.asked.create_number.Statement.{statement}
 use Rattle.create.proofs.asked.create_number.Tie as tie

@@ -1,13 +1,9 @@
 -- No offset holds 0; another holds its header's length. Assumes nothing.
 use mathlib.Core.Path.{sym, _∙_}
-use Rattle.messages.proofs.Sound.{held-none, held-some}
 use borrow.Author.Needs.{needs}
+use Rattle.messages.proofs.Sound.{held-none, held-some}
 use Rattle.messages.proofs.look.held_at.Statement.{statement}
 use Rattle.messages.proofs.look.held_at.Tie as tie
-use Rattle.messages.proofs.look.held_at.Reads as reads
-use Rattle.messages.proofs.look.held_at.Lts as lts
-use Rattle.layout.proofs.places.Offset.at.Reads as at-reads
-use Rattle.messages.proofs.look.length_at.Reads as length-at-reads
 
 at-requires : tie.Need-at-requires
 at-requires c κs = search needs

@@ -3,13 +3,10 @@ use Prim.Native.Nat.{ℕ}
 use mathlib.Core.Path.{sym, ap, _∙_}
 use lib.ListN.{getD}
 use lib.Dec.{eqb}
-use Rattle.messages.proofs.Sound.{active-none, active-letter}
 use borrow.Author.Needs.{needs}
+use Rattle.messages.proofs.Sound.{active-none, active-letter}
 use Rattle.messages.proofs.look.is_active.Statement.{statement}
 use Rattle.messages.proofs.look.is_active.Tie as tie
-use Rattle.messages.proofs.look.is_active.Reads as reads
-use Rattle.messages.proofs.look.is_active.Lts as lts
-use Rattle.layout.proofs.places.Offset.at.Reads as at-reads
 
 at-requires : tie.Need-at-requires
 at-requires c κs = search needs
@@ -22,9 +19,11 @@ shared-slice-read-result c = search needs
 
 returns-2 : tie.Need-returns-2
 returns-2 c =
-    let A = c .before .before .before .before in
-    ap (λ (n : ℕ). eqb (getD (A .args .image .now) n 0) 97) (c .before .before .at .ensures)
-    ∙ sym (active-letter (A .args .image .now) (A .args .o .0) (λ e. c .before .if1 .left (c .before .before .at .ensures ∙ e)) (A .pre))
+    let S = c .before .before .before .before in
+    let img = S .args .image .now in
+    let at = c .before .before .at in
+    ap (λ (n : ℕ). eqb (getD img n 0) 97) (at .ensures)
+    ∙ sym (active-letter img (S .args .o .0) (λ e. c .before .if1 .left (at .ensures ∙ e)) (S .pre))
 
 pub is-active-spec : {M : Type 1} → statement M
 is-active-spec = tie.close (tie.spec at-requires returns shared-slice-read-result returns-2)

@@ -1,16 +1,12 @@
 -- The header's 3 bytes behind the letter are the length. Assumes nothing.
 use Prim.Native.Nat.{ℕ, _+_}
 use mathlib.Core.Path.{ap, _∙_}
+use borrow.Author.Needs.{needs}
 use Rattle.bhtf.specs.Bytes.{part, number}
 use Rattle.bhtf.specs.Image.{layoutOf}
 use Rattle.bhtf.specs.Messages.{lengthAt}
-use borrow.Author.Needs.{needs}
 use Rattle.messages.proofs.look.length_at.Statement.{statement}
 use Rattle.messages.proofs.look.length_at.Tie as tie
-use Rattle.messages.proofs.look.length_at.Reads as reads
-use Rattle.messages.proofs.look.length_at.Lts as lts
-use Rattle.layout.proofs.places.Offset.at.Reads as at-reads
-use Rattle.words.proofs.fields.read_u24.Reads as read-u24-reads
 
 at-requires : tie.Need-at-requires
 at-requires c κs = search needs
@@ -27,8 +23,8 @@ cast-result c = search needs
 returns : tie.Need-returns
 unfolding lengthAt layoutOf
 returns c =
-    c .read-u24 .ensures
-    ∙ ap (λ (n : ℕ). number (part (c .before .before .before .args .image .now) (n + 1) 3)) (c .before .at .ensures)
+    let img = c .before .before .before .args .image .now in
+    c .read-u24 .ensures ∙ ap (λ (n : ℕ). number (part img (n + 1) 3)) (c .before .at .ensures)
 
 pub length-at-spec : {M : Type 1} → statement M
 length-at-spec =

@@ -1,13 +1,9 @@
 -- An active message's letter is written; else nothing. Assumes nothing.
 use mathlib.Core.Path.{sym, _∙_}
-use Rattle.messages.proofs.Placed.{retire-active, retire-other}
 use borrow.Author.Needs.{needs}
+use Rattle.messages.proofs.Placed.{retire-active, retire-other}
 use Rattle.messages.proofs.write.retire.Statement.{statement}
 use Rattle.messages.proofs.write.retire.Tie as tie
-use Rattle.messages.proofs.write.retire.Reads as reads
-use Rattle.messages.proofs.write.retire.Lts as lts
-use Rattle.layout.proofs.places.Offset.at.Reads as at-reads
-use Rattle.messages.proofs.look.is_active.Reads as is-active-reads
 
 is-active-requires : tie.Need-is-active-requires
 is-active-requires c κs = search needs
@@ -32,8 +28,8 @@ same-length-2 c = search needs
 
 returns-2 : tie.Need-returns-2
 returns-2 c =
-    let S = c .before .before .before .before in
-    retire-other (S .args .image .now) (S .args .o .0) (sym (c .before .is-active .ensures) ∙ c .if1 .left)
+    let A = c .before .before .before .before .args in
+    retire-other (A .image .now) (A .o .0) (sym (c .before .is-active .ensures) ∙ c .if1 .left)
 
 pub retire-spec : {M : Type 1} → statement M
 retire-spec =

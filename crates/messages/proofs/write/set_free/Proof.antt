@@ -1,17 +1,12 @@
 -- Two fields, one after the other. Assumes nothing.
 use Prim.Native.Nat.{ℕ}
 use mathlib.Core.Path.{ap, ap₂, _∙_}
+use borrow.Author.Needs.{needs}
 use Rattle.bhtf.specs.Bytes.{Bytes}
 use Rattle.bhtf.specs.Image.{setField}
 use Rattle.messages.specs.Written.{freeSet}
-use borrow.Author.Needs.{needs}
 use Rattle.messages.proofs.write.set_free.Statement.{statement}
 use Rattle.messages.proofs.write.set_free.Tie as tie
-use Rattle.messages.proofs.write.set_free.Reads as reads
-use Rattle.messages.proofs.write.set_free.Lts as lts
-use Rattle.layout.proofs.places.Offset.at.Reads as at-reads
-use Rattle.messages.proofs.write.last_page.Reads as last-page-reads
-use Rattle.words.proofs.fields.write_u32.Reads as write-u32-reads
 
 at-requires : tie.Need-at-requires
 at-requires c κs = search needs
@@ -34,9 +29,11 @@ same-length c = search needs
 returns : tie.Need-returns
 unfolding freeSet
 returns c =
+    let w = c .before .before .before .before .before .before .before in
+    let img = w .before .before .before .before .args .image .now in
     c .before .before .write-u322 .ensures
     ∙ ap₂ (λ (t : Bytes) (m : ℕ). setField t 56 m)
-    (c .before .before .before .before .before .before .before .write-u32 .ensures ∙ ap (setField (c .before .before .before .before .before .before .before .before .before .before .before .args .image .now) 52) (c .before .before .before .before .before .before .before .before .at .ensures))
+    (w .write-u32 .ensures ∙ ap (setField img 52) (w .before .at .ensures))
     (c .before .before .before .last-page .ensures)
 
 pub set-free-spec : {M : Type 1} → statement M

@@ -1,25 +1,17 @@
 -- The old text is copied, the message written around it at X, and X and M behind it. Assumes nothing.
 use Prim.Native.Nat.{ℕ, _+_, _-_, _≤_}
 use native.Mathlib.Omega.{arith}
-use mathlib.Core.Path.{ap, ap₂, _∙_}
+use mathlib.Core.Path.{_≡_, ap, ap₂, _∙_}
 use lib.ListN.{length}
+use borrow.Author.Needs.{needs}
+use borrow.Rule.Slice.PartMut.{same-len-mid}
 use Rattle.bhtf.specs.Bytes.{part, store}
 use Rattle.bhtf.proofs.Opened.{opened-facts}
-use borrow.Rule.Slice.PartMut.{same-len-mid}
 use Rattle.messages.specs.Written.{freeSet}
 use Rattle.messages.proofs.Sound.{layout-area}
 use Rattle.messages.proofs.Placed.{place-steps, takeSpace-set}
-use borrow.Author.Needs.{needs}
 use Rattle.messages.proofs.write.take_space.Statement.{statement}
 use Rattle.messages.proofs.write.take_space.Tie as tie
-use Rattle.messages.proofs.write.take_space.Reads as reads
-use Rattle.messages.proofs.write.take_space.Lts as lts
-use Rattle.layout.proofs.places.Offset.at.Reads as at-reads
-use Rattle.layout.proofs.places.Offset.new.Reads as new-reads
-use Rattle.messages.proofs.write.set_free.Reads as set-free-reads
-use Rattle.messages.proofs.write.write_message.Reads as write-message-reads
-use Rattle.words.proofs.fields.read_u32.Reads as read-u32-reads
-use Rattle.words.proofs.runs.copy_up.Reads as copy-up-reads
 
 read-u32-requires : tie.Need-read-u32-requires
 read-u32-requires c κs = omega (arith, opened-facts _ (c .before .before .before .pre .0) .size-low)
@@ -62,15 +54,16 @@ new-requires c κs = search needs
 
 set-free-requires : tie.Need-set-free-requires
 set-free-requires c κs =
-    let S = c .before .before .before .before .before .before .before .before .before .before .before .before .before .before .before in
+    let w = c .before .before .before .before .write-message in
+    let u = c .before .before .before .before .before .before .before .before .copy-up in
+    let X = c .before .before .before .before .before .before .before .before .before .before .before in
+    let x = X .read-u32 in
+    let S = X .before .before .before .before in
     let img = S .args .image .now in
     let f = opened-facts img (S .pre .0) in
-    let x = c .before .before .before .before .before .before .before .before .before .before .before .read-u32 in
     let end = x .result + 4 + (S .args .before + length (S .args .bytes .now)) in
-    let u = c .before .before .before .before .before .before .before .before .copy-up in
-    let w = c .before .before .before .before .write-message in
-    let same′ = same-len-mid (x .result) (end - x .result) (u .last .0) (w .last .0) (w .kept .0) in (
-      omega (arith, same′, u .kept .0, f .size-low),
+    let kept = same-len-mid (x .result) (end - x .result) (u .last .0) (w .last .0) (w .kept .0) in (
+      omega (arith, kept, u .kept .0, f .size-low),
       omega (arith, c .new .ensures, x .ensures, S .pre .1, layout-area img, f .free-low),
       omega (arith, c .new .ensures, x .ensures, S .pre .4, f .size-high),
     )
@@ -80,20 +73,24 @@ same-length c = search needs
 
 returns : tie.Need-returns
 returns c =
-    let S = c .before .before .before .before .before .before .before .before .before .before .before .before .before .before .before .before .before .before in
+    let w = c .before .before .before .before .before .before .before .write-message in
+    let U = c .before .before .before .before .before .before .before .before .before .before .before in
+    let u = U .copy-up in
+    let X = U .before .before .before in
+    let x = X .read-u32 in
+    let S = X .before .before .before .before in
     let A = S .args in
     let img = A .image .now in
     let v = A .bytes .now in
     let n = A .before in
     let from = A .from .0 in
-    let x = c .before .before .before .before .before .before .before .before .before .before .before .before .before .before .read-u32 in
     let below : from + n ≤ x .result = omega (arith, x .ensures, S .pre) in
     let room : x .result + 4 + (n + length v) ≤ length img = omega (arith, x .ensures, S .pre) in
+    let copied : u .last .0 ≡ store img (x .result + 4) (part img from n) =
+    u .ensures ∙ ap (λ (k : ℕ). store img (x .result + 4) (part img k n)) (U .before .at .ensures) in
     c .before .before .set-free .ensures
     ∙ ap₂ (freeSet (A .area .0))
-    (place-steps img v (x .result) from n below room (c .before .before .before .before .before .before .before .before .before .before .before .copy-up .last .0) (c .before .before .before .before .before .before .before .write-message .last .0)
-    (c .before .before .before .before .before .before .before .before .before .before .before .copy-up .ensures ∙ ap (λ (k : ℕ). store img (x .result + 4) (part img k n)) (c .before .before .before .before .before .before .before .before .before .before .before .before .at .ensures))
-    (c .before .before .before .before .before .before .before .write-message .ensures))
+    (place-steps img v (x .result) from n below room (u .last .0) (w .last .0) copied (w .ensures))
     (c .before .before .before .new .ensures)
     ∙ takeSpace-set img v (x .result) from n below room (A .area .0) (x .ensures) (S .pre .1)
 

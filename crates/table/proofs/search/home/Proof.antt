@@ -10,12 +10,16 @@ use Rattle.table.proofs.search.home.Tie as tie
 sub-end : tie.Need-sub-end
 sub-end c =
     let S = c .before .before in
-    omega (arith, header (S .args .image .now) (S .args .shape) (S .pre .0) (S .pre .1))
+    let img = S .args .image .now in
+    let s = S .args .shape in
+    omega (arith, header img s (S .pre .0) (S .pre .1))
 
 add-end : tie.Need-add-end
 add-end c =
     let S = c .before .before in
-    omega (arith, header (S .args .image .now) (S .args .shape) (S .pre .0) (S .pre .1))
+    let img = S .args .image .now in
+    let s = S .args .shape in
+    omega (arith, header img s (S .pre .0) (S .pre .1))
 
 cast-end : tie.Need-cast-end
 cast-end c = search needs
@@ -35,7 +39,9 @@ part-hash-start c = search needs
 part-hash-end : tie.Need-part-hash-end
 part-hash-end c =
     let S = c .before .before in
-    omega (arith, header (S .args .image .now) (S .args .shape) (S .pre .0) (S .pre .1))
+    let img = S .args .image .now in
+    let s = S .args .shape in
+    omega (arith, header img s (S .pre .0) (S .pre .1))
 
 hash-requires : tie.Need-hash-requires
 hash-requires c κs = search needs
@@ -46,7 +52,9 @@ cast-new c = search needs
 rem-new : tie.Need-rem-new
 rem-new c =
     let S = c .before .before .before .before in
-    omega (arith, header (S .args .image .now) (S .args .shape) (S .pre .0) (S .pre .1))
+    let img = S .args .image .now in
+    let s = S .args .shape in
+    omega (arith, header img s (S .pre .0) (S .pre .1))
 
 new-requires : tie.Need-new-requires
 new-requires c κs = search needs
@@ -54,7 +62,10 @@ new-requires c κs = search needs
 returns : tie.Need-returns
 returns c =
     let S = c .before .before .before .before .before in
-    c .new .ensures ∙ home-is (S .args .image .now) (S .args .shape) (S .pre .1) (S .args .key .now) (c .before .hash .result) (c .before .hash .ensures)
+    let img = S .args .image .now in
+    let s = S .args .shape in
+    let key = S .args .key .now in
+    c .new .ensures ∙ home-is img s (S .pre .1) key (c .before .hash .result) (c .before .hash .ensures)
 
 pub home-spec : {M : Type 1} → statement M
 home-spec =

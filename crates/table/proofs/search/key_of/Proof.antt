@@ -11,7 +11,9 @@ use Rattle.table.proofs.search.key_of.Tie as tie
 start-requires : tie.Need-start-requires
 start-requires c κs =
     let S = c .before in
-    omega (arith, spot (S .args .image .now) (S .args .shape) (S .args .i .0) (S .pre .0) (S .pre .1) (S .pre .2))
+    let img = S .args .image .now in
+    let s = S .args .shape in
+    omega (arith, spot img s (S .args .i .0) (S .pre .0) (S .pre .1) (S .pre .2))
 
 at-requires : tie.Need-at-requires
 at-requires c κs = search needs
@@ -19,7 +21,9 @@ at-requires c κs = search needs
 add-e : tie.Need-add-e
 add-e c =
     let S = c .before .before .before in
-    omega (arith, spot (S .args .image .now) (S .args .shape) (S .args .i .0) (S .pre .0) (S .pre .1) (S .pre .2), c .at .ensures, c .before .start .ensures)
+    let img = S .args .image .now in
+    let s = S .args .shape in
+    omega (arith, spot img s (S .args .i .0) (S .pre .0) (S .pre .1) (S .pre .2), c .at .ensures, c .before .start .ensures)
 
 sub-result : tie.Need-sub-result
 sub-result c = search needs
@@ -30,13 +34,17 @@ part-result-start c = search needs
 part-result-end : tie.Need-part-result-end
 part-result-end c =
     let S = c .before .before .before in
-    omega (arith, spot (S .args .image .now) (S .args .shape) (S .args .i .0) (S .pre .0) (S .pre .1) (S .pre .2), c .at .ensures, c .before .start .ensures)
+    let img = S .args .image .now in
+    let s = S .args .shape in
+    omega (arith, spot img s (S .args .i .0) (S .pre .0) (S .pre .1) (S .pre .2), c .at .ensures, c .before .start .ensures)
 
 returns : tie.Need-returns
 returns c =
     let S = c .before .before .before .before in
-    key-part (S .args .image .now) (S .args .shape) (S .pre .1) (S .args .i .0) (c .before .at .result)
-    (c .before .at .ensures ∙ c .before .before .start .ensures) (c .before .at .result + S .args .shape .key) refl
+    let img = S .args .image .now in
+    let s = S .args .shape in
+    key-part img s (S .pre .1) (S .args .i .0) (c .before .at .result)
+    (c .before .at .ensures ∙ c .before .before .start .ensures) (c .before .at .result + s .key) refl
 
 pub key-of-spec : {M : Type 1} → statement M
 key-of-spec =

@@ -10,7 +10,9 @@ use Rattle.table.proofs.search.offset_of.Tie as tie
 start-requires : tie.Need-start-requires
 start-requires c κs =
     let S = c .before in
-    omega (arith, spot (S .args .image .now) (S .args .shape) (S .args .i .0) (S .pre .0) (S .pre .1) (S .pre .2))
+    let img = S .args .image .now in
+    let s = S .args .shape in
+    omega (arith, spot img s (S .args .i .0) (S .pre .0) (S .pre .1) (S .pre .2))
 
 at-requires : tie.Need-at-requires
 at-requires c κs = search needs
@@ -18,12 +20,16 @@ at-requires c κs = search needs
 add-read-u32 : tie.Need-add-read-u32
 add-read-u32 c =
     let S = c .before .before .before in
-    omega (arith, spot (S .args .image .now) (S .args .shape) (S .args .i .0) (S .pre .0) (S .pre .1) (S .pre .2), c .at .ensures, c .before .start .ensures)
+    let img = S .args .image .now in
+    let s = S .args .shape in
+    omega (arith, spot img s (S .args .i .0) (S .pre .0) (S .pre .1) (S .pre .2), c .at .ensures, c .before .start .ensures)
 
 read-u32-requires : tie.Need-read-u32-requires
 read-u32-requires c κs =
     let S = c .before .before .before in
-    omega (arith, spot (S .args .image .now) (S .args .shape) (S .args .i .0) (S .pre .0) (S .pre .1) (S .pre .2), c .at .ensures, c .before .start .ensures)
+    let img = S .args .image .now in
+    let s = S .args .shape in
+    omega (arith, spot img s (S .args .i .0) (S .pre .0) (S .pre .1) (S .pre .2), c .at .ensures, c .before .start .ensures)
 
 cast-new : tie.Need-cast-new
 cast-new c = search needs
@@ -34,8 +40,10 @@ new-requires c κs = search needs
 returns : tie.Need-returns
 returns c =
     let S = c .before .before .before .before .before in
+    let img = S .args .image .now in
+    let s = S .args .shape in
     c .new .ensures ∙ c .before .read-u32 .ensures
-    ∙ offset-is (S .args .image .now) (S .args .shape) (S .pre .1) (S .args .i .0) (c .before .before .at .result)
+    ∙ offset-is img s (S .pre .1) (S .args .i .0) (c .before .before .at .result)
     (c .before .before .at .ensures ∙ c .before .before .before .start .ensures)
 
 pub offset-of-spec : {M : Type 1} → statement M

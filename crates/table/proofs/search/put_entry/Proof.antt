@@ -20,7 +20,9 @@ length-entry′ key o k e = length-append key (digits 4 o) ∙ ap₂ _+_ e (leng
 start-requires : tie.Need-start-requires
 start-requires c κs =
     let S = c .before .before in
-    omega (arith, spot-placed (S .args .image .now) (S .args .shape) (S .args .i .0) (S .pre .0) (S .pre .1))
+    let img = S .args .image .now in
+    let s = S .args .shape in
+    omega (arith, spot-placed img s (S .args .i .0) (S .pre .0) (S .pre .1))
 
 at-requires : tie.Need-at-requires
 at-requires c κs = search needs
@@ -28,12 +30,16 @@ at-requires c κs = search needs
 add-e : tie.Need-add-e
 add-e c =
     let S = c .before .before .before .before in
-    omega (arith, spot-placed (S .args .image .now) (S .args .shape) (S .args .i .0) (S .pre .0) (S .pre .1), c .at .ensures, c .before .start .ensures)
+    let img = S .args .image .now in
+    let s = S .args .shape in
+    omega (arith, spot-placed img s (S .args .i .0) (S .pre .0) (S .pre .1), c .at .ensures, c .before .start .ensures)
 
 add-e-2 : tie.Need-add-e-2
 add-e-2 c =
     let S = c .before .before .before .before in
-    omega (arith, spot-placed (S .args .image .now) (S .args .shape) (S .args .i .0) (S .pre .0) (S .pre .1), c .at .ensures, c .before .start .ensures)
+    let img = S .args .image .now in
+    let s = S .args .shape in
+    omega (arith, spot-placed img s (S .args .i .0) (S .pre .0) (S .pre .1), c .at .ensures, c .before .start .ensures)
 
 sub-write-entry : tie.Need-sub-write-entry
 sub-write-entry c = search needs
@@ -44,15 +50,19 @@ part-write-entry-start c = search needs
 part-write-entry-end : tie.Need-part-write-entry-end
 part-write-entry-end c =
     let S = c .before .before .before .before in
-    omega (arith, spot-placed (S .args .image .now) (S .args .shape) (S .args .i .0) (S .pre .0) (S .pre .1), c .at .ensures, c .before .start .ensures)
+    let img = S .args .image .now in
+    let s = S .args .shape in
+    omega (arith, spot-placed img s (S .args .i .0) (S .pre .0) (S .pre .1), c .at .ensures, c .before .start .ensures)
 
 write-entry-requires : tie.Need-write-entry-requires
 write-entry-requires c κs =
     let S = c .before .before .before .before .before in
-    let p = spot-placed (S .args .image .now) (S .args .shape) (S .args .i .0) (S .pre .0) (S .pre .1) in
+    let img = S .args .image .now in
+    let s = S .args .shape in
+    let p = spot-placed img s (S .args .i .0) (S .pre .0) (S .pre .1) in
     let a = c .before .at .result in
     let at = c .before .at .ensures ∙ c .before .before .start .ensures in
-    (mid-len a (a + (S .args .shape .key + 4)) (S .args .image .now) (omega arith) ∙ omega arith, S .pre .3)
+    (mid-len a (a + (s .key + 4)) img (omega arith) ∙ omega arith, S .pre .3)
 
 same-length : tie.Need-same-length
 same-length c = search needs
@@ -60,12 +70,15 @@ same-length c = search needs
 returns : tie.Need-returns
 returns c =
     let S = c .before .before .before .before .before .before .before .before in
+    let img = S .args .image .now in
+    let s = S .args .shape in
+    let key = S .args .key .now in
     let a = c .before .before .before .before .at .result in
-    ap (λ (v : Bytes). putMid a (a + (S .args .shape .key + 4) - a) (S .args .image .now) v) (c .before .before .write-entry .ensures)
-    ∙ put-slot (S .args .image .now) (S .args .shape) (S .pre .0 .shape) (S .args .i .0) a
-    (c .before .before .before .before .at .ensures ∙ c .before .before .before .before .before .start .ensures) (a + (S .args .shape .key + 4))
-    (entry (S .args .key .now) (S .args .offset .0)) refl
-    (length-entry′ (S .args .key .now) (S .args .offset .0) (S .args .shape .key) (S .pre .2))
+    ap (λ (v : Bytes). putMid a (a + (s .key + 4) - a) img v) (c .before .before .write-entry .ensures)
+    ∙ put-slot img s (S .pre .0 .shape) (S .args .i .0) a
+    (c .before .before .before .before .at .ensures ∙ c .before .before .before .before .before .start .ensures) (a + (s .key + 4))
+    (entry key (S .args .offset .0)) refl
+    (length-entry′ key (S .args .offset .0) (s .key) (S .pre .2))
 
 pub put-entry-spec : {M : Type 1} → statement M
 put-entry-spec =

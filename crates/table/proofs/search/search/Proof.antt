@@ -26,12 +26,15 @@ home-requires c κs = c .before .before .pre
 loop-holds : tie.Need-loop-holds Inv-loop μ-loop
 loop-holds c =
     let S = c .before .before .before in
-    let n = layout-slots (S .args .image .now) (S .args .shape) (S .pre .1) in
-    let b = header (S .args .image .now) (S .args .shape) (S .pre .0) (S .pre .1) in
+    let img = S .args .image .now in
+    let s = S .args .shape in
+    let key = S .args .key .now in
+    let n = layout-slots img s (S .pre .1) in
+    let b = header img s (S .pre .0) (S .pre .1) in
     let at = c .home .ensures in (
-      omega (arith, home-lt (layoutOf (S .args .image .now)) (S .args .key .now) (omega arith)),
-      search-start (layoutOf (S .args .image .now)) (S .args .image .now) (S .args .key .now)
-          ∙ ap₂ (λ (m i : ℕ). probe (layoutOf (S .args .image .now)) (S .args .image .now) (S .args .key .now) m i) n (sym at),
+      omega (arith, home-lt (layoutOf img) key (omega arith)),
+      search-start (layoutOf img) img key
+          ∙ ap₂ (λ (m i : ℕ). probe (layoutOf img) img key m i) n (sym at),
     )
 
 key-of-requires : tie.Need-key-of-requires Inv-loop μ-loop
@@ -47,9 +50,11 @@ unfolding probeOf
 returns c =
     let L = c .before .before .before .before in
     let S = L .before .before .before .before in
+    let img = S .args .image .now in
+    let key = S .args .key .now in
     let K = c .before .before .key-of in
     let some′ = c .before .before .before .loop-test .taken in
-    sym (L .loop .inv .1 ∙ read-met (layoutOf (S .args .image .now)) (S .args .image .now) (S .args .key .now) (L .loop .left) (L .loop .i .0) some′ (K .result .now) (K .ensures)
+    sym (L .loop .inv .1 ∙ read-met (layoutOf img) img key (L .loop .left) (L .loop .i .0) some′ (K .result .now) (K .ensures)
     (sym (c .before .same-bytes .ensures) ∙ c .if1 .taken))
 
 all-zero-requires : tie.Need-all-zero-requires Inv-loop μ-loop
@@ -60,9 +65,11 @@ unfolding probeOf
 returns-2 c =
     let L = c .before .before .before .before .before .before in
     let S = L .before .before .before .before in
+    let img = S .args .image .now in
+    let key = S .args .key .now in
     let K = c .before .before .before .before .key-of in
     let some′ = c .before .before .before .before .before .loop-test .taken in
-    sym (L .loop .inv .1 ∙ read-empty (layoutOf (S .args .image .now)) (S .args .image .now) (S .args .key .now) (L .loop .left) (L .loop .i .0) some′ (K .result .now) (K .ensures)
+    sym (L .loop .inv .1 ∙ read-empty (layoutOf img) img key (L .loop .left) (L .loop .i .0) some′ (K .result .now) (K .ensures)
     (sym (c .before .before .before .same-bytes .ensures) ∙ c .before .before .if1 .left) (sym (c .before .all-zero .ensures) ∙ c .if2 .taken))
 
 next-requires : tie.Need-next-requires Inv-loop μ-loop
@@ -78,16 +85,19 @@ loop-again : tie.Need-loop-again Inv-loop μ-loop
 loop-again c =
     let L = c .before .before .before .before .before .before .before in
     let S = L .before .before .before .before in
+    let img = S .args .image .now in
+    let s = S .args .shape in
+    let key = S .args .key .now in
     let K = c .before .before .before .before .before .key-of in
     let some′ = c .before .before .before .before .before .before .loop-test .taken in
-    let n = layout-slots (S .args .image .now) (S .args .shape) (S .pre .1) in
+    let n = layout-slots img s (S .pre .1) in
     let at = c .next .ensures in (
-      omega (arith, next-lt (S .args .shape .slots) (L .loop .i .0) (L .loop .inv .0)),
+      omega (arith, next-lt (s .slots) (L .loop .i .0) (L .loop .inv .0)),
       L .loop .inv .1
-          ∙ read-on (layoutOf (S .args .image .now)) (S .args .image .now) (S .args .key .now) (L .loop .left) (L .loop .i .0) some′ (K .result .now) (K .ensures)
+          ∙ read-on (layoutOf img) img key (L .loop .left) (L .loop .i .0) some′ (K .result .now) (K .ensures)
           (sym (c .before .before .before .before .same-bytes .ensures) ∙ c .before .before .before .if1 .left)
           (sym (c .before .before .all-zero .ensures) ∙ c .before .if2 .left)
-          ∙ ap (λ (i : ℕ). probe (layoutOf (S .args .image .now)) (S .args .image .now) (S .args .key .now) (L .loop .left - 1) i) (ap (λ (m : ℕ). next m (L .loop .i .0)) n ∙ sym at),
+          ∙ ap (λ (i : ℕ). probe (layoutOf img) img key (L .loop .left - 1) i) (ap (λ (m : ℕ). next m (L .loop .i .0)) n ∙ sym at),
     )
 
 returns-3 : tie.Need-returns-3 Inv-loop μ-loop
@@ -95,7 +105,9 @@ unfolding probeOf
 returns-3 c =
     let L = c .before in
     let S = L .before .before .before .before in
-    sym (L .loop .inv .1 ∙ read-all (layoutOf (S .args .image .now)) (S .args .image .now) (S .args .key .now) (L .loop .left) (L .loop .i .0) (omega arith))
+    let img = S .args .image .now in
+    let key = S .args .key .now in
+    sym (L .loop .inv .1 ∙ read-all (layoutOf img) img key (L .loop .left) (L .loop .i .0) (omega arith))
 
 pub search-spec : {M : Type 1} → statement M
 search-spec =

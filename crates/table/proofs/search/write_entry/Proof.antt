@@ -19,12 +19,14 @@ slice-relend-prefix-copy c = search needs
 slice-aggregate-copy : tie.Need-slice-aggregate-copy
 slice-aggregate-copy c =
     let S = c .before .before .before in
-    sym (length-take-le (length (S .args .key .now)) (S .args .part .now) (omega arith))
+    let key = S .args .key .now in
+    sym (length-take-le (length key) (S .args .part .now) (omega arith))
 
 copy-requires : tie.Need-copy-requires
 copy-requires c κs =
     let S = c .before .before .before in
-    length-take-le (length (S .args .key .now)) (S .args .part .now) (omega arith)
+    let key = S .args .key .now in
+    length-take-le (length key) (S .args .part .now) (omega arith)
 
 at-requires : tie.Need-at-requires
 at-requires c κs = search needs
@@ -44,11 +46,12 @@ same-length c = search needs
 returns : tie.Need-returns
 returns c =
     let S = c .before .before .before .before .before .before .before .before .before .before .before in
-    let rest = drop (length (S .args .key .now)) (S .args .part .now) in
+    let key = S .args .key .now in
+    let rest = drop (length key) (S .args .part .now) in
     c .before .before .write-u32 .ensures
-    ∙ ap₂ (λ (b : Bytes) (n : ℕ). setField (b ++ rest) (length (S .args .key .now)) n)
+    ∙ ap₂ (λ (b : Bytes) (n : ℕ). setField (b ++ rest) (length key) n)
     (c .before .before .before .before .before .before .before .copy .ensures) (c .before .before .before .at .ensures)
-    ∙ entry-written (S .args .key .now) rest (S .args .offset .0) (simp length-drop (omega arith))
+    ∙ entry-written key rest (S .args .offset .0) (simp length-drop (omega arith))
 
 pub write-entry-spec : {M : Type 1} → statement M
 write-entry-spec =

@@ -24,7 +24,9 @@ add-e c = search needs
 add-e-2 : tie.Need-add-e-2
 add-e-2 c =
     let S = c .before .before .before in
-    omega (arith, spot-placed (S .args .image .now) (S .args .shape) (S .args .i .0) (S .pre .0) (S .pre .1), c .at .ensures, c .before .start .ensures)
+    let img = S .args .image .now in
+    let s = S .args .shape in
+    omega (arith, spot-placed img s (S .args .i .0) (S .pre .0) (S .pre .1), c .at .ensures, c .before .start .ensures)
 
 sub-zero : tie.Need-sub-zero
 sub-zero c = search needs
@@ -35,7 +37,9 @@ part-zero-start c = search needs
 part-zero-end : tie.Need-part-zero-end
 part-zero-end c =
     let S = c .before .before .before in
-    omega (arith, spot-placed (S .args .image .now) (S .args .shape) (S .args .i .0) (S .pre .0) (S .pre .1), c .at .ensures, c .before .start .ensures)
+    let img = S .args .image .now in
+    let s = S .args .shape in
+    omega (arith, spot-placed img s (S .args .i .0) (S .pre .0) (S .pre .1), c .at .ensures, c .before .start .ensures)
 
 zero-requires : tie.Need-zero-requires
 zero-requires c κs = search needs
@@ -47,17 +51,18 @@ returns : tie.Need-returns
 unfolding blank
 returns c =
     let S = c .before .before .before .before .before .before .before in
+    let s = S .args .shape in
     let img = S .args .image .now in
-    let p = spot-placed (S .args .image .now) (S .args .shape) (S .args .i .0) (S .pre .0) (S .pre .1) in
+    let p = spot-placed img s (S .args .i .0) (S .pre .0) (S .pre .1) in
     let a = c .before .before .before .before .at .result in
-    let e = a + (S .args .shape .key + 4) in
+    let e = a + (s .key + 4) in
     let at = c .before .before .before .before .at .ensures ∙ c .before .before .before .before .before .start .ensures in
-    let m : e - a ≡ S .args .shape .key + 4 = omega arith in
+    let m : e - a ≡ s .key + 4 = omega arith in
     let size = mid-len a e img (omega arith) ∙ m in
     ap (λ (v : Bytes). putMid a (e - a) img v)
-    (c .before .before .zero .ensures ∙ ap zeros (size ∙ sym (slot-room img (S .args .shape) (S .pre .0 .shape))))
-    ∙ put-slot img (S .args .shape) (S .pre .0 .shape) (S .args .i .0) a at e (blank (layoutOf img)) refl
-    (length-blank (layoutOf img) ∙ slot-room img (S .args .shape) (S .pre .0 .shape))
+    (c .before .before .zero .ensures ∙ ap zeros (size ∙ sym (slot-room img s (S .pre .0 .shape))))
+    ∙ put-slot img s (S .pre .0 .shape) (S .args .i .0) a at e (blank (layoutOf img)) refl
+    (length-blank (layoutOf img) ∙ slot-room img s (S .pre .0 .shape))
 
 pub clear-slot-spec : {M : Type 1} → statement M
 clear-slot-spec =

@@ -1,6 +1,5 @@
 -- `table::walk::dist` meets its contract: one comparison.
 -- Assumes nothing.
-use mathlib.Core.Path.{sym, _∙_}
 use native.Mathlib.Omega.{arith}
 use Rattle.bhtf.proofs.Cyclic.{dist-up, dist-wrap}
 use borrow.Author.Needs.{needs}

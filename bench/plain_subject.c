@@ -1,0 +1,8 @@
+/* Plain C as the code under test. */
+#include "../tests/calls.h"
+#include "../tests/reference/plain.h"
+
+const struct calls subject = {
+    plain_create, plain_add,  plain_delete, plain_lookup,
+    plain_count,  plain_walk, plain_check,
+};

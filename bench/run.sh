@@ -1,0 +1,210 @@
+#!/usr/bin/env bash
+# The benchmark: the library, plain C and four other engines, in turns.
+#
+#   bench/run.sh             writes docs/PERFORMANCE.md and docs/performance.svg
+#   bench/run.sh --quick     a small run as a test; writes to target/bench only
+#     --seed S               of names, messages and orders (default 1)
+#     --rounds R             of three samples each
+#     --self                 plain C in the library's place, to test the
+#                            benchmark; writes to target/bench only
+#     LIB=path               of the library (default: rt staticlib station)
+#
+# The last line is 'N passed, M failed': comparisons of images, answers and
+# contents. Exit status 1 if one failed or a subject did.
+set -u
+
+usage() {
+  sed -n '2,13s/^# \{0,1\}//p' "$0"
+  exit 2
+}
+
+quick=0 self=0 seed=1 rounds= given="bench/run.sh"
+LIB=${LIB:-}
+while [ $# -gt 0 ]; do
+  case $1 in
+  --quick) quick=1 ;;
+  --self) self=1 ;;
+  --seed) shift; seed=${1:-} ;;
+  --rounds) shift; rounds=${1:-} ;;
+  LIB=*) LIB=${1#LIB=} ;;
+  *) usage ;;
+  esac
+  shift
+done
+case $seed in '' | *[!0-9]*) usage ;; esac
+[ "$quick" = 1 ] && given="$given --quick"
+[ "$self" = 1 ] && given="$given --self"
+given="$given --seed $seed"
+[ -n "$rounds" ] && given="$given --rounds $rounds"
+: "${rounds:=$([ "$quick" = 1 ] && echo 1 || echo 5)}"
+case $rounds in '' | *[!0-9]* | 0) usage ;; esac
+
+[ -n "$LIB" ] && LIB=$(realpath -- "$LIB")
+cd "$(dirname "$0")/.." || exit 2
+bin=target/bench
+
+# ---- what is needed ----
+
+install_missing() {
+  local missing=() package
+  for package in gcc g++ make libgdbm-dev libtdb-dev liblmdb-dev libkyotocabinet-dev; do
+    dpkg-query -W -f '${Status}' "$package" 2>/dev/null | grep -q 'ok installed' || missing+=("$package")
+  done
+  [ ${#missing[@]} -eq 0 ] && return
+  echo "installing ${missing[*]}"
+  local as=()
+  [ "$(id -u)" = 0 ] || as=(sudo)
+  "${as[@]}" env DEBIAN_FRONTEND=noninteractive apt-get install -y -q --no-install-recommends "${missing[@]}" >/dev/null ||
+    { "${as[@]}" apt-get update -q >/dev/null &&
+      "${as[@]}" env DEBIAN_FRONTEND=noninteractive apt-get install -y -q --no-install-recommends "${missing[@]}" >/dev/null; }
+}
+
+find_library() {
+  if [ "$self" = 1 ]; then
+    make -s -C bench standin || return
+    LIB=$PWD/$bin/libstandin.a
+  elif [ -z "$LIB" ]; then
+    LIB=$PWD/target/staticlib/libstation.a
+    [ -f "$LIB" ] || rt staticlib station
+  fi
+  [ -f "$LIB" ]
+}
+
+install_missing || { echo "packages are missing"; exit 2; }
+find_library || { echo "no library"; exit 2; }
+make -s -C bench LIB="$LIB" || exit 2
+
+work=$(mktemp -d) || exit 2
+files=
+trap 'rm -rf "$work" ${files:+"$files"}' EXIT
+if [ "$(stat -f -c %T /dev/shm 2>/dev/null)" = tmpfs ] && files=$(mktemp -d -p /dev/shm bench.XXXXXX); then
+  files_say="All files are on tmpfs."
+else
+  files=$work/files
+  mkdir "$files"
+  files_say="All files are in a temporary directory, as there was no tmpfs."
+fi
+echo "seed $seed; $files_say"
+
+# All on one core, so that all meet the same neighbours.
+pin=()
+core=$(taskset -pc $$ 2>/dev/null | sed 's/.*[ ,-]//')
+[ -n "$core" ] && pin=(taskset -c "$core")
+
+# ---- running ----
+
+limit=$([ "$quick" = 1 ] && echo 45 || echo 900) # seconds for a run
+fewer=$([ "$quick" = 1 ] && echo 4 || echo 1)
+passed=0
+failed=0
+results=$work/results
+: >"$results"
+
+fail() {
+  failed=$((failed + 1))
+  echo "FAILED: $*"
+}
+
+finish() {
+  echo "$passed passed, $failed failed"
+  [ "$failed" -eq 0 ] && [ "$passed" -gt 0 ]
+  exit
+}
+
+# compare_images WHAT: those of the library with plain's, byte for byte.
+compare_images() {
+  local image
+  for image in "$work"/out/plain.images/*; do
+    if cmp -s "$image" "$work/out/library.images/${image##*/}"; then
+      passed=$((passed + 1))
+    else
+      fail "$1: images differ after ${image##*/}"
+    fi
+  done
+}
+
+# run GROUP ROUND K N SUBJECTS PLAN
+run() {
+  local what="$1, round $2, K = $3, N = $4" subject images=()
+  [ "$1" = images ] && images=(--images)
+  rm -rf "$work/out"
+  mkdir "$work/out"
+  # The words of subjects and plan are meant to be split.
+  # shellcheck disable=SC2086
+  timeout "$limit" "${pin[@]}" "$bin/turns" "$bin" "$files" "$work/out" $5 -- "${images[@]}" --seed "$seed" --fewer "$fewer" --key "$3" --slots "$4" $6
+  case $? in
+  0) ;;
+  124) fail "$what: not done in $limit s"; finish ;;
+  *) fail "$what: a subject failed" ;;
+  esac
+  rm -f "$files"/*
+  for subject in $5; do
+    sed "s/^/$1 $2 $3 $4 $subject /" "$work/out/$subject" >>"$results"
+  done
+  [ "$1" = images ] && compare_images "$what"
+  echo "done: $what ($SECONDS s)"
+}
+
+image_plan="create build:50 hit miss replace renew append swap walk check fill:90 hit miss swap fill:100 hit miss swap"
+short_plan="create build:50 hit miss replace swap walk check"
+engine_plan="build:50 hit miss replace renew swap walk fill:90 swap fill:100 swap"
+load_plan=
+for load in 10 20 30 40 50 60 70 80 90 100; do
+  load_plan="$load_plan fill:$load hit miss"
+done
+engines="library gdbm tdb lmdb lmdb-run kyoto"
+
+run_round() {
+  local k n
+  for n in 5507 65521; do
+    for k in 4 8 16 32; do
+      run images "$1" $k $n "plain library again" "$image_plan"
+      run engines "$1" $k $n "$engines" "$engine_plan"
+    done
+  done
+  run by-load "$1" 16 65521 "plain library" "$load_plan"
+  for n in 1000 2000 4000 8000 16000 32000 65536; do
+    run by-slots "$1" 16 $n "plain library" "fill:50 hit miss"
+  done
+}
+
+run_quick_round() {
+  local k n
+  for k in 4 8 16 32; do
+    run images "$1" $k 5507 "plain library again" "$image_plan"
+  done
+  run images "$1" 16 65521 "plain library again" "$short_plan"
+  run engines "$1" 16 5507 "$engines" "$engine_plan"
+  run by-load "$1" 16 5507 "plain library" "$load_plan"
+  for n in 1000 4000 16000; do
+    run by-slots "$1" 16 $n "plain library" "fill:50 hit miss"
+  done
+}
+
+for round in $(seq "$rounds"); do
+  if [ "$quick" = 1 ]; then run_quick_round "$round"; else run_round "$round"; fi
+done
+
+read -r same different < <(awk -f bench/compare.awk "$results")
+passed=$((passed + same))
+failed=$((failed + different))
+
+# ---- the page ----
+
+version() {
+  dpkg-query -W -f '${source:Upstream-Version}' "$1"
+}
+
+# A failed run leaves the published page alone.
+pages=docs
+if [ "$quick" = 1 ] || [ "$self" = 1 ] || [ "$failed" -gt 0 ]; then pages=$bin; fi
+mkdir -p "$pages"
+cp "$results" "$bin/results"
+awk -v rounds="$rounds" -v command="$given" -v seed="$seed" -v files="$files_say" \
+  -v machine="Machine: $(nproc) cores, $(uname -m), gcc $(gcc -dumpfullversion)" \
+  -v engines="Engines: gdbm $(version libgdbm-dev), tdb $(version libtdb-dev), LMDB $(version liblmdb-dev), Kyoto Cabinet $(version libkyotocabinet-dev)" \
+  -f bench/table.awk "$results" >"$pages/PERFORMANCE.md" || fail "the page"
+awk -f bench/plot.awk "$results" >"$pages/performance.svg" || fail "the plot"
+grep -E '^(Library|Noise)' "$pages/PERFORMANCE.md"
+echo "written: $pages/PERFORMANCE.md, $pages/performance.svg"
+finish

@@ -1,0 +1,4 @@
+pub mod Numbers
+pub mod Probes
+pub mod Texts
+pub mod Steps

@@ -1,0 +1,213 @@
+-- Add of a point that is present, in its three modes: the file's answer is the book's, and the relation is kept.
+-- Assumes nothing.
+use mathlib.Core.Path.{_≡_, refl, sym, ap, _∙_, subst}
+use Prim.Native.Nat.{ℕ, _^_, _≤_, _<_}
+use native.Mathlib.Omega.{arith}
+use native.Mathlib.Nat.{add-zero}
+use mathlib.Core.Bool.{Bool, true, false, cond, not, _&&_}
+use mathlib.Core.List.{[], _∷_, _++_}
+use mathlib.Core.Option.{Option, none, some}
+use lib.ListN.{length, length-append}
+use lib.Dec.{eqb, leb}
+use borrow.Author.Tests.{eq-eqb, ne-eqb, leb-true, le-leb, lt-leb}
+use Rattle.bhtf.specs.Bytes.{Bytes}
+use Rattle.bhtf.specs.Limits.{leastLength, pointsField, freeField}
+use Rattle.bhtf.specs.Image.{field, Layout, layoutOf, slot, offsetOf}
+use Rattle.bhtf.specs.Search.{Probe, met, search, isMet}
+use Rattle.bhtf.specs.Messages.{lengthAt, shown, held, retire, overwrite, renewedText, placedText, renewed, renewedAt, addedAt, added}
+use Rattle.bhtf.specs.Questions.{ask, firstNo, modeKnown, newInMode1, slotToTake, metMessageSound, lengthAllowed, spaceLeft, pointAsks, addNumber}
+use Rattle.bhtf.specs.Calls.{add}
+use Rattle.bhtf.specs.Book.{Entry, Book, find, withEntry, stepOf, roomAsks, entered, placed, replace, append, addPresent, addFound}
+use Rattle.bhtf.proofs.Tests.{by-eq, by-le, and-left, and-right}
+use Rattle.bhtf.proofs.Opened.{firstNo-none, firstNo-yes, firstNo-no}
+use Rattle.bhtf.proofs.Table.{entryOf}
+use Rattle.bhtf.proofs.Insert.{entry-met}
+use Rattle.agreement.proofs.File.{Allowed, valueOf}
+use Rattle.bhtf.proofs.Stretch.{sound-lies}
+use Rattle.agreement.proofs.Data.{file-above}
+use Rattle.agreement.proofs.Retire.{retire-change, retire-field, retire-point}
+use Rattle.agreement.proofs.Overwrite.{overwrite-change, overwrite-field, overwrite-point}
+use Rattle.agreement.proofs.Entries.{length-withEntry-old}
+use Rattle.agreement.proofs.Reflect.{Reflects, reflect-entered}
+use Rattle.agreement.proofs.Simple.{Same, same-refused, same-accepted, found-met, met-sound}
+use Rattle.agreement.proofs.Asked.{add-point, after-is}
+use Rattle.agreement.proofs.Place.{room-both, relocate}
+
+-- ---- a point that is present
+
+module _ (g : Layout) (img : Bytes) (b : Book) (r : Reflects g img b) (key : Bytes) (a : Allowed g key) (bytes : Bytes) (i : ℕ)
+    (m : search g img key ≡ met i) where
+  abbrev o : ℕ
+  o = offsetOf g (slot g img i)
+
+  e₁ : entryOf g img key ≡ some (slot g img i)
+  e₁ = entry-met g img key i m
+
+  found : find key (b .entries) ≡ some (valueOf g img key o)
+  found = found-met g img b r key a i m
+
+  old-number : (e : Entry) → e .name ≡ key → length (withEntry e (b .entries)) ≡ field img pointsField
+  old-number e q =
+      length-withEntry-old e (b .entries) _ (ap (λ (k : Bytes). find k (b .entries)) q ∙ found) ∙ r .number
+
+  -- in modes 2 and 3 questions 12 and 13 decide
+  present-number : (mode : ℕ) → modeKnown mode ≡ true → eqb mode 1 ≡ false
+      → addNumber img key bytes mode
+      ≡ firstNo (ask 12 (lengthAllowed g (renewedText g img o bytes mode))
+      ∷ ask 13 (spaceLeft g (field img freeField) (length img) (renewedText g img o bytes mode)) ∷ [])
+  unfolding pointAsks newInMode1 slotToTake isMet metMessageSound placedText
+  present-number mode k h =
+      add-point g img b r key bytes mode a k
+      ∙ ap (λ (s : Probe). firstNo (pointAsks g img s bytes mode)) m
+      ∙ firstNo-yes 9 _ _ (ap (λ (t : Bool). not (t && true)) h)
+      ∙ firstNo-yes 10 _ _ refl
+      ∙ firstNo-yes 11 _ _ (met-sound g img b r key a i m)
+
+  none-number : (mode : ℕ) → modeKnown mode ≡ true → eqb mode 1 ≡ false → renewedText g img o bytes mode ≡ none
+      → addNumber img key bytes mode ≡ 0
+  unfolding lengthAllowed spaceLeft
+  none-number mode k h q =
+      present-number mode k h
+      ∙ ap (λ (p : Option Bytes). firstNo (ask 12 (lengthAllowed g p) ∷ ask 13 (spaceLeft g (field img freeField) (length img) p) ∷ [])) q
+      ∙ firstNo-yes 12 true _ refl
+      ∙ firstNo-yes 13 true [] refl
+      ∙ firstNo-none
+
+  some-number : (mode : ℕ) (t : Bytes) → modeKnown mode ≡ true → eqb mode 1 ≡ false → renewedText g img o bytes mode ≡ some t
+      → addNumber img key bytes mode ≡ firstNo (roomAsks b (length t))
+  some-number mode t k h q =
+      present-number mode k h
+      ∙ ap (λ (p : Option Bytes). firstNo (ask 12 (lengthAllowed g p) ∷ ask 13 (spaceLeft g (field img freeField) (length img) p) ∷ [])) q
+      ∙ room-both g img b r t
+
+  after-present : (mode : ℕ) (p : Option Bytes) → renewedText g img o bytes mode ≡ p
+      → added (layoutOf img) img key bytes mode ≡ renewed g img i o key bytes mode p
+  unfolding addedAt renewedAt
+  after-present mode p q =
+      after-is g img b r key bytes mode
+      ∙ ap (λ (s : Probe). addedAt g img s key bytes mode) m
+      ∙ ap (renewed g img i o key bytes mode) q
+
+  -- a text in new space
+  same-placed : (mode : ℕ) (t : Bytes) → modeKnown mode ≡ true → eqb mode 1 ≡ false → renewedText g img o bytes mode ≡ some t
+      → leastLength ≤ length t
+      → Same g (add img key bytes mode) (stepOf b (roomAsks b (length t)) (placed b key t))
+  unfolding add renewed
+  same-placed mode t k h q le =
+      by-eq (firstNo (roomAsks b (length t))) 0
+      (λ z. same-accepted g img b r (addNumber img key bytes mode) _ (roomAsks b (length t)) (placed b key t)
+      (some-number mode t k h q ∙ z) z
+      (rw (after-present mode (some t) q) (relocate g img b r key a t z le i m)))
+      (λ z. same-refused g img b r (addNumber img key bytes mode) _ (roomAsks b (length t)) (placed b key t) (some-number mode t k h q) z)
+
+  -- a step with nothing to place
+  same-in-place : (mode : ℕ) (img′ : Bytes) (b′ : Book) → modeKnown mode ≡ true → eqb mode 1 ≡ false
+      → renewedText g img o bytes mode ≡ none → renewed g img i o key bytes mode none ≡ img′ → Reflects g img′ b′
+      → Same g (add img key bytes mode) (stepOf b [] b′)
+  unfolding add
+  same-in-place mode img′ b′ k h q w s =
+      same-accepted g img b r (addNumber img key bytes mode) _ [] b′ (none-number mode k h q) firstNo-none
+      (rw (after-present mode none q ∙ w) s)
+
+  -- ---- mode 1
+  same-1 : Same g (add img key bytes 1) (addPresent b (valueOf g img key o) bytes 1)
+  unfolding add addPresent
+  same-1 =
+      same-refused g img b r (addNumber img key bytes 1) _ (ask 9 false ∷ []) b (nine ∙ sym (firstNo-no 9 false [] refl))
+      (λ z. omega (arith, z, firstNo-no 9 false [] refl))
+    where
+      nine : addNumber img key bytes 1 ≡ 9
+      nine =
+          unfold pointAsks newInMode1 isMet modeKnown in
+          (add-point g img b r key bytes 1 a refl
+          ∙ ap (λ (s : Probe). firstNo (pointAsks g img s bytes 1)) m
+          ∙ firstNo-no 9 _ _ refl)
+
+  -- ---- mode 2
+  retired : Reflects g (retire img o) (entered b key [] (held g img o) 0)
+  retired =
+      reflect-entered g img (retire img o) key b r a (retire-change g img (r .file) key (slot g img i) a e₁) [] (held g img o) 0
+      (retire-point g img (r .file) key (slot g img i) a e₁)
+      (retire-field g img (r .file) key (slot g img i) a e₁ freeField (omega arith) ∙ sym (add-zero (field img freeField)))
+      (old-number _ refl ∙ sym (retire-field g img (r .file) key (slot g img i) a e₁ pointsField (omega arith)))
+
+  in-place : (o ≡ 0 → ⊥) → length bytes < 256 ^ g .W → leastLength ≤ length bytes → length bytes ≤ held g img o
+      → Reflects g (overwrite g img o bytes) (entered b key bytes (length bytes) 0)
+  in-place z s le hi =
+      reflect-entered g img (overwrite g img o bytes) key b r a
+      (overwrite-change g img (r .file) key (slot g img i) a e₁ z bytes s le hi) bytes (length bytes) 0
+      (overwrite-point g img (r .file) key (slot g img i) a e₁ z bytes s le hi)
+      (overwrite-field g img (r .file) key (slot g img i) a e₁ z bytes s le hi freeField (omega arith) ∙ sym (add-zero (field img freeField)))
+      (old-number _ refl ∙ sym (overwrite-field g img (r .file) key (slot g img i) a e₁ z bytes s le hi pointsField (omega arith)))
+
+  -- a message lies in the image, which is shorter than the longest length
+  held-small : (o ≡ 0 → ⊥) → length bytes ≤ held g img o → length bytes < 256 ^ g .W
+  unfolding held layoutOf
+  held-small z hi =
+      let l = sound-lies g img o (met-sound g img b r key a i m) z in
+      let is : held g img o ≡ lengthAt g img o = ap (λ (t : Bool). cond t 0 (lengthAt g img o)) (ne-eqb o 0 z) in
+      subst (λ (w : ℕ). length bytes < 256 ^ w) (ap (λ (y : Layout). y .W) (r .file .layout))
+      (omega (arith, is, hi, l .low, l .end, file-above (r .file), r .file .opened .free-high, r .file .opened .size-high))
+
+  held-zero : o ≡ 0 → held g img o ≡ 0
+  unfolding held
+  held-zero z = rw z refl
+
+  same-2 : Same g (add img key bytes 2) (addPresent b (valueOf g img key o) bytes 2)
+  unfolding addPresent replace
+  same-2 =
+      by-eq (length bytes) 0
+      (λ z.
+      rw (eq-eqb (length bytes) 0 z)
+      (same-in-place 2 (retire img o) _ (unfold modeKnown in refl) refl
+      (unfold renewedText in rw (le-leb (length bytes) (held g img o) (omega arith)) refl)
+      (unfold renewed in rw (eq-eqb (length bytes) 0 z) refl)
+      retired))
+      (λ z.
+      rw (ne-eqb (length bytes) 0 z)
+      (by-le (length bytes) (held g img o)
+      (λ l.
+      rw (le-leb (length bytes) (held g img o) l)
+      (same-in-place 2 (overwrite g img o bytes) _ (unfold modeKnown in refl) refl
+      (unfold renewedText in rw (le-leb (length bytes) (held g img o) l) refl)
+      (unfold renewed in rw (ne-eqb (length bytes) 0 z) refl)
+      (in-place (λ q. z (omega (arith, l, held-zero q))) (held-small (λ q. z (omega (arith, l, held-zero q))) l) (omega arith) l)))
+      (λ l.
+      rw (lt-leb (length bytes) (held g img o) l)
+      (same-placed 2 bytes (unfold modeKnown in refl) refl
+      (unfold renewedText in rw (lt-leb (length bytes) (held g img o) l) refl)
+      (omega arith)))))
+
+  -- ---- mode 3
+  same-3 : Same g (add img key bytes 3) (addPresent b (valueOf g img key o) bytes 3)
+  unfolding addPresent append
+  same-3 =
+      by-eq (length bytes) 0
+      (λ z.
+      rw (eq-eqb (length bytes) 0 z)
+      (same-in-place 3 img b (unfold modeKnown in refl) refl
+      (unfold renewedText in rw (eq-eqb (length bytes) 0 z) refl)
+      (unfold renewed in refl)
+      r))
+      (λ z.
+      rw (ne-eqb (length bytes) 0 z)
+      (same-placed 3 (shown g img o ++ bytes) (unfold modeKnown in refl) refl
+      (unfold renewedText in rw (ne-eqb (length bytes) 0 z) refl)
+      (rw (length-append (shown g img o) bytes) (omega arith))))
+
+  -- the mode is one of three
+  by-mode {ℓ} : {A : Type ℓ} (mode : ℕ) → modeKnown mode ≡ true → (mode ≡ 1 → A) → (mode ≡ 2 → A) → (mode ≡ 3 → A) → A
+  unfolding modeKnown
+  by-mode mode k one two three =
+      let lo : 1 ≤ mode = leb-true 1 mode (and-left (leb 1 mode) (leb mode 3) k) in
+      let hi : mode ≤ 3 = leb-true mode 3 (and-right (leb 1 mode) (leb mode 3) k) in
+      by-eq mode 1 one (λ n₁. by-eq mode 2 two (λ n₂. three (omega arith)))
+
+  pub same-present : (mode : ℕ) → modeKnown mode ≡ true → Same g (add img key bytes mode) (addFound b key bytes mode (find key (b .entries)))
+  unfolding addFound
+  same-present mode k =
+      rw found
+      (by-mode mode k
+      (λ q. rw q same-1)
+      (λ q. rw q same-2)
+      (λ q. rw q same-3))

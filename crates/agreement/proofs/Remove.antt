@@ -1,0 +1,157 @@
+-- A point gone: its slot is zeroed, C falls by 1, and delete's walk closes the gap.
+--     remove-change, remove-point, remove-points, remove-free      the change, and what is read afterwards
+-- Assumes nothing.
+use mathlib.Core.Path.{_≡_, sym, ap, _∙_}
+use Prim.Native.Nat.{ℕ, _-_, _^_, _≤_, _<_}
+use native.Mathlib.Omega.{arith}
+use mathlib.Core.Logic.{_↔_}
+use mathlib.Core.Option.{Option, none, some}
+use lib.ListN.{length}
+use Rattle.bhtf.specs.Bytes.{Bytes}
+use Rattle.bhtf.specs.Limits.{pointsField, freeField}
+use Rattle.bhtf.specs.Image.{field, setField, Layout, slot, keyOf, vacant}
+use Rattle.bhtf.specs.Messages.{closed}
+use Rattle.bhtf.specs.Search.{search, met}
+use Rattle.bhtf.proofs.Slots.{Room, length-setField}
+use Rattle.bhtf.proofs.Kept.{Kept, kept-trans, kept-points}
+use Rattle.bhtf.proofs.Table.{Sound, Taken, keyAt, entryOf, weight}
+use Rattle.bhtf.proofs.Probe.{search-met, met-taken}
+use Rattle.bhtf.proofs.Insert.{Stands, weight-frame, delete-entry, delete-other}
+use Rattle.bhtf.proofs.Frames.{part-closed-header, part-closed-data, field-closed, weight-closed, stands-closed}
+use Rattle.bhtf.proofs.Walk.{length-closed}
+use Rattle.bhtf.proofs.Delete.{sound-closed, gone-closed}
+use Rattle.bhtf.proofs.Stretch.{size, sound-lies, SameOn, same-on-trans}
+use Rattle.agreement.proofs.Data.{frame-entry, frame-sound, file-above}
+use Rattle.agreement.proofs.Slots.{points-slot, points-same, points-free, points-is}
+use Rattle.agreement.proofs.File.{Allowed, allowed-zero, pointOf, pointOf-none, File, file-slots, file-room, file-some, Change}
+
+-- ---- a point gone
+
+module _ (g : Layout) (img : Bytes) (f : File g img) (key : Bytes) (a : Allowed g key) (i : ℕ) (m : search g img key ≡ met i)
+    (some-point : 1 ≤ field img pointsField) where
+  fewer : Bytes
+  fewer = setField img pointsField (field img pointsField - 1)
+
+  gone : Bytes
+  gone = closed g fewer i
+
+  lt₁ : i < g .N
+  lt₁ = search-met g img key (file-some f) i m .0
+
+  long₁ : 60 ≤ length img
+  long₁ = omega (arith, f .opened .size-low)
+
+  few₁ : field img pointsField - 1 < 2 ^ 32
+  few₁ = omega (arith, f .opened .points, f .opened .slots-high)
+
+  length-fewer : length fewer ≡ length img
+  unfolding fewer
+  length-fewer = length-setField img pointsField (field img pointsField - 1) (omega (arith, long₁))
+
+  room-fewer : Room g (length fewer)
+  room-fewer = rw length-fewer (file-room f)
+
+  fewer-slot : (k : ℕ) → k < g .N → slot g fewer k ≡ slot g img k
+  unfolding fewer
+  fewer-slot = points-slot g img (file-room f) (file-above f) long₁ (field img pointsField - 1)
+
+  sound-fewer : Sound g fewer
+  sound-fewer = frame-sound g img fewer (file-some f) fewer-slot (f .table)
+
+  taken₁ : Taken g fewer i
+  taken₁ = ap (vacant g) (fewer-slot i lt₁) ∙ met-taken g img key (file-some f) i (allowed-zero g key a) m
+
+  key₁ : keyAt g fewer i ≡ key
+  key₁ = ap (keyOf g) (fewer-slot i lt₁) ∙ search-met g img key (file-some f) i m .1
+
+  sound-gone : Sound g gone
+  unfolding gone
+  sound-gone = sound-closed g fewer room-fewer i lt₁ sound-fewer
+
+  gone-key : (k : ℕ) → k < g .N → Taken g gone k → keyAt g gone k ≡ key → ⊥
+  unfolding gone
+  gone-key k h t e = gone-closed g fewer room-fewer i lt₁ sound-fewer taken₁ k h t (e ∙ sym key₁)
+
+  gone-others : (s : Bytes) → (keyOf g s ≡ key → ⊥) → Stands g fewer s ↔ Stands g gone s
+  unfolding gone
+  gone-others s n = stands-closed g fewer room-fewer i lt₁ s (λ e. n (e ∙ key₁))
+
+  remove-entry : entryOf g gone key ≡ none
+  remove-entry = delete-entry g fewer gone key (file-some f) sound-fewer sound-gone gone-key gone-others (allowed-zero g key a)
+
+  remove-other : (key′ : Bytes) → Allowed g key′ → (key′ ≡ key → ⊥) → entryOf g gone key′ ≡ entryOf g img key′
+  remove-other key′ a′ n =
+      delete-other g fewer gone key (file-some f) sound-fewer sound-gone gone-key gone-others key′ n (allowed-zero g key′ a′)
+      ∙ frame-entry g img fewer (file-some f) fewer-slot key′
+
+  gone-kept : Kept fewer gone
+  unfolding gone
+  gone-kept =
+      record {
+        size = length-closed g fewer room-fewer i lt₁;
+        front = part-closed-header g fewer room-fewer i lt₁ 0 20 (omega arith);
+        middle = part-closed-header g fewer room-fewer i lt₁ 24 28 (omega arith);
+        rest = part-closed-header g fewer room-fewer i lt₁ 60 1988 (omega arith);
+      }
+
+  remove-kept : Kept img gone
+  unfolding fewer
+  remove-kept = kept-trans (kept-points img (field img pointsField - 1) long₁) gone-kept
+
+  remove-same : (p n : ℕ) → g .D ≤ p → SameOn img gone p n
+  unfolding gone fewer
+  remove-same p n h =
+      same-on-trans (points-same g img (file-room f) (file-above f) long₁ (field img pointsField - 1) p n h)
+      (record { on = λ q k lo hi. part-closed-data g fewer room-fewer i lt₁ q k (omega arith) })
+
+  gone-points : field gone pointsField ≡ field img pointsField - 1
+  unfolding gone fewer
+  gone-points =
+      field-closed g fewer room-fewer i lt₁ pointsField (omega arith)
+      ∙ points-is g img (file-room f) (file-above f) long₁ (field img pointsField - 1) few₁
+
+  gone-free : field gone freeField ≡ field img freeField
+  unfolding gone fewer
+  gone-free =
+      field-closed g fewer room-fewer i lt₁ freeField (omega arith)
+      ∙ points-free g img (file-room f) (file-above f) long₁ (field img pointsField - 1)
+
+  gone-counted : field gone pointsField ≡ weight g gone (λ s. 1)
+  unfolding gone
+  gone-counted =
+      gone-points
+      ∙ omega (arith, f .counted, weight-closed g fewer room-fewer i lt₁ taken₁ (λ s. 1), weight-frame g img fewer (λ s. 1) fewer-slot)
+
+  remove-change′ : Change g img gone key
+  remove-change′ =
+      record {
+        kept = remove-kept;
+        free-low = rw gone-free (omega arith);
+        free-high = rw gone-free (f .opened .free-high);
+        points = rw gone-points (omega (arith, f .opened .points, file-slots f));
+        sound = sound-gone;
+        counted = gone-counted;
+        others = remove-other;
+        still = λ key′ s a′ n e′ z. remove-same _ _ (sound-lies g img _ (f .messages key′ s a′ e′) z .low);
+        here = λ s a₁ e₁. absurd (none-some s (sym remove-entry ∙ e₁));
+        here-apart = λ s key′ s′ a₁ a′ n e₁ e′ z z′. absurd (none-some s (sym remove-entry ∙ e₁));
+      }
+    where
+      none-some : (s : Bytes) → _≡_ {A = Option Bytes} none (some s) → ⊥
+      none-some s e = let z : _≡_ {A = ℕ} 0 1 = cc in omega arith
+
+  pub remove-change : Change g img (closed g (setField img pointsField (field img pointsField - 1)) i) key
+  unfolding gone fewer
+  remove-change = remove-change′
+
+  pub remove-point : pointOf g (closed g (setField img pointsField (field img pointsField - 1)) i) key ≡ none
+  unfolding gone fewer
+  remove-point = pointOf-none g gone key remove-entry
+
+  pub remove-points : field (closed g (setField img pointsField (field img pointsField - 1)) i) pointsField ≡ field img pointsField - 1
+  unfolding gone fewer
+  remove-points = gone-points
+
+  pub remove-free : field (closed g (setField img pointsField (field img pointsField - 1)) i) freeField ≡ field img freeField
+  unfolding gone fewer
+  remove-free = gone-free

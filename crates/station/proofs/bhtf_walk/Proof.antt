@@ -1,0 +1,104 @@
+-- The walk's three ends, each with its slot and the place of its key. Assumes nothing.
+use borrow.Author.Needs.{needs}
+use mathlib.Core.Path.{sym, _∙_}
+use native.Mathlib.Omega.{arith}
+use Rattle.bhtf.specs.Inspect.{keyWalk}
+use Rattle.inspect.proofs.Stopping.{stopped-is, refused-is, end-is}
+use Rattle.station.proofs.Told.{shape-key, walks-refused, walks-end, walks-stopped, walk-key, walk-long, walk-slot, walk-place}
+use Rattle.station.proofs.bhtf_walk.Statement.{statement}
+use Rattle.station.proofs.bhtf_walk.Tie as tie
+
+next-taken-requires : tie.Need-next-taken-requires
+next-taken-requires c κs = search needs
+
+enum-known-stop : tie.Need-enum-known-stop
+enum-known-stop c = search needs
+
+enum-known-stop-2 : tie.Need-enum-known-stop-2
+enum-known-stop-2 c = search needs
+
+read-shape-requires : tie.Need-read-shape-requires
+read-shape-requires c κs =
+    let F = c .before .before .before in
+    let A = F .before .before .args in
+    let w = stopped-is (A .image .now) (A .from) (F .next-taken .result) (F .next-taken .ensures) (c .before .stop2 .given .1) in
+    walk-long (A .image .now) (A .from) _ w
+
+number-requires : tie.Need-number-requires
+number-requires c κs = search needs
+
+cast-slot : tie.Need-cast-slot
+cast-slot c =
+    let F = c .before .before .before .before .before in
+    let A = F .before .before .args in
+    let w = stopped-is (A .image .now) (A .from) (F .next-taken .result) (F .next-taken .ensures) (c .before .before .before .stop2 .given .1) in
+    omega (arith, walk-slot (A .image .now) (A .from) _ w, c .number .ensures)
+
+start-requires : tie.Need-start-requires
+start-requires c κs =
+    let F = c .before .before .before .before .before in
+    let A = F .before .before .args in
+    let w = stopped-is (A .image .now) (A .from) (F .next-taken .result) (F .next-taken .ensures) (c .before .before .before .stop2 .given .1) in (
+      omega (arith, walk-slot (A .image .now) (A .from) _ w),
+      omega (arith, shape-key (A .image .now) _ (c .before .read-shape .ensures), walk-key (A .image .now) (A .from) _ w),
+    )
+
+at-requires : tie.Need-at-requires
+at-requires c κs = search needs
+
+cast-place : tie.Need-cast-place
+cast-place c =
+    let N = c .before .before in
+    let F = N .before .before .before .before .before in
+    let A = F .before .before .args in
+    let w = stopped-is (A .image .now) (A .from) (F .next-taken .result) (F .next-taken .ensures) (N .before .before .before .stop2 .given .1) in
+    omega (
+      arith,
+      c .at .ensures,
+      c .before .start .ensures,
+      walk-place (A .image .now) (A .from) _ w (N .before .read-shape .result .key) (shape-key (A .image .now) _ (N .before .read-shape .ensures)),
+    )
+
+enum-told : tie.Need-enum-told
+enum-told c = search needs
+
+returns : tie.Need-returns
+returns c =
+    let F = c .before .before .before in
+    let A = F .before .before .args in
+    walks-refused (A .image .now) (keyWalk (A .image .now) (A .from)) _
+    (refused-is (A .image .now) (A .from) (F .next-taken .result) (F .next-taken .ensures) (c .before .stop .given .1))
+
+returns-2 : tie.Need-returns-2
+returns-2 c =
+    let N = c .before .before in
+    let F = N .before .before .before .before .before in
+    let A = F .before .before .args in
+    let w = stopped-is (A .image .now) (A .from) (F .next-taken .result) (F .next-taken .ensures) (N .before .before .before .stop2 .given .1) in
+    walks-stopped (A .image .now) (keyWalk (A .image .now) (A .from)) _ _ _ (N .before .read-shape .result .key) (sym w)
+    (N .number .ensures) (shape-key (A .image .now) _ (N .before .read-shape .ensures)) (c .at .ensures ∙ c .before .start .ensures)
+
+returns-3 : tie.Need-returns-3
+returns-3 c =
+    let F = c .before .before in
+    let A = F .before .before .args in
+    walks-end (A .image .now) (keyWalk (A .image .now) (A .from))
+    (end-is (A .image .now) (A .from) (F .next-taken .result) (F .next-taken .ensures) (c .enum-told .given .1))
+
+pub bhtf-walk-spec : {M : Type 1} → statement M
+bhtf-walk-spec =
+    tie.close
+    (tie.spec
+    next-taken-requires
+    enum-known-stop
+    enum-known-stop-2
+    read-shape-requires
+    number-requires
+    cast-slot
+    start-requires
+    at-requires
+    cast-place
+    enum-told
+    returns
+    returns-2
+    returns-3)

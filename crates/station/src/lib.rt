@@ -1,0 +1,115 @@
+// The exports for the station host, on numbers and byte slices: each call answers document 01's number, 0 when accepted.
+// host/bhtf.h declares them for C.
+use inspect::check::Verdict;
+use inspect::check::check;
+use inspect::walk::Stop;
+use inspect::walk::next_taken;
+use layout::shape::read_shape;
+use lookup::count;
+use lookup::locate;
+ghost use mathlib.Core.Path.{_≡_};
+ghost use Rattle.bhtf.specs.Inspect.{keyWalk, stopNumber, keyStart, check, verdictNumber};
+ghost use Rattle.inspect.specs.Stops.{stopSlot};
+ghost use Rattle.station.specs.Codes.{verdictCode, verdictSlot};
+ghost use Rattle.bhtf.specs.Calls.{create, add, delete, lookup, lookupStart, lookupLength, count};
+
+// Makes the slice an empty file: keys of `size` bytes, `slots` slots (0 for 5,507), the scramble of the seed.
+#[no_mangle]
+pub extern "C" fn bhtf_create(image: &mut [u8], size: u32, slots: u32, seed: u32) -> u32
+    ensures { λ r. ⌜ (r ≡ create (now (image .entry)) size slots seed .answer .number)
+        × (now (image .exit) ≡ create (now (image .entry)) size slots seed .after) ⌝ }
+{
+    create::create(image, size, slots, seed)
+}
+
+// Stores the bytes under the key: mode 1 new, 2 replace, 3 append.
+#[no_mangle]
+pub extern "C" fn bhtf_add(image: &mut [u8], key: &[u8], bytes: &[u8], mode: u32) -> u32
+    ensures { λ r. ⌜ (r ≡ add (now (image .entry)) (now (key .entry)) (now (bytes .entry)) mode .answer .number)
+        × (now (image .exit) ≡ add (now (image .entry)) (now (key .entry)) (now (bytes .entry)) mode .after) ⌝ }
+{
+    add::add(image, key, bytes, mode)
+}
+
+// Deletes the key's point.
+#[no_mangle]
+pub extern "C" fn bhtf_delete(image: &mut [u8], key: &[u8]) -> u32
+    ensures { λ r. ⌜ (r ≡ delete (now (image .entry)) (now (key .entry)) .answer .number)
+        × (now (image .exit) ≡ delete (now (image .entry)) (now (key .entry)) .after) ⌝ }
+{
+    delete::delete(image, key)
+}
+
+// Where the key's message stands: the offset of its first byte and its length, both 0 with no active message or when refused.
+#[no_mangle]
+pub extern "C" fn bhtf_lookup(image: &[u8], key: &[u8], offset: &mut u32, length: &mut u32) -> u32
+    ensures { λ r. ⌜ (r ≡ lookup (now (image .entry)) (now (key .entry)) .answer .number)
+        × (now (offset .exit) ≡ lookupStart (now (image .entry)) (now (key .entry)))
+        × (now (length .exit) ≡ lookupLength (now (image .entry)) (now (key .entry))) ⌝ }
+{
+    let found = locate(image, key);
+    let start = found.start;
+    *offset = start.at() as u32;
+    *length = found.length as u32;
+    found.number
+}
+
+// How many points the file holds, 0 when refused.
+#[no_mangle]
+pub extern "C" fn bhtf_count(image: &[u8], points: &mut u32) -> u32
+    ensures { λ r. ⌜ (r ≡ count (now (image .entry)) .answer .number)
+        × (now (points .exit) ≡ count (now (image .entry)) .answer .amount) ⌝ }
+{
+    let counted = count(image);
+    *points = counted.points;
+    counted.number
+}
+
+// The lowest taken slot at or above `from`, and where its key stands; both 0 at the end or when refused. A key never stands
+// at offset 0, so the offset tells a slot from the end.
+#[no_mangle]
+pub extern "C" fn bhtf_walk(image: &[u8], from: u32, slot: &mut u32, place: &mut u32) -> u32
+    ensures { λ r. ⌜ (r ≡ stopNumber (keyWalk (now (image .entry)) from))
+        × (now (slot .exit) ≡ stopSlot (keyWalk (now (image .entry)) from))
+        × (now (place .exit) ≡ keyStart (now (image .entry)) (keyWalk (now (image .entry)) from)) ⌝ }
+{
+    *slot = 0;
+    *place = 0;
+    let stop = next_taken(image, from);
+    match stop {
+        Stop::Refused(n) => n,
+        Stop::At(i) => {
+            let shape = read_shape(image);
+            let size = shape.key;
+            *slot = i.number() as u32;
+            *place = i.start(size).at() as u32;
+            0
+        }
+        Stop::End => 0,
+    }
+}
+
+// Whether the image is sound: verdict 0 sound, 1 the slot fails, 2 the count fails. The slot is 0 but for verdict 1.
+#[no_mangle]
+pub extern "C" fn bhtf_check(image: &[u8], verdict: &mut u32, slot: &mut u32) -> u32
+    ensures { λ r. ⌜ (r ≡ verdictNumber (check (now (image .entry))))
+        × (now (verdict .exit) ≡ verdictCode (check (now (image .entry))))
+        × (now (slot .exit) ≡ verdictSlot (check (now (image .entry)))) ⌝ }
+{
+    *verdict = 0;
+    *slot = 0;
+    let found = check(image);
+    match found {
+        Verdict::Refused(n) => n,
+        Verdict::Sound => 0,
+        Verdict::SlotFails(i) => {
+            *verdict = 1;
+            *slot = i.number() as u32;
+            0
+        }
+        Verdict::CountFails => {
+            *verdict = 2;
+            0
+        }
+    }
+}

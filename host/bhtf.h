@@ -1,0 +1,138 @@
+/* bhtf.h - the control point file: a hash table of named points in one image.
+ *
+ * An image is a whole file in memory. Every call takes the image and its
+ * length, and answers a number: BHTF_ACCEPTED (0), or the number of the first
+ * question that was answered "no". A refused call changes no byte of the
+ * image, and nothing but the results it hands back through pointers.
+ *
+ * What the caller must see to:
+ *
+ * - A pointer with a length stands for that many bytes, readable and, for the
+ *   image of create, add and delete, writable. A key or data of length 0 may
+ *   be NULL; the image may not.
+ * - Pointers to results (uint32_t *) are not NULL and are aligned.
+ * - What a call writes (the image of create, add and delete; the results)
+ *   overlaps nothing else that is handed to the same call. Two slices that
+ *   are only read may overlap: lookup's key may be a part of its image.
+ * - From the start of a call to its end nobody else writes to its image, key
+ *   or data, and nobody else reads an image that it writes. The calls take no
+ *   lock; the command bhtf shows one way (see LOCKS in bhtf(1)).
+ *
+ * The calls allocate nothing, keep nothing between calls and always return.
+ */
+#ifndef BHTF_H
+#define BHTF_H
+
+#include <stddef.h>
+#include <stdint.h>
+
+#ifdef __cplusplus
+extern "C" {
+#endif
+
+/* ---- limits ---- */
+
+#define BHTF_PAGE 4096u             /* an image's length is a multiple of it */
+#define BHTF_IMAGE_MAX 16777216u    /* bytes in the longest image */
+#define BHTF_KEY_MAX 32u            /* bytes in the longest key */
+#define BHTF_SLOTS_MAX 65536u       /* slots in the largest table */
+#define BHTF_SLOTS_DEFAULT 5507u    /* what create makes of 0 slots */
+#define BHTF_MESSAGE_MAX 16777215u  /* bytes in the longest message */
+#define BHTF_MESSAGE_HEADER 4u      /* bytes that a message takes besides */
+
+/* ---- modes of bhtf_add ---- */
+
+#define BHTF_NEW 1u      /* the key must be absent */
+#define BHTF_REPLACE 2u  /* new data in place of the old */
+#define BHTF_APPEND 3u   /* new data behind the old */
+
+/* ---- answers ---- */
+
+#define BHTF_ACCEPTED 0u
+#define BHTF_BAD_LENGTH 1u     /* image not a multiple of a page, or not from
+                                  one page to BHTF_IMAGE_MAX bytes long */
+#define BHTF_BAD_KEY_SIZE 2u   /* create: key size not from 1 to 32 */
+#define BHTF_BAD_SLOTS 3u      /* create: more than 65,536 slots */
+#define BHTF_TABLE_TOO_BIG 4u  /* create: the table does not fit */
+#define BHTF_BAD_VERSION 5u    /* no such file, or a version unknown here */
+#define BHTF_BAD_HEADER 6u     /* the header's numbers do not fit */
+#define BHTF_BAD_KEY 7u        /* key not of the key size, or all zero */
+#define BHTF_BAD_MODE 8u       /* mode not 1, 2 or 3 */
+#define BHTF_PRESENT 9u        /* mode 1, and the key is there already */
+#define BHTF_TABLE_FULL 10u    /* no slot for another key */
+#define BHTF_DAMAGED 11u       /* the key's message, or the count, is damaged */
+#define BHTF_TOO_LONG 12u      /* message above BHTF_MESSAGE_MAX bytes */
+#define BHTF_NO_ROOM 13u       /* no space left in the image for the message */
+#define BHTF_ABSENT 14u        /* the key is not there */
+
+/* ---- verdicts of bhtf_check ---- */
+
+#define BHTF_SOUND 0u
+#define BHTF_SLOT_FAILS 1u
+#define BHTF_COUNT_FAILS 2u
+
+/* ---- calls ---- */
+
+/* Makes an empty file of the whole image: all image_len bytes are written.
+ * key_size: bytes in every key. slots: keys that the table can hold, 0 for
+ * BHTF_SLOTS_DEFAULT. seed: start of the numbers that scatter keys over the
+ * table; files of one seed, key size, slots and length are equal.
+ * Refused with 1 to 4. */
+uint32_t bhtf_create(uint8_t *image, size_t image_len, uint32_t key_size,
+                     uint32_t slots, uint32_t seed);
+
+/* Stores data under a key. An absent key is entered, in every mode; data of
+ * length 0 then gives a key without a message. Of a key that is there,
+ *   BHTF_NEW      is refused with 9;
+ *   BHTF_REPLACE  writes data in place of the message, over the old bytes
+ *                 where it fits and into new space where not; data of length
+ *                 0 withdraws the message and keeps the key;
+ *   BHTF_APPEND   copies message and data into new space; data of length 0
+ *                 changes nothing.
+ * Space once taken is not handed out again, but for BHTF_REPLACE's.
+ * Reads at most N slots of the table. Refused with 1 and 5 to 13. */
+uint32_t bhtf_add(uint8_t *image, size_t image_len, const uint8_t *key,
+                  size_t key_len, const uint8_t *data, size_t data_len,
+                  uint32_t mode);
+
+/* Takes a key out of the table and withdraws its message; other keys may move
+ * to other slots. Refused with 1, 5, 6, 7, 14 and 11.
+ * Time: in a table of N slots made by these calls it inspects at most 2N - 1
+ * slots. In an arbitrary full table, as a file made by others may hold (a
+ * sound one too), it can be N * N - N + 1. */
+uint32_t bhtf_delete(uint8_t *image, size_t image_len, const uint8_t *key,
+                     size_t key_len);
+
+/* Finds a key's message: *offset is the place of its first byte in the image,
+ * *length its length. Both are 0 when the key has no message, and when
+ * refused. Refused with 1, 5, 6, 7, 14 and 11. */
+uint32_t bhtf_lookup(const uint8_t *image, size_t image_len,
+                     const uint8_t *key, size_t key_len, uint32_t *offset,
+                     uint32_t *length);
+
+/* *count is the number of keys held; 0 when refused with 1, 5 or 6. */
+uint32_t bhtf_count(const uint8_t *image, size_t image_len, uint32_t *count);
+
+/* Finds the first key in slot `from` or above: *slot is its slot and
+ * *key_offset the place of its first byte in the image. *key_offset is 0 when
+ * there is none, and when refused with 1, 5 or 6. To see every key, begin
+ * with 0 and go on from *slot + 1 until *key_offset is 0. */
+uint32_t bhtf_walk(const uint8_t *image, size_t image_len, uint32_t from,
+                   uint32_t *slot, uint32_t *key_offset);
+
+/* Says whether the image is sound: *verdict is BHTF_SOUND when every key is
+ * found by its search in its own slot, every message is whole and the count
+ * is right; BHTF_SLOT_FAILS names in *slot the lowest slot where not;
+ * BHTF_COUNT_FAILS says that only the count is wrong. Each key is searched,
+ * so a damaged full table can take N * N slots. Refused with 1, 5 and 6. */
+uint32_t bhtf_check(const uint8_t *image, size_t image_len,
+                    uint32_t *verdict, uint32_t *slot);
+
+/* What an answer means, in one sentence. Never NULL; not to be freed. */
+const char *bhtf_message(uint32_t number);
+
+#ifdef __cplusplus
+}
+#endif
+
+#endif

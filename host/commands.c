@@ -1,0 +1,353 @@
+/* create, add, delete, get, count, list and check. */
+#include "commands.h"
+
+#include "bhtf.h"
+#include "header.h"
+
+#include <errno.h>
+#include <string.h>
+#include <unistd.h>
+
+/* ---- shared by the commands ---- */
+
+int refuse(const char *file, uint32_t number)
+{
+    complain("%s: refused (%lu): %s", file, (unsigned long)number,
+             bhtf_message(number));
+    return REFUSED;
+}
+
+int refuse_point(const char *file, const char *name, uint32_t number,
+                 uint32_t key_size)
+{
+    if (number == BHTF_BAD_KEY)
+        complain("%s: %s: refused (7): A name in this file has 1 to %lu "
+                 "bytes, not all of them zero.", file, name,
+                 (unsigned long)key_size);
+    else
+        complain("%s: %s: refused (%lu): %s", file, name,
+                 (unsigned long)number, bhtf_message(number));
+    return REFUSED;
+}
+
+int key_from(struct buffer *key, const uint8_t *typed, size_t length,
+             uint32_t key_size)
+{
+    key->length = 0;
+    if (name_read(key, typed, length) != 0)
+        return -1;
+    while (key->length < key_size)
+        if (buffer_put_byte(key, 0) != 0)
+            return -1;
+    return 0;
+}
+
+uint32_t ask_header(const uint8_t *bytes, size_t length, uint32_t *key_size)
+{
+    uint32_t count;
+    uint32_t number = bhtf_count(bytes, length, &count);
+
+    *key_size = number == BHTF_ACCEPTED ? header_read(bytes).key_size : 0;
+    return number;
+}
+
+int copy_accepted(struct buffer *copy, const struct options *o,
+                  uint32_t *key_size)
+{
+    uint32_t number;
+
+    if (image_copy(copy, o->word[0], (unsigned)o->wait) != 0)
+        return TROUBLE;
+    number = ask_header(copy->bytes, copy->length, key_size);
+    return number == BHTF_ACCEPTED ? DONE : refuse(o->word[0], number);
+}
+
+/* Opens a file and makes a key of the second word: DONE, or the status after
+ * a complaint; the file is then closed again. */
+static int open_for_point(struct image *i, struct buffer *key,
+                          const struct options *o, int writing,
+                          uint32_t *key_size)
+{
+    const char *name = o->word[1];
+    uint32_t number;
+    int status = DONE;
+
+    if (image_open(i, o->word[0], writing, (unsigned)o->wait) != 0)
+        return TROUBLE;
+    number = ask_header(i->bytes, i->length, key_size);
+    if (number != BHTF_ACCEPTED)
+        status = refuse(o->word[0], number);
+    else if (key_from(key, (const uint8_t *)name, strlen(name), *key_size) != 0)
+        status = out_of_memory();
+    if (status != DONE)
+        image_close(i);
+    return status;
+}
+
+/* Ends a change of a point: closes the file and says what was refused. */
+static int close_point(struct image *i, const struct options *o,
+                       uint32_t number, uint32_t key_size)
+{
+    int status = image_close(i) == 0 ? DONE : TROUBLE;
+
+    if (number != BHTF_ACCEPTED)
+        return refuse_point(o->word[0], o->word[1], number, key_size);
+    return status;
+}
+
+/* ---- create ---- */
+
+/* Room for the table and 256 bytes a slot, if a file may be that long. */
+static uint64_t usual_size(uint64_t key_size, uint64_t slots)
+{
+    uint64_t size;
+
+    if (slots == 0)
+        slots = BHTF_SLOTS_DEFAULT;
+    if (slots > BHTF_SLOTS_MAX || key_size > BHTF_KEY_MAX)
+        return BHTF_PAGE; /* create will refuse the slots or the key size */
+    size = table_end(key_size, slots) + slots * 256;
+    size = (size + BHTF_PAGE - 1) / BHTF_PAGE * BHTF_PAGE;
+    return size < BHTF_IMAGE_MAX ? size : BHTF_IMAGE_MAX;
+}
+
+static int size_fits(uint64_t size)
+{
+    return size >= BHTF_PAGE && size <= BHTF_IMAGE_MAX && size % BHTF_PAGE == 0;
+}
+
+int run_create(const struct options *o)
+{
+    uint64_t key_size = o->given & OPTION_KEY_SIZE ? o->key_size : 16;
+    uint64_t size = o->given & OPTION_SIZE ? o->size
+                                           : usual_size(key_size, o->slots);
+    struct image i;
+    uint32_t number;
+
+    /* The library's question 1, put before space is taken for it. */
+    if (!size_fits(size))
+        return refuse(o->word[0], BHTF_BAD_LENGTH);
+    if (image_create(&i, o->word[0], (size_t)size) != 0)
+        return TROUBLE;
+    number = bhtf_create(i.bytes, i.length, (uint32_t)key_size,
+                         (uint32_t)o->slots, (uint32_t)o->seed);
+    if (number != BHTF_ACCEPTED) {
+        image_discard(&i);
+        return refuse(o->word[0], number);
+    }
+    if (image_close(&i) == 0)
+        return DONE;
+    unlink(o->word[0]);
+    return TROUBLE;
+}
+
+/* ---- add ---- */
+
+/* The text of add: its third word, or standard input up to one byte more than
+ * any message may have. */
+static int read_text(struct buffer *text, const struct options *o)
+{
+    if (o->words == 3) {
+        if (buffer_put(text, o->word[2], strlen(o->word[2])) != 0)
+            return out_of_memory();
+        return DONE;
+    }
+    if (buffer_read(text, stdin, (size_t)BHTF_MESSAGE_MAX + 1) == 0)
+        return DONE;
+    complain("standard input: cannot be read: %s", strerror(errno));
+    return TROUBLE;
+}
+
+static int add_text(const struct options *o, const struct buffer *text)
+{
+    struct buffer key = { NULL, 0, 0 };
+    struct image i;
+    uint32_t key_size;
+    int status = open_for_point(&i, &key, o, 1, &key_size);
+
+    if (status == DONE) {
+        uint32_t number = bhtf_add(i.bytes, i.length, key.bytes, key.length,
+                                   text->bytes, text->length, mode_of(o));
+
+        status = close_point(&i, o, number, key_size);
+    }
+    buffer_free(&key);
+    return status;
+}
+
+int run_add(const struct options *o)
+{
+    struct buffer text = { NULL, 0, 0 };
+    int status = read_text(&text, o);
+
+    if (status == DONE)
+        status = add_text(o, &text);
+    buffer_free(&text);
+    return status;
+}
+
+/* ---- delete ---- */
+
+int run_delete(const struct options *o)
+{
+    struct buffer key = { NULL, 0, 0 };
+    struct image i;
+    uint32_t key_size;
+    int status = open_for_point(&i, &key, o, 1, &key_size);
+
+    if (status == DONE) {
+        uint32_t number = bhtf_delete(i.bytes, i.length, key.bytes,
+                                      key.length);
+
+        status = close_point(&i, o, number, key_size);
+    }
+    buffer_free(&key);
+    return status;
+}
+
+/* ---- get ---- */
+
+static int print_text(const struct buffer *text, const struct options *o)
+{
+    if (text->length == 0 && !o->quiet)
+        complain("%s: %s: the point has no text", o->word[0], o->word[1]);
+    if (text->length > 0)
+        fwrite(text->bytes, 1, text->length, stdout);
+    if (text->length > 0 && text->bytes[text->length - 1] != '\n' &&
+        isatty(STDOUT_FILENO))
+        putchar('\n');
+    return finish_output(DONE);
+}
+
+int run_get(const struct options *o)
+{
+    struct buffer key = { NULL, 0, 0 };
+    struct buffer text = { NULL, 0, 0 };
+    struct image i;
+    uint32_t key_size, number, offset, length;
+    int status = open_for_point(&i, &key, o, 0, &key_size);
+
+    if (status == DONE) {
+        number = bhtf_lookup(i.bytes, i.length, key.bytes, key.length, &offset,
+                             &length);
+        if (buffer_put(&text, i.bytes + offset, length) != 0)
+            status = out_of_memory();
+        if (status == DONE)
+            status = close_point(&i, o, number, key_size);
+        else
+            image_close(&i);
+    }
+    if (status == DONE)
+        status = print_text(&text, o);
+    buffer_free(&text);
+    buffer_free(&key);
+    return status;
+}
+
+/* ---- count ---- */
+
+int run_count(const struct options *o)
+{
+    struct image i;
+    uint32_t number, count;
+
+    if (image_open(&i, o->word[0], 0, (unsigned)o->wait) != 0)
+        return TROUBLE;
+    number = bhtf_count(i.bytes, i.length, &count);
+    image_close(&i);
+    if (number != BHTF_ACCEPTED)
+        return refuse(o->word[0], number);
+    printf("%lu\n", (unsigned long)count);
+    return finish_output(DONE);
+}
+
+/* ---- list ---- */
+
+/* Slot and length, in front of a name in a long list. */
+static void print_long(const struct buffer *copy, uint32_t slot,
+                       const uint8_t *key, uint32_t key_size)
+{
+    uint32_t offset, length;
+
+    if (bhtf_lookup(copy->bytes, copy->length, key, key_size, &offset,
+                    &length) == BHTF_ACCEPTED)
+        printf("%5lu %8lu ", (unsigned long)slot, (unsigned long)length);
+    else
+        printf("%5lu %8s ", (unsigned long)slot, "bad");
+}
+
+static int print_names(const struct buffer *copy, uint32_t key_size,
+                       int is_long)
+{
+    struct buffer shown = { NULL, 0, 0 };
+    uint32_t slot, place;
+    int done = 0;
+
+    bhtf_walk(copy->bytes, copy->length, 0, &slot, &place);
+    while (place != 0 && done == 0) {
+        const uint8_t *key = copy->bytes + place;
+
+        shown.length = 0;
+        done = name_show(&shown, key, key_size) | buffer_put_byte(&shown, '\n');
+        if (is_long)
+            print_long(copy, slot, key, key_size);
+        fwrite(shown.bytes, 1, shown.length, stdout);
+        bhtf_walk(copy->bytes, copy->length, slot + 1, &slot, &place);
+    }
+    buffer_free(&shown);
+    return done == 0 ? finish_output(DONE) : out_of_memory();
+}
+
+int run_list(const struct options *o)
+{
+    struct buffer copy = { NULL, 0, 0 };
+    uint32_t key_size;
+    int status = copy_accepted(&copy, o, &key_size);
+
+    if (status == DONE)
+        status = print_names(&copy, key_size, (o->given & OPTION_LONG) != 0);
+    buffer_free(&copy);
+    return status;
+}
+
+/* ---- check ---- */
+
+static int print_verdict(const struct buffer *copy, uint32_t key_size,
+                         const struct options *o)
+{
+    const struct header h = header_read(copy->bytes);
+    struct buffer shown = { NULL, 0, 0 };
+    uint32_t verdict, slot;
+
+    bhtf_check(copy->bytes, copy->length, &verdict, &slot);
+    if (verdict == BHTF_SOUND) {
+        if (!o->quiet)
+            printf("sound: %lu %s\n", (unsigned long)h.count,
+                   h.count == 1 ? "point" : "points");
+        return finish_output(DONE);
+    }
+    if (verdict == BHTF_COUNT_FAILS) {
+        printf("unsound: the header's count of %lu points is wrong\n",
+               (unsigned long)h.count);
+        return finish_output(REFUSED);
+    }
+    if (name_show(&shown, copy->bytes + slot_offset(&h, slot), key_size) != 0 ||
+        buffer_put_byte(&shown, '\0') != 0)
+        return out_of_memory();
+    printf("unsound: slot %lu (%s) is not found by its name, or its message "
+           "is damaged\n", (unsigned long)slot, (const char *)shown.bytes);
+    buffer_free(&shown);
+    return finish_output(REFUSED);
+}
+
+int run_check(const struct options *o)
+{
+    struct buffer copy = { NULL, 0, 0 };
+    uint32_t key_size;
+    int status = copy_accepted(&copy, o, &key_size);
+
+    if (status == DONE)
+        status = print_verdict(&copy, key_size, o);
+    buffer_free(&copy);
+    return status;
+}

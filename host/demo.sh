@@ -1,0 +1,97 @@
+#!/usr/bin/env bash
+# Builds the library and the command, and runs the main job on a temporary
+# file: the control points of a small site.
+#   LIB=path   another archive than target/staticlib/libstation.a, from the
+#              repository's root
+#   RT=path    the prover's command, if it is not rt
+#   OUT=path   where to build, from host/; build unless given
+set -euo pipefail
+cd "$(dirname "$0")/.."
+
+say() { printf '\n# %s\n' "$*"; }
+
+# show COMMAND..: prints a command as it would be typed, and runs it
+show() {
+  local word
+  printf '$'
+  for word; do
+    case $word in
+      *[!A-Za-z0-9._/-]*) printf " '%s'" "$word" ;;
+      *) printf ' %s' "$word" ;;
+    esac
+  done
+  printf '\n'
+  "$@"
+}
+
+need() {
+  local missing=()
+  command -v gcc >/dev/null || missing+=(gcc libc6-dev)
+  command -v make >/dev/null || missing+=(make)
+  [ ${#missing[@]} -eq 0 ] && return 0
+  say "Install ${missing[*]}"
+  apt-get update
+  apt-get install -y "${missing[@]}"
+}
+
+# Is the archive missing, or older than a source of it?
+stale() {
+  [ ! -e "$1" ] || [ -n "$(find crates crates.txt -newer "$1" -print -quit)" ]
+}
+
+build() {
+  local archive=${LIB:-target/staticlib/libstation.a}
+  local extra=()
+  if [ -z "${LIB:-}" ] && stale "$archive"; then
+    say "Prove the library and write its archive"
+    "${RT:-rt}" staticlib station
+  fi
+  archive=$(realpath "$archive")
+  if ! nm "$archive" 2>/dev/null | grep -q ' T bhtf_walk$'; then
+    say "The archive has no walk and check yet: they come from the tests' C"
+    extra=(WALK_CHECK=plain)
+  fi
+  say "Build the command"
+  make -s -C host OUT="$out" LIB="$archive" "${extra[@]}"
+}
+
+out=$(cd host && realpath -m "${OUT:-build}")
+need
+build
+work=$(mktemp -d)
+trap 'rm -rf "$work"' EXIT
+PATH=$out:$PATH
+cp host/site.csv "$work"
+cd "$work"
+
+say "An empty file for up to 100 points with names of up to 12 bytes."
+show bhtf create site.bhtf --key-size 12 --slots 100
+
+say "The site's control points, from a CSV file."
+show bhtf import site.bhtf site.csv
+
+say "Two points were destroyed by an excavator, and one was set anew."
+show bhtf delete site.bhtf CP-103
+show bhtf delete site.bhtf RP-WEST
+show bhtf add site.bhtf CP-109 '4482260.870,5351839.412,490.101,nail in kerb'
+
+say "Look one up: easting, northing, height, note."
+show bhtf get site.bhtf CP-107
+echo
+
+say "One that is gone is refused, with status 1."
+show bhtf get site.bhtf CP-103 || echo "status $?"
+
+say "All names, in the order of the table's slots."
+show bhtf list site.bhtf
+
+say "Is every point where its search finds it, and every text whole?"
+show bhtf check site.bhtf
+
+say "How full the file is, and how long its searches are."
+show bhtf stat site.bhtf
+
+say "All points as CSV again: what import read, without the two deleted."
+show bhtf export site.bhtf
+
+say "Done. The file is ordinary bytes; bhtf --help shows the other commands."

@@ -1,0 +1,59 @@
+/* The header's numbers, for what the library has no call for. */
+#include "header.h"
+
+#include "bhtf.h"
+
+enum { SCRAMBLE = 512, TABLE = 2048, OFFSET_SIZE = 4 };
+
+uint32_t read_u32(const uint8_t *at)
+{
+    return (uint32_t)at[0] << 24 | (uint32_t)at[1] << 16 |
+           (uint32_t)at[2] << 8 | (uint32_t)at[3];
+}
+
+struct header header_read(const uint8_t *image)
+{
+    struct header h;
+
+    h.key_size = read_u32(image + 12);
+    h.slots = read_u32(image + 16);
+    h.count = read_u32(image + 20);
+    h.multiplier = read_u32(image + 24);
+    h.start = read_u32(image + 28);
+    h.first = read_u32(image + 32);
+    h.last = read_u32(image + 36);
+    h.data = read_u32(image + 48);
+    h.next = read_u32(image + 52);
+    return h;
+}
+
+uint32_t slot_offset(const struct header *h, uint32_t slot)
+{
+    return TABLE + slot * (h->key_size + OFFSET_SIZE);
+}
+
+uint32_t slot_message(const uint8_t *image, const struct header *h,
+                      uint32_t slot)
+{
+    return read_u32(image + slot_offset(h, slot) + h->key_size);
+}
+
+uint32_t home_slot(const uint8_t *image, const struct header *h,
+                   const uint8_t *key)
+{
+    uint32_t hash = h->start;
+
+    for (uint32_t i = 0; i < h->key_size; i++) {
+        hash *= h->multiplier;
+        if (h->first <= key[i] && key[i] <= h->last)
+            hash ^= read_u32(image + SCRAMBLE + 4 * (key[i] - h->first));
+    }
+    return hash % h->slots;
+}
+
+uint64_t table_end(uint64_t key_size, uint64_t slots)
+{
+    uint64_t end = TABLE + slots * (key_size + OFFSET_SIZE);
+
+    return (end + BHTF_PAGE - 1) / BHTF_PAGE * BHTF_PAGE;
+}

@@ -1,0 +1,38 @@
+/* The header's numbers, for what the library has no call for. */
+#ifndef HEADER_H
+#define HEADER_H
+
+#include <stdint.h>
+
+struct header {
+    uint32_t key_size;
+    uint32_t slots;
+    uint32_t count;
+    uint32_t multiplier;
+    uint32_t start;
+    uint32_t first;
+    uint32_t last;
+    uint32_t data;
+    uint32_t next;
+};
+
+/* Only for an image that bhtf_count has accepted. */
+struct header header_read(const uint8_t *image);
+
+/* Where the table's slots begin, and a slot's length in bytes. */
+uint32_t slot_offset(const struct header *h, uint32_t slot);
+
+/* The number of a slot's message offset; 0 for no message. */
+uint32_t slot_message(const uint8_t *image, const struct header *h,
+                      uint32_t slot);
+
+/* The slot where a key's search begins. */
+uint32_t home_slot(const uint8_t *image, const struct header *h,
+                   const uint8_t *key);
+
+/* Bytes that the header and a table of these sizes take: the data offset. */
+uint64_t table_end(uint64_t key_size, uint64_t slots);
+
+uint32_t read_u32(const uint8_t *at);
+
+#endif

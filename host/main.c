@@ -1,0 +1,60 @@
+/* bhtf: keeps control points in a file. */
+#include "commands.h"
+
+#include <signal.h>
+#include <string.h>
+
+#ifndef VERSION
+#define VERSION "unknown"
+#endif
+
+/* Words that stand in a command's place; -1 if the word is none of them. */
+static int run_word(const char *word)
+{
+    if (strcmp(word, "--help") == 0 || strcmp(word, "-h") == 0 ||
+        strcmp(word, "help") == 0) {
+        help_print(stdout);
+        return finish_output(DONE);
+    }
+    if (strcmp(word, "--version") == 0) {
+        puts("bhtf " VERSION ", file format 1.0.1");
+        return finish_output(DONE);
+    }
+    return -1;
+}
+
+static int run_command(const struct command *command, int count, char **words)
+{
+    struct options o;
+    int status = options_read(&o, command, count, words);
+
+    if (status != DONE)
+        return status;
+    if (o.help) {
+        fputs(command->help, stdout);
+        return finish_output(DONE);
+    }
+    return command->run(&o);
+}
+
+int main(int argc, char **argv)
+{
+    const struct command *command;
+    int status;
+
+    /* A limit on the length of files is then an error like a full disk. */
+    signal(SIGXFSZ, SIG_IGN);
+    if (argc < 2) {
+        help_print(stderr);
+        return TROUBLE;
+    }
+    status = run_word(argv[1]);
+    if (status >= 0)
+        return status;
+    command = command_find(argv[1]);
+    if (command == NULL) {
+        complain("there is no command %s; see bhtf --help", argv[1]);
+        return TROUBLE;
+    }
+    return run_command(command, argc - 2, argv + 2);
+}

@@ -1,0 +1,27 @@
+/* The answers of bhtf.h in words. */
+#include "bhtf.h"
+
+static const char *const sentences[] = {
+    "The call was accepted.",
+    "The file's length is not a multiple of 4,096 from 4,096 to 16,777,216.",
+    "The key size is not from 1 to 32 bytes.",
+    "The table would have more than 65,536 slots.",
+    "The table does not fit into a file of this length.",
+    "This is not a control point file of version 1.0.0 or 1.0.1.",
+    "The file's header is damaged: its numbers do not fit together.",
+    "The name does not have the file's key size, or is all zero bytes.",
+    "The mode is not 1 (new), 2 (replace) or 3 (append).",
+    "There already is a point of that name.",
+    "The table is full: there is no slot for another point.",
+    "The point's message or the file's count of points is damaged.",
+    "The message would be longer than 16,777,215 bytes.",
+    "There is no room left in the file for the message.",
+    "There is no point of that name."
+};
+
+const char *bhtf_message(uint32_t number)
+{
+    if (number < sizeof sentences / sizeof sentences[0])
+        return sentences[number];
+    return "The answer is a number unknown to this version.";
+}

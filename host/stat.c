@@ -1,0 +1,163 @@
+/* stat: how full a file is, how long its searches are, what is dead in it. */
+#include "commands.h"
+
+#include "bhtf.h"
+#include "header.h"
+
+#include <string.h>
+
+/* Rows of the histogram: 1, 2, 3-4, 5-8 and so on up to 65,536. */
+enum { ROWS = 17, BAR = 40 };
+
+struct figures {
+    uint32_t points;          /* taken slots */
+    uint32_t rows[ROWS];      /* points by the slots that a search reads */
+    uint32_t longest;
+    uint64_t total;           /* slots read to find each point once */
+    uint64_t active;          /* bytes of active messages and their headers */
+    uint64_t withdrawn;       /* bytes of inactive ones that a point keeps */
+    uint32_t bad;             /* points whose message is damaged */
+};
+
+static int row_of(uint32_t probes)
+{
+    int row = 0;
+
+    while (row < ROWS - 1 && (UINT32_C(1) << row) < probes)
+        row++;
+    return row;
+}
+
+static void note_search(struct figures *f, uint32_t probes)
+{
+    f->rows[row_of(probes)]++;
+    f->total += probes;
+    if (probes > f->longest)
+        f->longest = probes;
+}
+
+/* Question 11 for a slot's own message. */
+static void note_message(struct figures *f, const uint8_t *image,
+                         const struct header *h, uint32_t offset)
+{
+    uint32_t length;
+
+    if (offset == 0)
+        return;
+    if (offset < h->data || offset > h->next - BHTF_MESSAGE_HEADER) {
+        f->bad++;
+        return;
+    }
+    length = read_u32(image + offset) & 0xFFFFFFu;
+    if (length < 1 || length > h->next - offset - BHTF_MESSAGE_HEADER)
+        f->bad++;
+    else if (image[offset] == 'a')
+        f->active += BHTF_MESSAGE_HEADER + length;
+    else if (image[offset] == 'd')
+        f->withdrawn += BHTF_MESSAGE_HEADER + length;
+    else
+        f->bad++;
+}
+
+static void gather(struct figures *f, const struct buffer *copy,
+                   const struct header *h)
+{
+    uint32_t slot, place;
+
+    memset(f, 0, sizeof *f);
+    bhtf_walk(copy->bytes, copy->length, 0, &slot, &place);
+    while (place != 0) {
+        uint32_t home = home_slot(copy->bytes, h, copy->bytes + place);
+        uint32_t steps = slot >= home ? slot - home : slot + h->slots - home;
+
+        f->points++;
+        note_search(f, steps + 1);
+        note_message(f, copy->bytes, h, slot_message(copy->bytes, h, slot));
+        bhtf_walk(copy->bytes, copy->length, slot + 1, &slot, &place);
+    }
+}
+
+static void print_row(const struct figures *f, int row, uint32_t most)
+{
+    unsigned long last = 1UL << row;
+    unsigned long first = row < 2 ? last : last / 2 + 1;
+    uint64_t points = f->rows[row];
+    int bar = most == 0 ? 0 : (int)((points * BAR + most - 1) / most);
+    char range[32];
+
+    if (first == last)
+        snprintf(range, sizeof range, "%lu", first);
+    else
+        snprintf(range, sizeof range, "%lu-%lu", first, last);
+    printf("  %11s %6lu ", range, (unsigned long)points);
+    while (bar-- > 0)
+        putchar('#');
+    putchar('\n');
+}
+
+static void print_searches(const struct figures *f)
+{
+    uint32_t most = 0;
+    int last = row_of(f->longest);
+
+    if (f->points == 0)
+        return;
+    for (int row = 0; row < ROWS; row++)
+        most = f->rows[row] > most ? f->rows[row] : most;
+    printf("slots read to find a point: %.2f on average, %lu at most\n",
+           (double)f->total / f->points, (unsigned long)f->longest);
+    printf("  %11s %6s\n", "slots read", "points");
+    for (int row = 0; row <= last; row++)
+        print_row(f, row, most);
+}
+
+static void print_space(const struct figures *f, const struct header *h,
+                        size_t length)
+{
+    uint64_t used = h->next - h->data;
+
+    printf("data: %lu bytes, %lu used, %lu free\n",
+           (unsigned long)(length - h->data), (unsigned long)used,
+           (unsigned long)(length - h->next));
+    if (f->active + f->withdrawn > used)
+        printf("dead: unknown, since messages share bytes\n");
+    else
+        printf("dead: %lu bytes, of which %lu are kept by points without a "
+               "text\n", (unsigned long)(used - f->active),
+               (unsigned long)f->withdrawn);
+}
+
+static int print_figures(const struct buffer *copy)
+{
+    const struct header h = header_read(copy->bytes);
+    struct figures f;
+    int sound;
+
+    gather(&f, copy, &h);
+    sound = f.bad == 0 && f.points == h.count;
+    printf("file: %lu bytes, key size %lu\n", (unsigned long)copy->length,
+           (unsigned long)h.key_size);
+    printf("load: %lu points in %lu slots, %.1f %%\n",
+           (unsigned long)f.points, (unsigned long)h.slots,
+           100.0 * f.points / h.slots);
+    print_space(&f, &h, copy->length);
+    print_searches(&f);
+    if (f.points != h.count)
+        printf("damaged: the header counts %lu points\n",
+               (unsigned long)h.count);
+    if (f.bad > 0)
+        printf("damaged: the messages of %lu points\n", (unsigned long)f.bad);
+    return finish_output(sound ? DONE : REFUSED);
+}
+
+int run_stat(const struct options *o)
+{
+    struct buffer copy = { NULL, 0, 0 };
+    uint32_t key_size;
+    int status = copy_accepted(&copy, o, &key_size);
+
+    if (status == DONE)
+        status = print_figures(&copy);
+    buffer_free(&copy);
+    return status;
+}

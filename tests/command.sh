@@ -1,0 +1,632 @@
+#!/usr/bin/env bash
+# End to end tests of the command bhtf. A line for each test; the last line is
+# 'N passed, M failed', and the status 0 only if M is 0.
+#   LIB=path          the library, from the repository's root;
+#                     target/staticlib/libstation.a unless given
+#   LDLIBS=..         if it needs more
+#   WALK_CHECK=plain  walk and check from the plain C of tests/reference, for
+#                     an archive without them
+#   STANDIN=yes       that C in the library's place
+set -u
+cd "$(dirname "$0")/.." || exit 2
+root=$PWD
+
+passed=0
+failed=0
+work=$(mktemp -d)
+mounted=
+helpers=()
+
+clean_up() {
+  local pid
+  for pid in "${helpers[@]}"; do kill "$pid" 2>/dev/null; done
+  [ -n "$mounted" ] && umount "$mounted" 2>/dev/null
+  rm -rf "$work"
+}
+trap clean_up EXIT
+
+pass() { passed=$((passed + 1)); echo "ok: $1"; }
+fail() { failed=$((failed + 1)); echo "FAILED: $1"; [ -z "${2:-}" ] || echo "  $2"; }
+
+# holds NAME COMMAND..: passes if the command does
+holds() {
+  local name=$1
+  shift
+  if "$@" >"$work/out" 2>&1; then pass "$name"; else fail "$name" "$(tail -n 3 "$work/out")"; fi
+}
+
+printed() { if [ -z "$1" ]; then [ ! -s "$work/out" ]; else grep -aqE -- "$1" "$work/out"; fi; }
+
+# gives NAME STATUS PATTERN COMMAND..: status, and the pattern in what is
+# printed; '' if nothing may be
+gives() {
+  local name=$1 status=$2 pattern=$3 got
+  shift 3
+  "$@" >"$work/out" 2>&1
+  got=$?
+  if [ "$got" -eq "$status" ] && printed "$pattern"; then
+    pass "$name"
+  else
+    fail "$name" "status $got: $(head -c 300 "$work/out" | tr -d '\0')"
+  fi
+}
+
+# same NAME EXPECTED ACTUAL
+same() { if [ "$2" = "$3" ]; then pass "$1"; else fail "$1" "expected '$2', got '$3'"; fi; }
+
+# until COMMAND..: waits up to 10 s for it to succeed
+until_true() {
+  local i
+  for i in $(seq 1000); do
+    "$@" >/dev/null 2>&1 && return 0
+    sleep 0.01
+  done
+  return 1
+}
+
+# ---- building ----
+
+settings=()
+[ -n "${LIB:-}" ] && settings+=(LIB="$(realpath "$LIB")")
+[ -n "${LDLIBS:-}" ] && settings+=(LDLIBS="$LDLIBS")
+[ -n "${WALK_CHECK:-}" ] && settings+=(WALK_CHECK="$WALK_CHECK")
+[ -n "${STANDIN:-}" ] && settings+=(STANDIN="$STANDIN")
+
+holds "builds with gcc" make -C host OUT="$work/gcc" CC=gcc "${settings[@]}"
+[ -x "$work/gcc/bhtf" ] || { cat "$work/out"; echo "$passed passed, $failed failed"; exit 1; }
+if command -v clang >/dev/null; then
+  holds "builds with clang" make -C host OUT="$work/clang" CC=clang "${settings[@]}"
+fi
+holds "builds with sanitizers" \
+  make -C host OUT="$work/sanitize" SANITIZE=yes "${settings[@]}"
+holds "the lock holder builds" gcc -std=c99 -D_POSIX_C_SOURCE=200809L -Wall -Wextra -Werror \
+  -pedantic tests/locker.c -o "$work/locker"
+PATH=$work/gcc:$PATH
+
+header_compiles() {
+  echo '#include "bhtf.h"
+int main(void) { return bhtf_message(BHTF_ABSENT) == 0; }' >"$work/uses$1"
+  # shellcheck disable=SC2086
+  "${@:2}" -Wall -Wextra -Werror -pedantic -Ihost "$work/uses$1" "$work/gcc/libbhtf.a" ${LDLIBS:-} -o "$work/uses" &&
+    "$work/uses"
+}
+holds "the header is C99" header_compiles .c gcc -std=c99
+if command -v g++ >/dev/null; then
+  holds "the header is C++" header_compiles .cc g++ -std=c++98
+fi
+
+installs() {
+  make -C host OUT="$work/gcc" "${settings[@]}" install PREFIX="$work/usr" || return 1
+  local file
+  for file in bin/bhtf include/bhtf.h lib/libbhtf.a lib/pkgconfig/bhtf.pc share/man/man1/bhtf.1; do
+    [ -s "$work/usr/$file" ] || { echo "no $file"; return 1; }
+  done
+  "$work/usr/bin/bhtf" --version
+}
+holds "installs" installs
+if command -v pkg-config >/dev/null; then
+  through_pkg_config() {
+    # shellcheck disable=SC2046
+    gcc -std=c99 "$work/uses.c" -o "$work/uses" \
+      $(PKG_CONFIG_PATH="$work/usr/lib/pkgconfig" pkg-config --cflags --libs bhtf) && "$work/uses"
+  }
+  holds "a program builds with pkg-config" through_pkg_config
+fi
+if command -v mandoc >/dev/null; then
+  holds "the man page passes mandoc" mandoc -Tlint host/bhtf.1
+fi
+if command -v man >/dev/null; then
+  man_is_clean() { [ -z "$(man --warnings -l host/bhtf.1 2>&1 >/dev/null)" ]; }
+  holds "the man page has no warnings" man_is_clean
+fi
+
+gives "the demonstration runs" 0 '^sound: 11 points$' \
+  env LIB="$work/gcc/libbhtf.a" OUT="$work/demo" host/demo.sh
+
+cd "$work" || exit 2
+
+# ---- help and usage ----
+
+gives "--help" 0 'bhtf create FILE' bhtf --help
+gives "--version" 0 '^bhtf [0-9.]+, file format 1\.0\.1$' bhtf --version
+gives "no command" 2 'bhtf create FILE' bhtf
+gives "unknown command" 2 'no command frob' bhtf frob
+for command in create add delete get count list check stat import export; do
+  gives "$command --help" 0 "^bhtf $command FILE" bhtf $command --help
+  gives "$command without arguments" 2 'too few arguments' bhtf $command
+  gives "$command with an unknown option" 2 'unknown option --frob' bhtf $command x --frob
+  gives "$command with too many arguments" 2 'too many' bhtf $command a b c d
+done
+gives "an option of another command" 2 'unknown option --slots' bhtf count x --slots 4
+gives "a number that is none" 2 'needs a number' bhtf create x --slots 4x
+gives "a number too large" 2 'needs a number' bhtf create x --seed 4294967296
+gives "a number left out" 2 'needs a number' bhtf create x --seed
+gives "replace and append" 2 'not both' bhtf add x y z --replace --append
+gives "no such file" 2 'No such file' bhtf count nowhere
+gives "a directory" 2 'not a regular file' bhtf count .
+gives "a device" 2 'not a regular file' bhtf count /dev/null
+gives "output to a full device" 2 'cannot write' sh -c 'bhtf --help >/dev/full'
+
+# ---- create ----
+
+gives "create" 0 '' bhtf create a
+gives "a new file is sound" 0 '^sound: 0 points$' bhtf check a
+gives "a new file has no points" 0 '^0$' bhtf count a
+gives "create leaves an existing file alone" 2 'already is a file' bhtf create a
+gives "the existing file is as it was" 0 '^sound: 0 points$' bhtf check a
+gives "refused 1 at create" 1 'refused \(1\)' bhtf create b --size 4095
+gives "refused 1 above the limit" 1 'refused \(1\)' bhtf create b --size 16781312
+gives "refused 2 at create" 1 'refused \(2\)' bhtf create b --key-size 33
+gives "refused 2 for key size 0" 1 'refused \(2\)' bhtf create b --key-size=0
+gives "refused 3 at create" 1 'refused \(3\)' bhtf create b --slots 65537
+gives "refused 4 at create" 1 'refused \(4\)' bhtf create b --slots 5507 --size 4096
+gives "create in no directory" 2 'cannot create' bhtf create no/b
+holds "no file is left behind" test ! -e b
+gives "create with every option" 0 '' \
+  bhtf create b --key-size 4 --slots=256 --seed 0xFFFFFFFF --size 8192
+same "its length" 8192 "$(stat -c %s b)"
+gives "the largest file" 0 '' bhtf create big --slots 65536 --key-size 32
+same "its length" 16777216 "$(stat -c %s big)"
+gives "the largest file is sound" 0 'sound: 0' bhtf check big
+bhtf create c --key-size 4 --slots 256 --seed 4294967295 --size 8192
+holds "equal arguments make equal files" cmp b c
+rm -f b c big
+
+# ---- add, get, delete ----
+
+gives "add" 0 '' bhtf add a CP-1 'first text'
+same "get" 'first text' "$(bhtf get a CP-1)"
+gives "refused 9" 1 'refused \(9\).*already' bhtf add a CP-1 again
+same "the refused add changed nothing" 'first text' "$(bhtf get a CP-1)"
+gives "replace by a shorter text" 0 '' bhtf add a CP-1 short --replace
+same "the shorter text" short "$(bhtf get a CP-1)"
+gives "append" 0 '' bhtf add --append a CP-1 ' and long'
+same "the appended text" 'short and long' "$(bhtf get a CP-1)"
+gives "an empty text" 0 '' bhtf add a CP-2 ''
+gives "a point without a text" 0 'has no text' bhtf get a CP-2
+same "--quiet says nothing of it" '' "$(bhtf get a CP-2 --quiet 2>&1)"
+gives "withdraw a text" 0 '' bhtf add a CP-1 '' --replace
+gives "the text is withdrawn" 0 'has no text' bhtf get a CP-1
+head -c 70000 /dev/urandom >bytes
+gives "a text from standard input" 0 '' sh -c 'bhtf add a bytes <bytes'
+bhtf get a bytes >got
+holds "bytes come back as they were" cmp bytes got
+gives "an argument behind --" 0 '' bhtf add a -- --name --text
+same "its text" --text "$(bhtf get a -- --name)"
+gives "a text with one minus" 0 '' bhtf add a minus -12.5
+gives "refused 14 at get" 1 'refused \(14\).*no point' bhtf get a nobody
+gives "refused 14 at delete" 1 'refused \(14\)' bhtf delete a nobody
+gives "refused 7, name too long" 1 'refused \(7\).*1 to 16 bytes' bhtf add a 12345678901234567 x
+gives "refused 7, empty name" 1 'refused \(7\)' bhtf get a ''
+gives "refused 7, zero bytes" 1 'refused \(7\)' bhtf delete a '\x00\x00'
+gives "a name of the whole key size" 0 '' bhtf add a 1234567890123456 x
+gives "delete" 0 '' bhtf delete a CP-2
+gives "it is gone" 1 'refused \(14\)' bhtf get a CP-2
+gives "count" 0 '^5$' bhtf count a
+gives "the file is sound" 0 '^sound: 5 points$' bhtf check a
+same "check --quiet" '' "$(bhtf check a --quiet)"
+
+bhtf create tiny --key-size 1 --slots 2 --size 8192
+bhtf add tiny a x
+bhtf add tiny b x
+gives "refused 10" 1 'refused \(10\).*full' bhtf add tiny c x
+bhtf delete tiny b
+gives "refused 13" 1 'refused \(13\).*room' sh -c 'head -c 5000 /dev/zero | bhtf add tiny c'
+gives "refused 12" 1 'refused \(12\).*longer' sh -c 'head -c 16777216 /dev/zero | bhtf add tiny c'
+gives "the refused points are not there" 0 '^1$' bhtf count tiny
+
+# ---- names ----
+
+bhtf create names
+bhtf add names 'back\slash' 1
+bhtf add names 'a\x01\xFFb' 2
+bhtf add names 'plain name' 3
+bhtf add names 'z\x00y' 4
+expected='a\x01\xFFb
+back\x5Cslash
+plain name
+z\x00y'
+same "names are listed with escapes" "$expected" "$(bhtf list names | LC_ALL=C sort)"
+same "a listed name is found again" 1 "$(bhtf get names 'back\x5Cslash')"
+gives "list --long" 0 '^ *[0-9]+ +1 plain name$' bhtf list names --long
+bhtf export names >names.csv
+bhtf create names2
+gives "names are exported and imported" 0 '4 points stored' bhtf import names2 names.csv
+same "they are the same" "$expected" "$(bhtf list names2 | LC_ALL=C sort)"
+
+# ---- stat ----
+
+gives "stat: load" 0 'load: 4 points in 5507 slots, 0\.1 %' bhtf stat names
+gives "stat: histogram" 0 '^ +1 +4 #+$' bhtf stat names
+bhtf add names big 0123456789
+bhtf delete names big
+gives "stat: dead bytes" 0 'dead: 14 bytes' bhtf stat names
+
+# ---- import and export ----
+
+printf '%s\r\n' 'Name,Easting,Northing,Height,Note' 'P1,1.50,2.25,3,"a, b"' \
+  'P2,-1,2,3,"say ""yes"""' '' 'P3,,,,' '"P,4","1",2,3,plain' 'P5,1,2,3,"two' 'lines"' >crlf.csv
+bhtf create csv
+gives "import with quotes, commas and CRLF" 0 '^5 points stored$' bhtf import csv crlf.csv
+same "the text of a point" '1.50,2.25,3,"a, b"' "$(bhtf get csv P1)"
+gives "four empty fields are no text" 0 'has no text' bhtf get csv P3
+printf '%s\r\n' '"P,4",1,2,3,plain' 'P1,1.50,2.25,3,"a, b"' 'P2,-1,2,3,"say ""yes"""' \
+  'P3,,,,' 'P5,1,2,3,"two' 'lines"' 'name,easting,northing,height,note' | LC_ALL=C sort >expected
+bhtf export csv --crlf | LC_ALL=C sort >got
+holds "export gives back what import read" cmp expected got
+bhtf export csv >out1
+bhtf create csv2
+bhtf import csv2 out1 --quiet
+bhtf export csv2 >out2
+holds "export, import, export" cmp out1 out2
+bhtf add csv note 'free, text'
+gives "another text comes out as a note" 0 '^note,,,,"free, text"$' bhtf export csv
+bhtf create csv3
+gives "import from standard input" 0 '5 points' sh -c 'bhtf import csv3 - <out1'
+same "import --quiet" '' "$(bhtf import csv3 out1 --replace --quiet)"
+printf '\357\273\277name,easting,northing,height,note\nB1,1,2,3,last line without end' >bom.csv
+gives "a byte order mark" 0 '^1 point stored$' bhtf import csv3 bom.csv
+same "the last line" '1,2,3,last line without end' "$(bhtf get csv3 B1)"
+printf 'A1,1,2,3,\nA2,1,2,3,\nP1,9,9,9,\nA3,1,2,3,\n' >half.csv
+gives "an import stops at a refused line" 1 'line 3: P1: refused \(9\)' bhtf import csv half.csv
+gives "what it stored is there" 0 '1,2,3,' bhtf get csv A2
+gives "what is behind is not" 1 'refused \(14\)' bhtf get csv A3
+bhtf create half
+bhtf add half P1 x
+gives "the number of points stored" 1 'stopped: 2 points stored in half' bhtf import half half.csv
+gives "import --replace" 0 '4 points' bhtf import csv half.csv --replace
+same "the replaced text" '9,9,9,' "$(bhtf get csv P1)"
+printf 'A1,1,2,3,"open\n' >bad.csv
+gives "a quote left open" 2 'line 1: .*no closing quote' bhtf import csv bad.csv
+printf 'X1,1,2,3,\nA1,1,2,3,"a"b\n' >bad.csv
+gives "text behind a quote" 2 'line 2: .*behind a closing quote' bhtf import csv bad.csv
+gives "the line in front of it is stored" 0 '1,2,3,' bhtf get csv X1
+printf 'A1,1,2,3\n' >bad.csv
+gives "four fields" 2 'line 1: .*five fields' bhtf import csv bad.csv
+printf 'A1,1,2,3,4,5\n' >bad.csv
+gives "six fields" 2 'line 1: .*five fields' bhtf import csv bad.csv
+printf 'name,northing,easting,height,note\n' >bad.csv
+gives "another heading" 2 'heading must be' bhtf import csv bad.csv
+printf 'a name that is too long,1,2,3,\n' >bad.csv
+gives "a name too long" 1 'line 1: a name that is too long: refused \(7\)' bhtf import csv bad.csv
+gives "no such CSV" 2 'No such file' bhtf import csv nowhere.csv
+gives "a file into itself" 2 'into itself' bhtf import csv csv
+: >empty.csv
+gives "an empty CSV" 0 '^0 points stored$' bhtf import csv empty.csv
+gives "after all this the file is sound" 0 '^sound' bhtf check csv
+seq 5507 | sed 's/.*/N&,&.125,-&.5,1e3,"n, ""&"""/' >full.csv
+bhtf create full --slots 5507
+gives "import fills a table" 0 '^5507 points' bhtf import full full.csv
+bhtf export full | tail -n +2 | LC_ALL=C sort >got
+LC_ALL=C sort full.csv >expected
+holds "a full table comes back" cmp expected got
+gives "one more is refused" 1 'refused \(10\)' bhtf add full more x
+gives "the full table is sound" 0 'sound: 5507' bhtf check full
+for i in $(seq 1 40); do bhtf delete full "N$((i * 137))"; done
+gives "after 40 deletions it is sound" 0 'sound: 5467' bhtf check full
+
+# ---- files that are refused or damaged ----
+
+: >empty
+head -c 4095 a >short
+head -c 8192 /dev/zero >zeros
+head -c 8192 /dev/urandom >random
+head -c 114688 a >clipped
+head -c 16781312 /dev/zero >long
+cp a version
+printf '\001\000\002' | dd of=version bs=1 seek=5 conv=notrunc status=none
+cp a header
+printf '\377' | dd of=header bs=1 seek=16 conv=notrunc status=none
+while read -r number file; do
+  for words in 'count' 'list' 'check' 'stat' 'export' 'get:n' 'delete:n' 'add:n:t' 'import:out1'; do
+    IFS=: read -r command one two <<<"$words"
+    cp "$file" before
+    gives "$file: $command refused $number" 1 "refused \\($number\\)" \
+      bhtf "$command" "$file" ${one:+"$one"} ${two:+"$two"}
+    cmp -s before "$file" || fail "$file: $command changed it"
+  done
+done <<'LIST'
+1 empty
+1 short
+1 long
+5 zeros
+5 random
+5 version
+6 clipped
+6 header
+LIST
+cp tiny damaged
+# The offset of the first slot that is taken, behind its key of one byte.
+slot=$(bhtf list damaged --long | awk '{print $1}')
+printf '\000\000\000\001' | dd of=damaged bs=1 seek=$((2048 + slot * 5 + 1)) conv=notrunc status=none
+for words in get delete; do
+  gives "refused 11 at $words" 1 'refused \(11\).*damaged' bhtf $words damaged a
+done
+gives "refused 11 at add" 1 'refused \(11\)' bhtf add damaged a x --replace
+gives "check names the slot" 1 "unsound: slot $slot \\(a\\)" bhtf check damaged
+gives "list --long says bad" 0 'bad a$' bhtf list damaged --long
+gives "export leaves it out" 1 'a: left out' bhtf export damaged
+gives "stat says damaged" 1 'damaged' bhtf stat damaged
+cp a damaged
+printf '\000\000\000\011' | dd of=damaged bs=1 seek=20 conv=notrunc status=none
+gives "check names the count" 1 'count of 9 points is wrong' bhtf check damaged
+
+# Random damage, under the sanitizers: status 0 or 1 and no report.
+bhtf create site --key-size 8 --slots 31 --size 12288
+bhtf import site "$root/host/site.csv" --quiet
+clean_status() {
+  ASAN_OPTIONS=exitcode=99 UBSAN_OPTIONS=exitcode=99 timeout 60 "$work/sanitize/bhtf" "$@" \
+    >/dev/null 2>"$work/errors" </dev/null
+  local status=$?
+  [ $status -le 1 ] && ! grep -qE 'Sanitizer|runtime error' "$work/errors" && return 0
+  echo "status $status: $*"
+  cat "$work/errors"
+  return 1
+}
+damage() {
+  local i place
+  for _ in $(seq 40); do
+    cp site hurt
+    for i in $(seq $((RANDOM % 6 + 1))); do
+      case $((RANDOM % 3)) in
+        0) place=$((RANDOM % 64)) ;;
+        1) place=$((2048 + RANDOM % 372)) ;;
+        *) place=$((4096 + RANDOM % 900)) ;;
+      esac
+      printf '%b' "\\x$(printf %02x $((RANDOM % 256)))" |
+        dd of=hurt bs=1 seek=$place conv=notrunc status=none
+    done
+    for words in 'count' 'list:--long' 'check' 'stat' 'export' 'get:CP-101' 'add:CP-102:more:--append' \
+      'add:CP-104:0:--replace' 'add:new:text' 'delete:CP-105' 'delete:BM-1' 'import:'"$root/host/site.csv"':--replace'; do
+      IFS=: read -r command one two three <<<"$words"
+      clean_status "$command" hurt ${one:+"$one"} ${two:+"$two"} ${three:+"$three"} || return 1
+    done
+  done
+}
+RANDOM=1
+holds "damaged files under the sanitizers" damage
+refused_cleanly() {
+  local file
+  for file in empty short zeros random clipped version header; do
+    clean_status stat $file && clean_status import $file out1 && clean_status list $file || return 1
+  done
+}
+holds "refused files under the sanitizers" refused_cleanly
+csv_cleanly() {
+  clean_status import csv full.csv --replace && clean_status export csv &&
+    clean_status import site bad.csv && clean_status create fresh --size 16384 --slots 9
+}
+holds "import and export under the sanitizers" csv_cleanly
+
+# ---- locks ----
+
+mkfifo hold reply
+lock() { # FILE KIND: another program's lock on the whole file
+  ./locker "$1" "$2" <hold >reply &
+  locker=$!
+  helpers+=("$locker")
+  exec 8>hold
+  read -r _ <reply
+}
+unlock() {
+  exec 8>&-
+  wait "$locker"
+}
+lock a write
+gives "a reader waits for another program's lock, and says so" 2 \
+  "still locked by process $locker \\(writing\\) after 1 s" bhtf count a --wait 1
+gives "so does a writer" 2 'still locked by process' bhtf add a locked x --wait 0
+(bhtf count a --wait 20 >waited; echo $? >>waited) 8>&- &
+waiter=$!
+helpers+=("$waiter")
+sleep 0.3
+unlock
+wait "$waiter"
+same "a waiting reader goes on when the lock is given back" "5
+0" "$(cat waited)"
+lock a read
+gives "readers read side by side" 0 '^5$' bhtf count a --wait 0
+gives "a writer waits for readers" 2 '\(reading\)' bhtf add a locked x --wait 0
+unlock
+
+mkfifo feed
+start_import() { # FILE: an import that waits for its input
+  bhtf import "$1" feed >import.out 2>import.err &
+  importer=$!
+  helpers+=("$importer")
+  exec 9>feed
+}
+feed() { seq "$1" "$2" | sed 's/.*/F&,&,&,&,/' >&9; }
+has() { [ "$(bhtf count "$1")" -ge "$2" ]; }
+bhtf create shared
+start_import shared
+feed 1 600
+holds "readers see points of an import under way" until_true has shared 256
+gives "there is one writer" 2 'still locked' bhtf add shared other x --wait 0
+gives "the file is sound for readers" 0 sound bhtf check shared --wait 0
+exec 9>&-
+wait "$importer"
+same "the import ends" 0 $?
+gives "a later writer gets the lock" 0 '' bhtf add shared other x --wait 0
+gives "all points are there" 0 'sound: 601' bhtf check shared
+
+# A reader whose output nobody takes.
+mkfifo stuck
+bhtf export full >stuck &
+reader=$!
+helpers+=("$reader")
+exec 7<stuck
+read -r _ <&7
+gives "a reader that cannot print keeps no lock" 0 '' bhtf add full stuck x --wait 1
+kill "$reader"
+wait "$reader" 2>/dev/null
+exec 7<&-
+
+# A writer and several readers at once: no reader may see half a change.
+a_text=$(printf 'a%.0s' $(seq 3000))
+b_text=$(printf 'b%.0s' $(seq 3000))
+bhtf create busy --slots 5507
+bhtf add busy both "$a_text"
+writer() {
+  local i
+  for i in $(seq 40); do
+    bhtf add busy both "$b_text" --replace || return 1
+    bhtf add busy "W$i" "$i" || return 1
+    bhtf add busy both "$a_text" --replace || return 1
+    [ $((i % 10)) -ne 0 ] || bhtf delete busy "W$((i - 5))" || return 1
+  done
+  seq 3000 | sed 's/.*/I&,&,&,&,/' | bhtf import busy - --quiet
+}
+reader() {
+  local text
+  while [ ! -e writer.done ]; do
+    bhtf check busy --quiet || return 1
+    text=$(bhtf get busy both) || return 1
+    [ "$text" = "$a_text" ] || [ "$text" = "$b_text" ] || { echo "mixed text"; return 1; }
+    bhtf export busy >/dev/null && bhtf list busy >/dev/null || return 1
+    echo >>"rounds.$1"
+  done
+}
+side_by_side() {
+  local i pids=() status=0
+  for i in 1 2 3 4; do
+    reader "$i" >"reader.$i" 2>&1 &
+    pids+=($!)
+  done
+  writer || status=1
+  touch writer.done
+  for i in "${pids[@]}"; do wait "$i" || status=1; done
+  cat reader.*
+  for i in 1 2 3 4; do [ -s "rounds.$i" ] || { echo "reader $i had no turn"; status=1; }; done
+  return $status
+}
+holds "a writer and four readers at once" side_by_side
+gives "what the writer left" 0 'sound: 3037' bhtf check busy
+
+# ---- writers that are killed ----
+
+bhtf create killed
+start_import killed
+feed 1 2000
+until_true has killed 1000
+kill -KILL "$importer"
+wait "$importer" 2>/dev/null
+exec 9>&-
+gives "a killed import leaves a readable file" 0 '^[1-9][0-9]*$' bhtf count killed --wait 0
+gives "its points are there" 0 '^1,1,1,$' bhtf get killed F1 --wait 0
+gives "a later writer gets the lock at once" 0 '' bhtf add killed later x --wait 0
+gives "the file is sound, since no call was cut" 0 sound bhtf check killed
+
+hot_kills() {
+  local i pid status
+  seq 60000 | sed 's/.*/H&,&.111,&.222,&.333,note &/' >hot.csv
+  for i in $(seq 12); do
+    rm -f hot
+    bhtf create hot --slots 65536 --key-size 8 || return 1
+    bhtf import hot hot.csv --quiet 2>/dev/null &
+    pid=$!
+    sleep "0.0$((RANDOM % 60 + 10))"
+    kill -KILL $pid 2>/dev/null
+    wait $pid 2>/dev/null
+    bhtf count hot --wait 0 >/dev/null || return 1
+    bhtf list hot --wait 0 >/dev/null || return 1
+    bhtf add hot later x --replace --wait 0 || return 1
+    bhtf check hot --quiet --wait 0 >/dev/null
+    status=$?
+    [ $status -le 1 ] || return 1
+  done
+}
+holds "killed at any time: readable, and the lock is free" hot_kills
+
+bhtf create stopped
+start_import stopped
+feed 1 600
+until_true has stopped 512
+kill -TERM "$importer"
+wait "$importer"
+same "an interrupted import has status 2" 2 $?
+exec 9>&-
+gives "it says what it stored" 0 "stopped: $(bhtf count stopped) points stored" cat import.err
+gives "the file is sound" 0 sound bhtf check stopped
+
+bhtf create shrunk
+start_import shrunk
+feed 1 600
+until_true has shrunk 512
+truncate -s 0 shrunk
+feed 601 1200
+exec 9>&-
+wait "$importer"
+same "a file cut short while in use: status 2" 2 $?
+gives "and a message" 0 'cut short by another program' cat import.err
+
+# ---- progress ----
+
+if command -v script >/dev/null; then
+  bhtf create slow
+  mkfifo slow.in slow.in2
+  slowly() { seq 300 | sed 's/.*/S&,&,&,&,/'; sleep 0.8; seq 301 900 | sed 's/.*/S&,&,&,&,/'; }
+  slowly >slow.in &
+  script -qec "bhtf import slow slow.in" /dev/null >progress </dev/null
+  gives "a long import shows its progress on a terminal" 0 $'\rbhtf: [0-9]+ points stored' cat progress
+  slowly >slow.in2 &
+  script -qec "bhtf import slow slow.in2 --replace --quiet" /dev/null >progress </dev/null
+  same "but not with --quiet" '' "$(cat progress)"
+fi
+
+# ---- a file that may only be read ----
+
+chmod 755 "$work" "$work/gcc"
+cp a readonly
+chmod 444 readonly
+as_other() { if [ "$(id -u)" -eq 0 ]; then setpriv --reuid 65534 --regid 65534 --clear-groups "$@"; else "$@"; fi; }
+gives "a read-only file can be read" 0 '^5$' as_other bhtf count readonly
+gives "and listed" 0 '^CP-1$' as_other bhtf list readonly
+gives "but not written to" 2 'cannot open: Permission denied' as_other bhtf add readonly x y
+gives "nor deleted from" 2 'Permission denied' as_other bhtf delete readonly CP-1
+holds "it is as it was" cmp a readonly
+
+# ---- a full disk ----
+
+full_disk() {
+  mkdir -p disk
+  if mount -t tmpfs -o size=256k tmpfs disk 2>/dev/null; then
+    mounted=$work/disk
+    return 0
+  fi
+  return 1
+}
+disk_is_full() { # no file and status 2 where 1 MiB has no room
+  "$@" >"$work/create.out" 2>&1
+  local status=$?
+  [ $status -eq 2 ] && grep -qE 'cannot allocate its space: (No space|File too large)' "$work/create.out" &&
+    return 0
+  echo "status $status: $(cat "$work/create.out")"
+  return 1
+}
+if full_disk; then
+  holds "create on a full disk" disk_is_full bhtf create disk/f --size 1048576
+  holds "leaves no file" test ! -e disk/f
+  gives "a file that fits" 0 '' bhtf create disk/g --slots 100 --size 65536
+  gives "import onto it" 0 '12 points' bhtf import disk/g "$root/host/site.csv"
+  # A file with holes, where the disk has no room for them any more.
+  bhtf create sparse --slots 100 --size 131072
+  cp --sparse=always sparse disk/sparse
+  cp sparse before
+  head -c 1048576 /dev/zero >disk/filler 2>/dev/null
+  gives "a file with holes on a full disk" 2 'cannot allocate its space' bhtf add disk/sparse n x
+  holds "is as it was" cmp before disk/sparse
+  gives "a file without holes can still be written" 0 '' bhtf add disk/g n x
+  gives "and is sound" 0 'sound: 13' bhtf check disk/g
+  umount disk && mounted=
+else
+  echo "no small disk can be mounted here; a limit on the length of files stands in for it"
+  holds "create beyond a limit" disk_is_full sh -c 'ulimit -f 64; bhtf create f --size 1048576'
+  holds "leaves no file" test ! -e f
+fi
+holds "a limit on the length of files" disk_is_full \
+  sh -c 'ulimit -f 64; exec bhtf create limited --size 1048576'
+holds "leaves no file either" test ! -e limited
+
+echo "$passed passed, $failed failed"
+[ "$failed" -eq 0 ] && [ "$passed" -gt 0 ]

@@ -1,0 +1,20 @@
+#!/usr/bin/env bash
+# Builds and runs the port of the original's own test; its last line is
+# 'N passed, M failed'.
+#   LIB, LDLIBS, WALK_CHECK and STANDIN as for tests/command.sh
+set -eu
+cd "$(dirname "$0")/../host"
+work=$(mktemp -d)
+trap 'rm -rf "$work"' EXIT
+
+settings=()
+[ -z "${LIB:-}" ] || settings+=(LIB="$(cd .. && realpath "$LIB")")
+[ -z "${LDLIBS:-}" ] || settings+=(LDLIBS="$LDLIBS")
+[ -z "${WALK_CHECK:-}" ] || settings+=(WALK_CHECK="$WALK_CHECK")
+[ -z "${STANDIN:-}" ] || settings+=(STANDIN="$STANDIN")
+make -s OUT="$work/build" "${settings[@]}"
+# shellcheck disable=SC2086
+gcc -std=c99 -O2 -Wall -Wextra -Werror -pedantic -D_POSIX_C_SOURCE=200809L -D_FILE_OFFSET_BITS=64 -I. \
+  ../tests/original.c "$work/build/image.o" "$work/build/text.o" "$work/build/libbhtf.a" ${LDLIBS:-} \
+  -o "$work/original"
+"$work/original" "$work/testfile.bht"
