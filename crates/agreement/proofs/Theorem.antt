@@ -1,7 +1,7 @@
 -- Demand 3: on every list of calls, from every accepted create, file and book give the same answers, and after it the file finds
 -- exactly the book's points with the book's texts. The statement is `Agreement` of crates/bhtf/specs/Demand.antt.
 --     step            one call keeps the relation, with equal answers
---     lockstep        so does every list
+--     same-answers, reflects-after    so does every list
 --     points-agree    files and books in the relation find the same points with the same texts
 --     from-reflected  the theorem for every file and book in the relation
 --     agreement       the theorem from create
