@@ -8,6 +8,8 @@ use table::search::Found;
 use table::search::put_entry;
 use words::fields::read_u32;
 use words::fields::write_u32;
+use words::limits::FREE_FIELD;
+use words::limits::POINTS_FIELD;
 ghost use mathlib.Core.Path.{_≡_};
 ghost use mathlib.Core.Bool.{true, false};
 ghost use mathlib.Core.Option.{some};
@@ -29,9 +31,9 @@ fn enter(image: &mut [u8], shape: Shape, slot: Slot, key: &[u8], o: Offset)
     ensures { λ _. ⌜ now (image .exit)
         ≡ enter (layoutOf (now (image .entry))) (now (image .entry)) (slot .0) (now (key .entry)) (o .0) ⌝ }
 {
-    let points = read_u32(image, 20);
+    let points = read_u32(image, POINTS_FIELD);
     put_entry(image, shape, slot, key, o);
-    write_u32(image, 20, points + 1);
+    write_u32(image, POINTS_FIELD, points + 1);
 }
 
 // The bytes are placed in new space, and the entry with their offset enters the table.
@@ -42,7 +44,7 @@ fn insert(image: &mut [u8], shape: Shape, slot: Slot, key: &[u8], bytes: &[u8])
         ≡ inserted (layoutOf (now (image .entry))) (now (image .entry)) (slot .0) (now (key .entry)) (some (now (bytes .entry))) ⌝ }
 {
     let area = shape.area;
-    let free = Offset::new(read_u32(image, 52) as usize);
+    let free = Offset::new(read_u32(image, FREE_FIELD) as usize);
     take_space(image, area, Offset::new(0), 0, bytes);
     enter(image, shape, slot, key, free);
 }
@@ -82,7 +84,7 @@ pub fn add_absent(image: &mut [u8], shape: Shape, found: Found, key: &[u8], byte
         return 10;
     };
     let slots = shape.slots;
-    if slots <= read_u32(image, 20) as usize {
+    if slots <= read_u32(image, POINTS_FIELD) as usize {
         return 10;
     }
     insert_fresh(image, shape, slot, key, bytes)

@@ -14,6 +14,7 @@ use messages::write::take_space;
 use table::search::offset_of;
 use table::search::put_entry;
 use words::fields::read_u32;
+use words::limits::FREE_FIELD;
 ghost use mathlib.Core.Path.{_≡_};
 ghost use mathlib.Core.Bool.{true};
 ghost use mathlib.Core.List.{_++_};
@@ -49,7 +50,7 @@ fn relocate(
         (part (now (image .entry)) (o .0 + 4) before ++ now (bytes .entry)) ⌝ }
 {
     let area = shape.area;
-    let free = Offset::new(read_u32(image, 52) as usize);
+    let free = Offset::new(read_u32(image, FREE_FIELD) as usize);
     retire(image, o);
     take_space(image, area, text_start(o), before, bytes);
     put_entry(image, shape, slot, key, free);

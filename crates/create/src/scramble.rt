@@ -2,6 +2,7 @@
 use crate::numbers::write_numbers;
 use words::arith::step;
 use words::fields::write_u32;
+use words::limits::SCRAMBLE_START;
 ghost use mathlib.Core.Path.{_≡_};
 ghost use Prim.Native.Nat.{_≤_};
 ghost use lib.ListN.{length};
@@ -112,7 +113,7 @@ fn write_seed_zero(image: &mut [u8])
     requires { ⌜ 892 ≤ length (now image) ⌝ }
     ensures { λ _. ⌜ now (image .exit) ≡ store (now (image .entry)) 512 (drawnBytes 0 0 95) ⌝ }
 {
-    write_numbers(image, 512, &SEED_ZERO);
+    write_numbers(image, SCRAMBLE_START, &SEED_ZERO);
 }
 
 // Writes the scramble of a seed, from the generator.
@@ -124,7 +125,7 @@ fn write_drawn(image: &mut [u8], seed: u32)
     let mut i = 0;
     while i < 95 {
         let number = step(state);
-        write_u32(image, 512 + 4 * i, number);
+        write_u32(image, SCRAMBLE_START + 4 * i, number);
         state = number;
         i += 1;
     }

@@ -13,6 +13,7 @@ use table::search::search;
 use table::walk::close;
 use words::fields::read_u32;
 use words::fields::write_u32;
+use words::limits::POINTS_FIELD;
 ghost use mathlib.Core.Path.{_≡_};
 ghost use mathlib.Core.Bool.{true};
 ghost use Prim.Native.Nat.{_≤_, _<_};
@@ -34,7 +35,7 @@ fn remove(image: &mut [u8], shape: Shape, i: Slot, o: Offset, points: u32)
     ensures { λ _. ⌜ now (image .exit) ≡ deletedAt (layoutOf (now (image .entry))) (now (image .entry)) (i .0) ⌝ }
 {
     retire(image, o);
-    write_u32(image, 20, points - 1);
+    write_u32(image, POINTS_FIELD, points - 1);
     close(image, shape, i);
 }
 
@@ -59,7 +60,7 @@ pub fn delete(image: &mut [u8], key: &[u8]) -> u32
     if !message_sound(image, shape, o) {
         return 11;
     }
-    let points = read_u32(image, 20);
+    let points = read_u32(image, POINTS_FIELD);
     if points == 0 {
         return 11;
     }

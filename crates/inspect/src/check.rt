@@ -11,6 +11,7 @@ use table::search::key_of;
 use table::search::offset_of;
 use table::search::search;
 use words::fields::read_u32;
+use words::limits::POINTS_FIELD;
 ghost use mathlib.Core.Path.{_≡_};
 ghost use Prim.Native.Nat.{_<_};
 ghost use Rattle.bhtf.specs.Image.{layoutOf};
@@ -59,7 +60,7 @@ fn check_table(image: &[u8], shape: Shape) -> Verdict
         }
         i += 1;
     }
-    if (read_u32(image, 20) as usize) != count {
+    if (read_u32(image, POINTS_FIELD) as usize) != count {
         return Verdict::CountFails;
     }
     Verdict::Sound

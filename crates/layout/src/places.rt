@@ -1,4 +1,5 @@
 // A slot's number and an absolute offset are two types; only the functions here turn one into a number or into the other.
+use words::limits::TABLE_START;
 ghost use mathlib.Core.Path.{_≡_};
 ghost use Prim.Native.Nat.{_+_, _*_, _≤_, _<_};
 ghost use Rattle.bhtf.specs.Search.{next};
@@ -27,7 +28,7 @@ impl Slot {
         requires { ⌜ (self .0 < 1048576) × (size ≤ 32) ⌝ }
         ensures { λ r. ⌜ r .0 ≡ 2048 + self .0 * (size + 4) ⌝ }
     {
-        Offset(2048 + self.0 * (size + 4))
+        Offset(TABLE_START + self.0 * (size + 4))
     }
 
     // The slot after this one, wrapping to the first.

@@ -1,6 +1,24 @@
 // Questions 1 to 8 on numbers, headers and names, in constant time but for the name's bytes. What a question cannot go
 // on with is asked first: D's formula is worked out only where K and N are in range.
 use words::fields::read_u32;
+use words::limits::DATA_FIELD;
+use words::limits::FIRST_FIELD;
+use words::limits::FREE_FIELD;
+use words::limits::KEY_FIELD;
+use words::limits::LAST_FIELD;
+use words::limits::MOST_CHARACTER;
+use words::limits::MOST_IMAGE;
+use words::limits::MOST_KEY;
+use words::limits::MOST_SLOTS;
+use words::limits::PAGE;
+use words::limits::PAGE_ROUND;
+use words::limits::POINTS_FIELD;
+use words::limits::SCRAMBLE_FIELD;
+use words::limits::SCRAMBLE_OFFSET;
+use words::limits::SLOTS_FIELD;
+use words::limits::TABLE_FIELD;
+use words::limits::TABLE_OFFSET;
+use words::limits::TABLE_START;
 use words::runs::all_zero;
 use words::runs::same_bytes;
 ghost use mathlib.Core.Path.{_≡_};
@@ -15,21 +33,21 @@ ghost use Rattle.layout.specs.Ranges.{rangesSound};
 pub fn size_allowed(len: usize) -> bool
     ensures { λ r. ⌜ r ≡ sizeAllowed len ⌝ }
 {
-    (len % 4096 == 0) & (4096 <= len) & (len <= 16777216)
+    (len % PAGE == 0) & (PAGE <= len) & (len <= MOST_IMAGE)
 }
 
 // Question 2.
 pub fn key_allowed(k: u32) -> bool
     ensures { λ r. ⌜ r ≡ keyAllowed k ⌝ }
 {
-    (1 <= k) & (k <= 32)
+    (1 <= k) & (k <= MOST_KEY)
 }
 
 // Question 3.
 pub fn slots_allowed(n: u32) -> bool
     ensures { λ r. ⌜ r ≡ slotsAllowed n ⌝ }
 {
-    n <= 65536
+    n <= MOST_SLOTS
 }
 
 // D, by its formula.
@@ -37,7 +55,7 @@ pub fn data_start(key: usize, slots: usize) -> usize
     requires { ⌜ (key ≤ 32) × (slots ≤ 1048576) ⌝ }
     ensures { λ r. ⌜ r ≡ dataStart key slots ⌝ }
 {
-    (2048 + slots * (key + 4) + 4095) / 4096 * 4096
+    (TABLE_START + slots * (key + 4) + PAGE_ROUND) / PAGE * PAGE
 }
 
 // Question 5.
@@ -53,18 +71,18 @@ fn ranges_sound(image: &[u8]) -> bool
     requires { ⌜ 60 ≤ length (now image) ⌝ }
     ensures { λ r. ⌜ r ≡ rangesSound (now (image .entry)) ⌝ }
 {
-    let key = read_u32(image, 12);
-    let slots = read_u32(image, 16);
-    let points = read_u32(image, 20);
-    let first = read_u32(image, 32);
-    let last = read_u32(image, 36);
-    let scramble = read_u32(image, 40);
-    let table = read_u32(image, 44);
+    let key = read_u32(image, KEY_FIELD);
+    let slots = read_u32(image, SLOTS_FIELD);
+    let points = read_u32(image, POINTS_FIELD);
+    let first = read_u32(image, FIRST_FIELD);
+    let last = read_u32(image, LAST_FIELD);
+    let scramble = read_u32(image, SCRAMBLE_FIELD);
+    let table = read_u32(image, TABLE_FIELD);
     key_allowed(key)
         & ((1 <= slots) & slots_allowed(slots))
         & (points <= slots)
-        & ((first <= last) & (last <= 255))
-        & ((scramble == 512) & (table == 2048))
+        & ((first <= last) & (last <= MOST_CHARACTER))
+        & ((scramble == SCRAMBLE_OFFSET) & (table == TABLE_OFFSET))
 }
 
 // Question 6.
@@ -75,10 +93,10 @@ pub fn header_sound(image: &[u8]) -> bool
     if !ranges_sound(image) {
         return false;
     }
-    let key = read_u32(image, 12) as usize;
-    let slots = read_u32(image, 16) as usize;
-    let area = read_u32(image, 48) as usize;
-    let free = read_u32(image, 52) as usize;
+    let key = read_u32(image, KEY_FIELD) as usize;
+    let slots = read_u32(image, SLOTS_FIELD) as usize;
+    let area = read_u32(image, DATA_FIELD) as usize;
+    let free = read_u32(image, FREE_FIELD) as usize;
     (area == data_start(key, slots)) & ((area <= free) & (free <= image.len()))
 }
 

@@ -11,7 +11,7 @@ use lib.ListN.{length, take, length-append, take-append-drop}
 use lib.Seq.{length-take-le}
 use Rattle.bhtf.specs.Bytes.{Bytes, store}
 use Rattle.bhtf.proofs.Bytes.{length-store}
-use Rattle.messages.proofs.Stores.{store-append}
+use Rattle.bhtf.proofs.Stores.{store-append}
 use Rattle.listing.specs.Puts.{Put}
 
 store-none : (b : Bytes) (p : ℕ) → store b p [] ≡ b

@@ -14,6 +14,7 @@ use table::search::Found;
 use table::search::offset_of;
 use table::search::search;
 use words::fields::read_u32;
+use words::limits::POINTS_FIELD;
 ghost use mathlib.Core.Path.{_≡_};
 ghost use lib.ListN.{length};
 ghost use Rattle.bhtf.specs.Calls.{lookup, lookupStart, lookupLength, count};
@@ -40,7 +41,7 @@ pub fn count(image: &[u8]) -> Counted
     if number != 0 {
         return Counted { number, points: 0 };
     }
-    let points = read_u32(image, 20);
+    let points = read_u32(image, POINTS_FIELD);
     Counted { number: 0, points }
 }
 

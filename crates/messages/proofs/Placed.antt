@@ -32,7 +32,7 @@ unfolding setFree freeSet
 setFree-set img b x = refl
 
 -- one byte is a store
-set-store : (b : Bytes) (at v : ℕ) → at < length b → set b at v ≡ store b at (v ∷ [])
+pub set-store : (b : Bytes) (at v : ℕ) → at < length b → set b at v ≡ store b at (v ∷ [])
 set-store b at v h = store-sets (v ∷ []) b at (omega arith)
 
 -- ---- a letter

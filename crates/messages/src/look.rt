@@ -3,6 +3,7 @@ use layout::places::Offset;
 use layout::shape::Shape;
 use words::fields::read_u24;
 use words::fields::read_u32;
+use words::limits::FREE_FIELD;
 ghost use mathlib.Core.Path.{_≡_};
 ghost use mathlib.Core.Bool.{true};
 ghost use Prim.Native.Nat.{_+_, _≤_, _<_, _^_};
@@ -33,7 +34,7 @@ pub fn message_sound(image: &[u8], shape: Shape, o: Offset) -> bool
     if at < area.at() {
         return false;
     }
-    let free = read_u32(image, 52) as usize;
+    let free = read_u32(image, FREE_FIELD) as usize;
     if free - 4 < at {
         return false;
     }

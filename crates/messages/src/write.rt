@@ -5,6 +5,9 @@ use layout::places::Offset;
 use words::fields::read_u32;
 use words::fields::write_u24;
 use words::fields::write_u32;
+use words::limits::FREE_FIELD;
+use words::limits::PAGE;
+use words::limits::PAGE_FIELD;
 use words::runs::copy;
 use words::runs::copy_up;
 use words::runs::zero;
@@ -68,7 +71,7 @@ pub fn last_page(area: Offset, free: Offset) -> u32
     if x == d {
         return 0xffff_ffff;
     }
-    ((x - d - 1) / 4096) as u32
+    ((x - d - 1) / PAGE) as u32
 }
 
 // Writes the next free offset, X, and the last page, M.
@@ -76,8 +79,8 @@ pub fn set_free(image: &mut [u8], area: Offset, free: Offset)
     requires { ⌜ (60 ≤ length (now image)) × (area .0 ≤ free .0) × (free .0 < 2 ^ 32) ⌝ }
     ensures { λ _. ⌜ now (image .exit) ≡ freeSet (area .0) (now (image .entry)) (free .0) ⌝ }
 {
-    write_u32(image, 52, free.at() as u32);
-    write_u32(image, 56, last_page(area, free));
+    write_u32(image, FREE_FIELD, free.at() as u32);
+    write_u32(image, PAGE_FIELD, last_page(area, free));
 }
 
 // Places a message at X: its text is the `before` bytes from `from` on, copied, and then the bytes.
@@ -91,7 +94,7 @@ pub fn take_space(image: &mut [u8], area: Offset, from: Offset, before: usize, b
         ≡ takeSpace (layoutOf (now (image .entry))) (now (image .entry))
         (part (now (image .entry)) (from .0) before ++ now (bytes .entry)) ⌝ }
 {
-    let free = read_u32(image, 52) as usize;
+    let free = read_u32(image, FREE_FIELD) as usize;
     copy_up(image, from.at(), free + 4, before);
     let end = free + 4 + (before + bytes.len());
     write_message(&mut image[free..end], before, bytes);

@@ -5,6 +5,7 @@ use layout::shape::Shape;
 use words::fields::read_u32;
 use words::fields::write_u32;
 use words::hashing::hash;
+use words::limits::SCRAMBLE_START;
 use words::runs::all_zero;
 use words::runs::copy;
 use words::runs::same_bytes;
@@ -33,9 +34,9 @@ pub fn home(image: &[u8], shape: Shape, key: &[u8]) -> Slot
     let first = shape.first;
     let last = shape.last;
     let slots = shape.slots;
-    let end = 512 + 4 * ((last - first + 1) as usize);
+    let end = SCRAMBLE_START + 4 * ((last - first + 1) as usize);
     let h = hash(
-        &image[512..end],
+        &image[SCRAMBLE_START..end],
         shape.multiplier,
         shape.start,
         first,

@@ -3,7 +3,9 @@
 //     runs      runs of bytes zeroed, copied and compared
 //     arith     multiplication modulo 2^32, and the generator's step
 //     hashing   the hash of a key
+//     limits    the numbers that document 01 fixes
 pub mod arith;
 pub mod fields;
 pub mod hashing;
+pub mod limits;
 pub mod runs;

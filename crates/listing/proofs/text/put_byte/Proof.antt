@@ -1,7 +1,7 @@
 -- `listing::text::put_byte` meets its contract.
 -- Assumes nothing.
 use mathlib.Core.Path.{refl}
-use Rattle.messages.proofs.Stores.{set-store}
+use Rattle.messages.proofs.Placed.{set-store}
 use borrow.Author.Needs.{needs}
 use Rattle.listing.proofs.text.put_byte.Statement.{statement}
 use Rattle.listing.proofs.text.put_byte.Tie as tie

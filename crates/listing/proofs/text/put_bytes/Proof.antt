@@ -5,7 +5,7 @@ use native.Mathlib.Omega.{arith}
 use mathlib.Core.Path.{_≡_, refl, ap, _∙_}
 use lib.ListN.{length}
 use Rattle.bhtf.specs.Bytes.{store}
-use Rattle.messages.proofs.Stores.{store-lent}
+use Rattle.bhtf.proofs.Stores.{store-lent}
 use borrow.Author.Needs.{needs}
 use Rattle.listing.proofs.text.put_bytes.Statement.{statement}
 use Rattle.listing.proofs.text.put_bytes.Tie as tie
