@@ -1,5 +1,5 @@
-/* 01's proved table, the generator, and FNV-1 vectors, run on the code under
- * test. Ends with "N passed, 0 failed".
+/* 01's proved table and the generator, run on the code under test. Ends with
+ * "N passed, 0 failed".
  *
  * The hash is not an export; it is seen through home slots: on an empty table
  * an added key lands in slot hash mod N. 65536, 65535 and 65533 have no
@@ -263,113 +263,6 @@ static void generator(void)
     }
 }
 
-/* ---- FNV-1 ---- */
-
-struct vector {
-    const char *name;
-    uint32_t size;
-    uint32_t hash;
-};
-
-/* From the published list of FNV-1 32-bit test vectors (Noll). */
-static const struct vector published[] = {
-    { "a", 1, 0x050c5d7e },        { "b", 1, 0x050c5d7d },
-    { "c", 1, 0x050c5d7c },        { "d", 1, 0x050c5d7b },
-    { "e", 1, 0x050c5d7a },        { "f", 1, 0x050c5d79 },
-    { "fo", 2, 0x6b772514 },       { "foo", 3, 0x408f5e13 },
-    { "foob", 4, 0xb4b1178b },     { "fooba", 5, 0xfdc80fb0 },
-    { "foobar", 6, 0x31f0b262 },   { "a\0", 2, 0x70772d5a },
-    { "b\0", 2, 0x6f772bc7 },      { "c\0", 2, 0x6e772a34 },
-    { "d\0", 2, 0x6d7728a1 },      { "e\0", 2, 0x6c77270e },
-    { "f\0", 2, 0x6b77257b },      { "fo\0", 3, 0x408f5e7c },
-    { "foo\0", 4, 0xb4b117e9 },    { "foob\0", 5, 0xfdc80fd1 },
-    { "fooba\0", 6, 0x31f0b210 },  { "foobar\0", 7, 0xffe8d046 },
-    { "ch", 2, 0x6e772a5c },       { "cho", 3, 0x4197aebb },
-    { "chon", 4, 0xfcc8100f },     { "chong", 5, 0xfdf147fa },
-    { "chongo", 6, 0xbcd44ee1 },
-};
-
-#define PUBLISHED (sizeof published / sizeof *published)
-
-/* The textbook: multiply, then exclusive-or. */
-static uint32_t fnv_1(const uint8_t *name, uint32_t size)
-{
-    uint32_t hash = 2166136261u;
-
-    while (size-- > 0) {
-        hash = (uint32_t)((uint64_t)hash * 16777619u % 4294967296u);
-        hash ^= *name++;
-    }
-    return hash;
-}
-
-/* An empty image whose hash is FNV-1. */
-static void create_fnv(uint32_t k, uint32_t n)
-{
-    expect("create", create(IMAGE_ROOM, k, n, 0), 0);
-    put32(AT_FIRST, 0);
-    put32(AT_LAST, 255);
-    for (uint32_t i = 0; i < 256; i++)
-        put32(SCRAMBLE + 4 * i, i);
-}
-
-/* The name lands in the slot of its hash, and goes away again. */
-static void expect_home(const uint8_t *name, uint32_t size, uint32_t n,
-                        uint32_t hash)
-{
-    expect("add", subject.add(image, length, name, size, NULL, 0, 1), 0);
-    expect("home slot", first_taken(size, n), hash % n);
-    expect("delete", subject.remove(image, length, name, size), 0);
-    expect("empty again", first_taken(size, n), n);
-}
-
-/* Names of one length: text, bytes with zeros, high bytes, noise. */
-static void make_name(uint8_t *name, uint32_t size, uint32_t style)
-{
-    static uint32_t noise = 1;
-
-    for (uint32_t i = 0; i < size; i++) {
-        noise = noise * 69069u + 5;
-        name[i] = (uint8_t)(noise >> 24);
-        if (style == 0)
-            name[i] = (uint8_t)"chongo was here!"[i % 16];
-        if (style == 1)
-            name[i] = i + 1 == size ? 0x80 : 0;
-        if (style == 2)
-            name[i] = 255;
-    }
-    if (style == 3)
-        name[0] |= 1;
-}
-
-static void vectors_of_size(uint32_t size, uint32_t n)
-{
-    uint8_t name[32];
-
-    create_fnv(size, n);
-    for (size_t i = 0; i < PUBLISHED; i++)
-        if (published[i].size == size)
-            expect_home((const uint8_t *)published[i].name, size, n,
-                        published[i].hash);
-    for (uint32_t style = 0; style < 6; style++) {
-        make_name(name, size, style);
-        if (size == 1 && name[0] == 0)
-            continue;
-        expect_home(name, size, n, fnv_1(name, size));
-    }
-}
-
-static void fnv_vectors(void)
-{
-    for (size_t i = 0; i < PUBLISHED; i++)
-        expect("textbook FNV-1",
-               fnv_1((const uint8_t *)published[i].name, published[i].size),
-               published[i].hash);
-    for (uint32_t size = 1; size <= 32; size++)
-        for (int i = 0; i < 3; i++)
-            vectors_of_size(size, three[i]);
-}
-
 int main(void)
 {
     image = malloc(IMAGE_ROOM);
@@ -386,7 +279,6 @@ int main(void)
     key_of_zeros();
     lister_example();
     generator();
-    fnv_vectors();
     free(image);
     printf("%u passed, %u failed\n", passed, failed);
     return failed != 0;
