@@ -1,19 +1,12 @@
 // Add, in its three modes: all questions are put before the first byte is written.
-//     room      questions 12 and 13
-//     absent    a point that is absent enters the table
-//     present   a point that is present gets a new or a longer message
-pub mod absent;
-pub mod present;
-pub mod room;
-
-use crate::absent::add_absent;
-use crate::present::add_present;
-use layout::questions::mode_known;
-use layout::questions::name_allowed;
-use layout::questions::open_number;
+use absent::add_absent;
 use layout::shape::read_shape;
-use table::search::Found;
-use table::search::search;
+use present::add_present;
+use questions::mode_known;
+use questions::name_allowed;
+use questions::open_number;
+use table::Found;
+use table::search;
 ghost use mathlib.Core.Path.{_≡_};
 ghost use Rattle.bhtf.specs.Calls.{add};
 

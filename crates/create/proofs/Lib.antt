@@ -1,3 +1,1 @@
 pub mod Numbered
-pub mod SeedZero
-pub mod Stores

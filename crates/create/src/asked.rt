@@ -1,8 +1,8 @@
 // Create's questions, 1 to 4.
-use layout::questions::data_start;
-use layout::questions::key_allowed;
-use layout::questions::size_allowed;
-use layout::questions::slots_allowed;
+use questions::data_start;
+use questions::key_allowed;
+use questions::size_allowed;
+use questions::slots_allowed;
 ghost use mathlib.Core.Path.{_≡_};
 ghost use Rattle.bhtf.specs.Create.{slotsAsked};
 ghost use Rattle.bhtf.specs.Questions.{createNumber};

@@ -1,8 +1,8 @@
 // The image that create leaves.
-use crate::numbers::write_numbers;
-use crate::scramble::write_scramble;
-use layout::questions::data_start;
-use words::runs::zero;
+use questions::data_start;
+use runs::zero;
+use scramble::numbers::write_numbers;
+use scramble::write_scramble;
 ghost use mathlib.Core.Path.{_≡_};
 ghost use Prim.Native.Nat.{_≤_};
 ghost use lib.ListN.{length};

@@ -1,12 +1,8 @@
 // Create: an empty control point file in the slice that is lent.
-//     asked      questions 1 to 4
-//     numbers    numbers written one behind the other
-//     scramble   the 95 scramble numbers, of seed 0 from a table
-//     fresh      every byte of the new image
+//     asked   questions 1 to 4
+//     fresh   every byte of the new image
 pub mod asked;
 pub mod fresh;
-pub mod numbers;
-pub mod scramble;
 
 use crate::asked::create_number;
 use crate::asked::slots_asked;

@@ -1,16 +1,16 @@
 // Delete: a point's message becomes inactive, C falls by 1, and the gap in the table is closed.
+use closing::close;
 use layout::places::Offset;
 use layout::places::Slot;
-use layout::questions::name_allowed;
-use layout::questions::open_number;
 use layout::shape::Shape;
 use layout::shape::read_shape;
-use messages::look::message_sound;
-use messages::write::retire;
-use table::search::Found;
-use table::search::offset_of;
-use table::search::search;
-use table::walk::close;
+use messages::message_sound;
+use questions::name_allowed;
+use questions::open_number;
+use storing::retire;
+use table::Found;
+use table::offset_of;
+use table::search;
 use words::fields::read_u32;
 use words::fields::write_u32;
 use words::limits::POINTS_FIELD;

@@ -1,3 +1,2 @@
-pub mod Stopping
 pub mod Turns
 pub mod Soundness

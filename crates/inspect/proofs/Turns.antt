@@ -22,12 +22,12 @@ use Rattle.bhtf.proofs.Table.{keyAt}
 use Rattle.bhtf.proofs.Verdict.{lowest-yes, lowest-no, lowest-end}
 use Rattle.layout.specs.declared.places.Slot.{Slot}
 use Rattle.table.specs.Probes.{probeOf}
-use Rattle.table.specs.declared.search.Found as found
-use Rattle.table.proofs.search.Found as row
-use Rattle.table.specs.declared.search.Found.the-variants.{Met, Empty, Exhausted}
+use Rattle.table.specs.declared.Found as found
+use Rattle.table.proofs.Found as row
+use Rattle.table.specs.declared.Found.the-variants.{Met, Empty, Exhausted}
 use Rattle.bhtf.specs.Questions.{messageSound, openNumber}
 use Rattle.inspect.specs.Verdicts.{tableVerdict}
-use Rattle.inspect.proofs.Stopping.{opened-yes, opened-no}
+use Rattle.walk.proofs.Stopping.{opened-yes, opened-no}
 
 pub on {ℓ} : {A B : Type 0} {C : Type ℓ} → A ⊎ B → (A → C) → (B → C) → C
 on (inl a) f g = f a

@@ -3,8 +3,8 @@
 use Rattle.bhtf.specs.Bytes.{Bytes}
 use Rattle.bhtf.specs.Image.{layoutOf}
 use Rattle.bhtf.specs.Inspect.{lowest, slotFails, Verdict, sound, slotBad, countBad, countSound, verdictOf}
-use Rattle.inspect.specs.declared.check.Verdict as code
-use Rattle.inspect.specs.declared.check.Verdict.the-variants.{Refused, Sound, SlotFails, CountFails}
+use Rattle.inspect.specs.declared.Verdict as code
+use Rattle.inspect.specs.declared.Verdict.the-variants.{Refused, Sound, SlotFails, CountFails}
 
 unfoldable pub verdictIn : code.Verdict → Verdict
 verdictIn (Refused n) = Verdict.refused n

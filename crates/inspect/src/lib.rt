@@ -1,5 +1,78 @@
-// An image looked through:
-//     walk    the key walk, from a slot to the next taken one
-//     check   whether the image is sound, and where not
-pub mod check;
-pub mod walk;
+// The check: whether each taken slot's key, searched, ends there, its message passes question 11, and C is the number of
+// taken slots. One search for each taken slot; the first that fails ends it.
+use layout::places::Slot;
+use layout::shape::Shape;
+use layout::shape::read_shape;
+use messages::message_sound;
+use questions::open_number;
+use table::Found;
+use table::key_of;
+use table::offset_of;
+use table::search;
+use walk::is_taken;
+use words::fields::read_u32;
+use words::limits::POINTS_FIELD;
+ghost use mathlib.Core.Path.{_≡_};
+ghost use Prim.Native.Nat.{_<_};
+ghost use Rattle.bhtf.specs.Image.{layoutOf};
+ghost use Rattle.bhtf.specs.Inspect.{slotSound, check};
+ghost use Rattle.bhtf.specs.Questions.{openNumber};
+ghost use Rattle.layout.specs.Shapes.{shapeOf};
+ghost use Rattle.inspect.specs.Verdicts.{verdictIn, tableVerdict};
+
+// What the check says: refused with a number, sound, the lowest slot that fails, or that C alone fails.
+pub enum Verdict {
+    Refused(u32),
+    Sound,
+    SlotFails(Slot),
+    CountFails,
+}
+
+// Whether the key of slot i, searched, ends there, and its message passes question 11.
+fn slot_sound(image: &[u8], shape: Shape, i: Slot) -> bool
+    requires { ⌜ (openNumber (now image) ≡ 0) × (shape ≡ shapeOf (now image)) × (i .0 < shape .slots) ⌝ }
+    ensures { λ r. ⌜ r ≡ slotSound (layoutOf (now (image .entry))) (now (image .entry)) (i .0) ⌝ }
+{
+    let Found::Met(j) = search(image, shape, key_of(image, shape, i)) else {
+        return false;
+    };
+    if j.number() != i.number() {
+        return false;
+    }
+    message_sound(image, shape, offset_of(image, shape, i))
+}
+
+// The check of an accepted header's table.
+fn check_table(image: &[u8], shape: Shape) -> Verdict
+    requires { ⌜ (openNumber (now image) ≡ 0) × (shape ≡ shapeOf (now image)) ⌝ }
+    ensures { λ r. ⌜ verdictIn r ≡ tableVerdict (now (image .entry)) ⌝ }
+{
+    let slots = shape.slots;
+    let mut count = 0;
+    let mut i = 0;
+    while i < slots {
+        let at = Slot::new(i);
+        if is_taken(image, shape, at) {
+            if !slot_sound(image, shape, at) {
+                return Verdict::SlotFails(at);
+            }
+            count += 1;
+        }
+        i += 1;
+    }
+    if (read_u32(image, POINTS_FIELD) as usize) != count {
+        return Verdict::CountFails;
+    }
+    Verdict::Sound
+}
+
+// The check of an image.
+pub fn check(image: &[u8]) -> Verdict
+    ensures { λ r. ⌜ verdictIn r ≡ check (now (image .entry)) ⌝ }
+{
+    let number = open_number(image);
+    if number != 0 {
+        return Verdict::Refused(number);
+    }
+    check_table(image, read_shape(image))
+}

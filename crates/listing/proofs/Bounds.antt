@@ -21,9 +21,9 @@ use Rattle.bhtf.proofs.Slots.{length-slot, length-keyOf}
 use Rattle.bhtf.proofs.Opened.{firstNo-none, firstNo-yes, firstNo-no, opened-facts, opened-room}
 use Rattle.bhtf.proofs.Effects.{message-end}
 use Rattle.messages.proofs.Sound.{active-some}
-use Rattle.listing.specs.Text.{decimal, hexes}
+use Rattle.text.specs.Text.{decimal, hexes}
 use Rattle.listing.specs.Listed.{heading, lengthText, line, row, lines, refusedText, listed, mostListed, tooLong, printed}
-use Rattle.listing.proofs.Numbers.{decimal-5, length-hexes}
+use Rattle.text.proofs.Numbers.{decimal-5, length-hexes}
 use Rattle.listing.proofs.Rows.{text-bad, text-none, text-active, row-taken, row-vacant, line-length, refused-length, listed-closed, listed-open}
 
 module _ (img : Bytes) (small : length img ≤ 65536) (open₀ : openNumber img ≡ 0) where

@@ -1,4 +1,2 @@
-pub mod Putting
-pub mod Numbers
 pub mod Rows
 pub mod Bounds

@@ -15,8 +15,8 @@ use Rattle.bhtf.specs.Image.{Layout, layoutOf, slot, keyOf, offsetOf}
 use Rattle.bhtf.specs.Messages.{lengthAt, isActive}
 use Rattle.bhtf.specs.Questions.{messageSound, openNumber}
 use Rattle.bhtf.specs.Inspect.{taken}
-use Rattle.inspect.proofs.Stopping.{opened-yes, opened-no}
-use Rattle.listing.specs.Text.{decimal, hexes, space, feed}
+use Rattle.walk.proofs.Stopping.{opened-yes, opened-no}
+use Rattle.text.specs.Text.{decimal, hexes, space, feed}
 use Rattle.listing.specs.Listed.{heading, bad, lengthText, line, row, lines, refusedText, listed}
 
 -- o is the offset that stands in the slot

@@ -15,7 +15,7 @@ use Rattle.bhtf.specs.Image.{Layout, layoutOf, slot, keyOf, offsetOf}
 use Rattle.bhtf.specs.Messages.{lengthAt, isActive}
 use Rattle.bhtf.specs.Questions.{messageSound, openNumber}
 use Rattle.bhtf.specs.Inspect.{taken}
-use Rattle.listing.specs.Text.{decimal, hexes, space, feed}
+use Rattle.text.specs.Text.{decimal, hexes, space, feed}
 
 -- "slot key length", a line feed
 abbrev pub heading : Bytes

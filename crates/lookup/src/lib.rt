@@ -3,16 +3,16 @@
 //     locate   where a point's active message stands, as numbers
 //     lookup   the message as a part of the lent image
 use layout::places::Offset;
-use layout::questions::name_allowed;
-use layout::questions::open_number;
 use layout::shape::read_shape;
-use messages::look::held_at;
-use messages::look::is_active;
-use messages::look::message_sound;
-use messages::look::text_start;
-use table::search::Found;
-use table::search::offset_of;
-use table::search::search;
+use messages::held_at;
+use messages::is_active;
+use messages::message_sound;
+use messages::text_start;
+use questions::name_allowed;
+use questions::open_number;
+use table::Found;
+use table::offset_of;
+use table::search;
 use words::fields::read_u32;
 use words::limits::POINTS_FIELD;
 ghost use mathlib.Core.Path.{_≡_};

@@ -1,3 +1,1 @@
 pub mod Sound
-pub mod Placed
-pub mod After

@@ -1,5 +1,75 @@
-// Messages in the image:
-//     look    a message's soundness, whether it is active, its length and its text
-//     write   a message made inactive, written in place, and placed in new space at X
-pub mod look;
-pub mod write;
+// A message is read: whether it is sound, whether it is active, how long it is, and its text.
+use layout::places::Offset;
+use layout::shape::Shape;
+use words::fields::read_u24;
+use words::fields::read_u32;
+use words::limits::FREE_FIELD;
+ghost use mathlib.Core.Path.{_≡_};
+ghost use mathlib.Core.Bool.{true};
+ghost use Prim.Native.Nat.{_+_, _≤_, _<_, _^_};
+ghost use lib.ListN.{length};
+ghost use Rattle.bhtf.specs.Image.{layoutOf};
+ghost use Rattle.bhtf.specs.Messages.{lengthAt, textAt, isActive, held};
+ghost use Rattle.bhtf.specs.Questions.{openNumber, messageSound};
+ghost use Rattle.layout.specs.Shapes.{shapeOf};
+
+// The length that a message's header names.
+pub fn length_at(image: &[u8], o: Offset) -> usize
+    requires { ⌜ o .0 + 4 ≤ length (now image) ⌝ }
+    ensures { λ r. ⌜ r ≡ lengthAt (layoutOf (now (image .entry))) (now (image .entry)) (o .0) ⌝ }
+{
+    read_u24(image, o.at() + 1) as usize
+}
+
+// Question 11 of an offset. The header is read only once its end is known to lie below X.
+pub fn message_sound(image: &[u8], shape: Shape, o: Offset) -> bool
+    requires { ⌜ (openNumber (now image) ≡ 0) × (shape ≡ shapeOf (now image)) ⌝ }
+    ensures { λ r. ⌜ r ≡ messageSound (layoutOf (now (image .entry))) (now (image .entry)) (o .0) ⌝ }
+{
+    let at = o.at();
+    if at == 0 {
+        return true;
+    }
+    let area = shape.area;
+    if at < area.at() {
+        return false;
+    }
+    let free = read_u32(image, FREE_FIELD) as usize;
+    if free - 4 < at {
+        return false;
+    }
+    let m = length_at(image, o);
+    let letter = image[at];
+    ((letter == b'a') | (letter == b'd')) & (1 <= m) & (at + 4 + m <= free)
+}
+
+// Whether the offset is that of an active message. Nothing is read at offset 0.
+pub fn is_active(image: &[u8], o: Offset) -> bool
+    requires { ⌜ o .0 < length (now image) ⌝ }
+    ensures { λ r. ⌜ r ≡ isActive (now (image .entry)) (o .0) ⌝ }
+{
+    let at = o.at();
+    if at == 0 {
+        return false;
+    }
+    image[at] == b'a'
+}
+
+// The length at the offset, 0 for no offset.
+pub fn held_at(image: &[u8], o: Offset) -> usize
+    requires { ⌜ o .0 + 4 ≤ length (now image) ⌝ }
+    ensures { λ r. ⌜ r ≡ held (layoutOf (now (image .entry))) (now (image .entry)) (o .0) ⌝ }
+{
+    if o.at() == 0 {
+        return 0;
+    }
+    length_at(image, o)
+}
+
+// Where a message's text begins.
+pub fn text_start(o: Offset) -> Offset
+    requires { ⌜ o .0 < 2 ^ 32 ⌝ }
+    ensures { λ r. ⌜ r .0 ≡ o .0 + 4 ⌝ }
+{
+    Offset::new(o.at() + 4)
+}

@@ -18,10 +18,10 @@ use Rattle.bhtf.proofs.Slots.{slot-end}
 use Rattle.bhtf.proofs.Verdict.{lowest-some}
 use Rattle.layout.specs.Shapes.{shapeOf}
 use Rattle.layout.specs.declared.shape.Shape.{Shape}
-use Rattle.inspect.specs.Stops.{stopSlot}
+use Rattle.walk.specs.Stops.{stopSlot}
 use Rattle.inspect.specs.Verdicts.{verdictIn}
-use Rattle.inspect.specs.declared.check.Verdict as code
-use Rattle.inspect.proofs.Stopping.{stopped-open, stopped-below}
+use Rattle.inspect.specs.declared.Verdict as code
+use Rattle.walk.proofs.Stopping.{stopped-open, stopped-below}
 use Rattle.station.specs.Codes.{verdictCode, verdictSlot}
 
 -- ---- the walk

@@ -1,15 +1,15 @@
 // The exports for the station host, on numbers and byte slices: each call answers document 01's number, 0 when accepted.
 // host/bhtf.h declares them for C.
-use inspect::check::Verdict;
-use inspect::check::check;
-use inspect::walk::Stop;
-use inspect::walk::next_taken;
+use inspect::Verdict;
+use inspect::check;
 use layout::shape::read_shape;
 use lookup::count;
 use lookup::locate;
+use walk::Stop;
+use walk::next_taken;
 ghost use mathlib.Core.Path.{_≡_};
 ghost use Rattle.bhtf.specs.Inspect.{keyWalk, stopNumber, keyStart, check, verdictNumber};
-ghost use Rattle.inspect.specs.Stops.{stopSlot};
+ghost use Rattle.walk.specs.Stops.{stopSlot};
 ghost use Rattle.station.specs.Codes.{verdictCode, verdictSlot};
 ghost use Rattle.bhtf.specs.Calls.{create, add, delete, lookup, lookupStart, lookupLength, count};
 

@@ -1,5 +1,4 @@
 pub mod Headers
 pub mod Heads
 pub mod Turns
-pub mod Walking
 pub mod Taken

@@ -20,10 +20,10 @@ use Rattle.bhtf.proofs.Probe.{search-met}
 use Rattle.layout.specs.Shapes.{shapeOf}
 use Rattle.layout.specs.declared.places.Slot.{Slot}
 use Rattle.layout.specs.declared.shape.Shape.{Shape}
-use Rattle.table.specs.declared.search.Found.{Found}
-use Rattle.table.specs.declared.search.Found.the-variants.{Met, Empty, Exhausted}
+use Rattle.table.specs.declared.Found.{Found}
+use Rattle.table.specs.declared.Found.the-variants.{Met, Empty, Exhausted}
 use Rattle.table.specs.Probes.{probeOf}
-use Rattle.table.proofs.search.Found.{the-type}
+use Rattle.table.proofs.Found.{the-type}
 use Rattle.table.proofs.Headers.{header, layout-key, layout-slots}
 
 -- the variants' numbers are 0, 1 and 2

@@ -1,3 +1,2 @@
 pub mod Probes
 pub mod Slots
-pub mod Walks

@@ -1,8 +1,8 @@
 -- The search's answer in code, as the specification's.
 -- Assumes nothing.
 use Rattle.bhtf.specs.Search.{Probe, met, empty, exhausted}
-use Rattle.table.specs.declared.search.Found.{Found}
-use Rattle.table.specs.declared.search.Found.the-variants.{Met, Empty, Exhausted}
+use Rattle.table.specs.declared.Found.{Found}
+use Rattle.table.specs.declared.Found.the-variants.{Met, Empty, Exhausted}
 
 unfoldable pub probeOf : Found → Probe
 probeOf (Met s) = met (s .0)

@@ -1,5 +1,111 @@
-// The table of an image's points:
-//     search   from a name to its slot; a slot's key and offset; an entry written
-//     walk     delete's walk, which closes the gap that an entry leaves
-pub mod search;
-pub mod walk;
+// From a name to its slot: home, and the search from there upwards.
+use hashing::hash;
+use layout::places::Offset;
+use layout::places::Slot;
+use layout::shape::Shape;
+use runs::all_zero;
+use runs::copy;
+use runs::same_bytes;
+use words::fields::read_u32;
+use words::fields::write_u32;
+use words::limits::SCRAMBLE_START;
+ghost use mathlib.Core.Path.{_≡_};
+ghost use Prim.Native.Nat.{_+_, _^_, _<_};
+ghost use lib.ListN.{length};
+ghost use Rattle.bhtf.specs.Image.{layoutOf, home, entry, putSlot};
+ghost use Rattle.bhtf.specs.Questions.{openNumber};
+ghost use Rattle.bhtf.specs.Search.{search};
+ghost use Rattle.layout.specs.Shapes.{shapeOf};
+ghost use Rattle.table.specs.Probes.{probeOf};
+ghost use Rattle.table.specs.Slots.{keyIn, offsetIn, Placed};
+
+// How a search ended: the key was met, an empty slot was met, or all slots were read.
+pub enum Found {
+    Met(Slot),
+    Empty(Slot),
+    Exhausted,
+}
+
+// The key's home slot: its hash modulo the number of slots.
+pub fn home(image: &[u8], shape: Shape, key: &[u8]) -> Slot
+    requires { ⌜ (openNumber (now image) ≡ 0) × (shape ≡ shapeOf (now image)) ⌝ }
+    ensures { λ r. ⌜ r .0 ≡ home (layoutOf (now (image .entry))) (now (key .entry)) ⌝ }
+{
+    let first = shape.first;
+    let last = shape.last;
+    let slots = shape.slots;
+    let end = SCRAMBLE_START + 4 * ((last - first + 1) as usize);
+    let h = hash(
+        &image[SCRAMBLE_START..end],
+        shape.multiplier,
+        shape.start,
+        first,
+        last,
+        key,
+    );
+    Slot::new((h as usize) % slots)
+}
+
+// The key bytes of slot i, as a part of the image.
+pub fn key_of(image: &[u8], shape: Shape, i: Slot) -> &[u8]
+    requires { ⌜ (openNumber (now image) ≡ 0) × (shape ≡ shapeOf (now image)) × (i .0 < shape .slots) ⌝ }
+    ensures { λ r. ⌜ now r ≡ keyIn (now (image .entry)) (i .0) ⌝ }
+{
+    let size = shape.key;
+    let a = i.start(size).at();
+    let e = a + size;
+    &image[a..e]
+}
+
+// The message offset in slot i.
+pub fn offset_of(image: &[u8], shape: Shape, i: Slot) -> Offset
+    requires { ⌜ (openNumber (now image) ≡ 0) × (shape ≡ shapeOf (now image)) × (i .0 < shape .slots) ⌝ }
+    ensures { λ r. ⌜ r .0 ≡ offsetIn (now (image .entry)) (i .0) ⌝ }
+{
+    let size = shape.key;
+    let a = i.start(size).at();
+    Offset::new(read_u32(image, a + size) as usize)
+}
+
+// From home upwards, wrapping, until the key is met, an empty slot is met, or all slots were read.
+pub fn search(image: &[u8], shape: Shape, key: &[u8]) -> Found
+    requires { ⌜ (openNumber (now image) ≡ 0) × (shape ≡ shapeOf (now image)) ⌝ }
+    ensures { λ r. ⌜ probeOf r ≡ search (layoutOf (now (image .entry))) (now (image .entry)) (now (key .entry)) ⌝ }
+{
+    let slots = shape.slots;
+    let mut i = home(image, shape, key);
+    let mut left = slots;
+    while 0 < left {
+        let held = key_of(image, shape, i);
+        if same_bytes(held, key) {
+            return Found::Met(i);
+        }
+        if all_zero(held) {
+            return Found::Empty(i);
+        }
+        i = i.next(slots);
+        left -= 1;
+    }
+    Found::Exhausted
+}
+
+// Writes an entry over a slot's bytes.
+pub fn write_entry(part: &mut [u8], key: &[u8], offset: Offset)
+    requires { ⌜ (length (now part) ≡ length (now key) + 4) × (offset .0 < 2 ^ 32) ⌝ }
+    ensures { λ _. ⌜ now (part .exit) ≡ entry (now (key .entry)) (offset .0) ⌝ }
+{
+    let size = key.len();
+    copy(&mut part[..size], key);
+    write_u32(part, size, offset.at() as u32);
+}
+
+// Puts an entry into slot i.
+pub fn put_entry(image: &mut [u8], shape: Shape, i: Slot, key: &[u8], offset: Offset)
+    requires { ⌜ Placed (now image) shape × (i .0 < shape .slots) × (length (now key) ≡ shape .key) × (offset .0 < 2 ^ 32) ⌝ }
+    ensures { λ _. ⌜ now (image .exit) ≡ putSlot (layoutOf (now (image .entry))) (now (image .entry)) (i .0) (entry (now (key .entry)) (offset .0)) ⌝ }
+{
+    let size = shape.key;
+    let a = i.start(size).at();
+    let e = a + (size + 4);
+    write_entry(&mut image[a..e], key, offset);
+}

@@ -2,7 +2,7 @@
 --     part-cons, part-four, part-three        a part, byte by byte
 --     number-four, number-three               the number of so many bytes, written out
 --     or-four, or-three                       the same number, by shifts and ors
---     store-sets, store-four, store-three     stores of bytes one after the other
+--     store-sets, set-store, store-four, store-three     stores of bytes one after the other
 --     digits-four, digits-three               the digits, by shifts and masks
 --     bytes-part, number-part-bound           a part of bytes is of bytes, and bounds its number
 -- Assumes nothing.
@@ -100,6 +100,10 @@ store-sets vs s at h =
     sets-eq vs s at h
     ∙ append-assoc (take at s) vs (drop (at + length vs) s)
     ∙ ap (λ (t : Bytes). take at s ++ (vs ++ t)) (sym (drop-drop (length vs) at s))
+
+-- one byte is a store
+pub set-store : (b : Bytes) (at v : ℕ) → at < length b → set b at v ≡ store b at (v ∷ [])
+set-store b at v h = store-sets (v ∷ []) b at (omega arith)
 
 pub store-three : (s : Bytes) (at a b c : ℕ) → at + 3 ≤ length s
     → set (set (set s at a) (at + 1) b) (at + 2) c ≡ store s at (a ∷ b ∷ c ∷ [])

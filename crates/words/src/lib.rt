@@ -1,11 +1,7 @@
-// Leaves on bytes, each with its whole meaning as its contract, by the definitions of the specification:
+// Leaves on numbers, each with its whole meaning as its contract, by the definitions of the specification:
 //     fields    numbers of 4 and 3 bytes, read and written by shifts and masks
-//     runs      runs of bytes zeroed, copied and compared
 //     arith     multiplication modulo 2^32, and the generator's step
-//     hashing   the hash of a key
 //     limits    the numbers that document 01 fixes
 pub mod arith;
 pub mod fields;
-pub mod hashing;
 pub mod limits;
-pub mod runs;

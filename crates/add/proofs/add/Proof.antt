@@ -4,9 +4,9 @@ use mathlib.Core.Path.{sym, ap, _∙_}
 use Rattle.bhtf.specs.Search.{isMet}
 use Rattle.bhtf.proofs.Opened.{opened-facts}
 use Rattle.bhtf.proofs.Outcomes.{add-closed, add-7, add-8}
-use Rattle.layout.proofs.Headers.{was-no, was-yes}
+use Rattle.questions.proofs.Headers.{was-no, was-yes}
 use Rattle.table.proofs.Taken.{named-no, named-yes, not-met, met-slot}
-use Rattle.add.proofs.Numbers.{add-unchanged}
+use Rattle.room.proofs.Numbers.{add-unchanged}
 use borrow.Author.Needs.{needs}
 use Rattle.add.proofs.add.Statement.{statement}
 use Rattle.add.proofs.add.Tie as tie

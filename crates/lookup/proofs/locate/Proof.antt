@@ -12,7 +12,7 @@ use Rattle.bhtf.specs.Messages.{isActive, held}
 use Rattle.bhtf.specs.Questions.{nameAllowed, messageSound, openNumber, lookupNumber}
 use Rattle.bhtf.proofs.Opened.{opened-facts}
 use Rattle.bhtf.proofs.Outcomes.{lookup-closed, lookup-7, lookup-14, lookup-11, lookup-0}
-use Rattle.layout.proofs.Headers.{was-no, was-yes}
+use Rattle.questions.proofs.Headers.{was-no, was-yes}
 use Rattle.table.proofs.Taken.{named-no, named-yes, not-met, met-slot, met-below}
 use Rattle.messages.proofs.Sound.{sound-head}
 use Rattle.lookup.proofs.Answers.{shows-refused, shows-inactive, shows-active}

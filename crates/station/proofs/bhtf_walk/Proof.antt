@@ -3,7 +3,7 @@ use borrow.Author.Needs.{needs}
 use mathlib.Core.Path.{sym, _∙_}
 use native.Mathlib.Omega.{arith}
 use Rattle.bhtf.specs.Inspect.{keyWalk}
-use Rattle.inspect.proofs.Stopping.{stopped-is, refused-is, end-is}
+use Rattle.walk.proofs.Stopping.{stopped-is, refused-is, end-is}
 use Rattle.station.proofs.Told.{shape-key, walks-refused, walks-end, walks-stopped, walk-key, walk-long, walk-slot, walk-place}
 use Rattle.station.proofs.bhtf_walk.Statement.{statement}
 use Rattle.station.proofs.bhtf_walk.Tie as tie

@@ -6,7 +6,7 @@ use lib.ListN.{length}
 use Rattle.bhtf.specs.Bytes.{Bytes, store}
 use Rattle.bhtf.specs.Create.{drawnBytes, freshHeader}
 use Rattle.bhtf.proofs.Accepted.{accepted-facts}
-use Rattle.create.proofs.Stores.{fresh-stored}
+use Rattle.scramble.proofs.Stores.{fresh-stored}
 use borrow.Author.Needs.{needs}
 use Rattle.create.proofs.fresh.write_fresh.Statement.{statement}
 use Rattle.create.proofs.fresh.write_fresh.Tie as tie

@@ -1,7 +1,7 @@
 -- The header's fifteen numbers, one behind the other. Assumes nothing.
 use mathlib.Core.Path.{ap, _∙_}
 use Rattle.bhtf.specs.Bytes.{store}
-use Rattle.create.proofs.Stores.{header-digits}
+use Rattle.scramble.proofs.Stores.{header-digits}
 use borrow.Author.Needs.{needs}
 use Rattle.create.proofs.fresh.write_header.Statement.{statement}
 use Rattle.create.proofs.fresh.write_header.Tie as tie

@@ -1,0 +1,201 @@
+-- Delete's walk in code: one look, and what holds at every turn of the loop.
+--     copied-slot, moved-code, stays-code       the code's places and numbers are the layout's
+--     looked-stays, looked-moves                one look, by the test
+--     Walking start s h₀ j₀ img h j             the loop's invariant: the walk goes on from here as from the start
+--     walking-start, walking-turn, walking-less, walking-end
+-- Assumes nothing.
+use mathlib.Core.Path.{_≡_, refl, sym, ap, ap₂, _∙_, subst}
+use Prim.Native.Nat.{ℕ, _+_, _*_, _<_}
+use native.Mathlib.Omega.{arith}
+use mathlib.Core.Bool.{Bool, true, false, cond}
+use mathlib.Core.Logic.{inl, inr}
+use Rattle.bhtf.specs.Bytes.{Bytes, part, store}
+use Rattle.bhtf.specs.Image.{Layout, layoutOf, slotStart, slot, putSlot, blank, vacant}
+use Rattle.bhtf.specs.Messages.{Walked, among, moved, walk, closed}
+use Rattle.bhtf.specs.Questions.{openNumber}
+use Rattle.bhtf.specs.Search.{next}
+use Rattle.bhtf.proofs.Tests.{by-bool}
+use Rattle.bhtf.proofs.Bytes.{Apart}
+use Rattle.bhtf.proofs.Slots.{slots-apart, length-blank}
+use Rattle.bhtf.proofs.Table.{Taken}
+use Rattle.bhtf.proofs.Walk.{Going, stays, left, looks, going-closed, going-skip, going-move, left-skip, left-move}
+use Rattle.bhtf.proofs.Walk.{turn-image, turn-skip, turn-move, closed-looks, hole-other}
+use Rattle.layout.specs.Shapes.{shapeOf}
+use Rattle.layout.specs.declared.shape.Shape.{Shape}
+use Rattle.table.specs.Slots.{Placed, homeIn}
+use Rattle.closing.specs.Walks.{staysAt, Beside, lookedImage, lookedHole}
+use Rattle.table.proofs.Headers.{layout-slots, slot-place, slot-room, room, placed-opened}
+use Rattle.table.proofs.Heads.{SameHead, head-trans, head-putSlot, head-half, head-moved}
+
+-- ---- a move
+apart-at : (q m p q′ m′ p′ : ℕ) → q′ ≡ q → m′ ≡ m → p′ ≡ p → Apart q m p m → Apart q′ m′ p′ m′
+apart-at q m p q′ m′ p′ e f g (inl h) = inl (omega arith)
+apart-at q m p q′ m′ p′ e f g (inr h) = inr (omega arith)
+
+module _ (img : Bytes) (s : Shape) (is : s ≡ shapeOf img) (hole j : ℕ) (from to : ℕ)
+    (from-at : from ≡ 2048 + j * (s .key + 4)) (to-at : to ≡ 2048 + hole * (s .key + 4)) where
+  pub code-apart : (hole ≡ j → ⊥) → Apart from (s .key + 4) to (s .key + 4)
+  code-apart n =
+      apart-at _ _ _ from (s .key + 4) to (from-at ∙ sym (slot-place img s is j)) (sym (slot-room img s is))
+      (to-at ∙ sym (slot-place img s is hole)) (slots-apart (layoutOf img) j hole (λ e. n (sym e)))
+
+  pub copied-slot : store img to (part img from (s .key + 4))
+      ≡ putSlot (layoutOf img) img hole (slot (layoutOf img) img j)
+  unfolding putSlot slot
+  copied-slot =
+      ap₂ (λ (p q : ℕ). store img p (part img q (s .key + 4)))
+      (to-at ∙ sym (slot-place img s is hole)) (from-at ∙ sym (slot-place img s is j))
+      ∙ ap (λ (m : ℕ). store img (slotStart (layoutOf img) hole) (part img (slotStart (layoutOf img) j) m)) (sym (slot-room img s is))
+
+-- the image half way, b, and after slot j was zeroed by b's own layout
+pub moved-code : (img b : Bytes) (s : Shape) (hole j : ℕ) → openNumber img ≡ 0 → s ≡ shapeOf img → Beside s hole j
+    → b ≡ putSlot (layoutOf img) img hole (slot (layoutOf img) img j)
+    → putSlot (layoutOf b) b j (blank (layoutOf b)) ≡ moved (layoutOf img) img hole j
+unfolding moved
+moved-code img b s hole j h is d e =
+    let n = layout-slots img s is in
+    let half = head-half (layoutOf img) img h (room img h) hole j (omega (arith, d .hole-lt)) (omega (arith, d .slot-lt)) in
+    ap (λ (x : Bytes). putSlot (layoutOf x) x j (blank (layoutOf x))) e
+    ∙ ap (λ (g : Layout). putSlot g (putSlot (layoutOf img) img hole (slot (layoutOf img) img j)) j (blank g))
+    (half .layout)
+
+pub placed-code : (img b : Bytes) (s : Shape) (hole j : ℕ) → openNumber img ≡ 0 → s ≡ shapeOf img → Beside s hole j
+    → b ≡ putSlot (layoutOf img) img hole (slot (layoutOf img) img j) → Placed b s
+placed-code img b s hole j h is d e =
+    let n = layout-slots img s is in
+    let half = head-half (layoutOf img) img h (room img h) hole j (omega (arith, d .hole-lt)) (omega (arith, d .slot-lt)) in
+    subst (λ (x : Bytes). Placed x s) (sym e) (placed-opened _ s (half .opened) (is ∙ sym (half .shape)))
+
+-- ---- a look
+pub stays-code : (img : Bytes) (s : Shape) → s ≡ shapeOf img → (hole j home′ : ℕ) → home′ ≡ homeIn img j
+    → among (s .slots) (next (s .slots) hole) j home′ ≡ staysAt (layoutOf img) img hole j
+stays-code img s is hole j home′ e = ap₂ (λ (n k : ℕ). among n (next n hole) j k) (sym (layout-slots img s is)) e
+
+module _ (g : Layout) (img : Bytes) (hole j : ℕ) where
+  pub looked-stays : staysAt g img hole j ≡ true → (lookedHole g img hole j ≡ hole) × (lookedImage g img hole j ≡ img)
+  unfolding lookedHole lookedImage
+  looked-stays e =
+      (ap (λ (b : Bool). cond b hole j) e, ap (λ (b : Bool). cond b img (moved g img hole j)) e)
+
+  pub looked-moves : staysAt g img hole j ≡ false → (lookedHole g img hole j ≡ j) × (lookedImage g img hole j ≡ moved g img hole j)
+  unfolding lookedHole lookedImage
+  looked-moves e =
+      (ap (λ (b : Bool). cond b hole j) e, ap (λ (b : Bool). cond b img (moved g img hole j)) e)
+
+-- ---- the loop
+pub record Walking (start : Bytes) (s : Shape) (h₀ j₀ : ℕ) (img : Bytes) (h j : ℕ) : Type 0 where
+  pub head : SameHead start img
+  pub shape : s ≡ shapeOf img
+  pub going : Going (layoutOf start) img h j
+  pub same : walk (looks (layoutOf start) start h₀ j₀) (layoutOf start) start h₀ j₀ .image
+      ≡ walk (looks (layoutOf start) img h j) (layoutOf start) img h j .image
+
+module _ {start : Bytes} {s : Shape} {h₀ j₀ : ℕ} {img : Bytes} {h j : ℕ} (w : Walking start s h₀ j₀ img h j) where
+  pub walking-slots : layoutOf start .N ≡ s .slots
+  walking-slots = sym (ap (λ (g : Layout). g .N) (w .head .layout)) ∙ layout-slots img s (w .shape)
+
+  -- the test, and one look, by the layout of the start
+  look-image : lookedImage (layoutOf img) img h j ≡ lookedImage (layoutOf start) img h j
+  look-image = ap (λ (g : Layout). lookedImage g img h j) (w .head .layout)
+
+  look-hole : lookedHole (layoutOf img) img h j ≡ lookedHole (layoutOf start) img h j
+  look-hole = ap (λ (g : Layout). lookedHole g img h j) (w .head .layout)
+
+  look-next : next (s .slots) j ≡ next (layoutOf start .N) j
+  look-next = ap (λ (n : ℕ). next n j) (sym walking-slots)
+
+  taken : vacant (layoutOf img) (slot (layoutOf img) img j) ≡ false → Taken (layoutOf start) img j
+  taken t = sym (ap (λ (g : Layout). vacant g (slot g img j)) (w .head .layout)) ∙ t
+
+  -- the hole is not the slot that is looked at
+  pub walking-other : vacant (layoutOf img) (slot (layoutOf img) img j) ≡ false → h ≡ j → ⊥
+  walking-other t = hole-other (layoutOf start) img h j (w .going) (taken t)
+
+  -- the state after a look, and the measure
+  abbrev pub After : Bytes → ℕ → ℕ → Type 0
+  After img′ h′ j′ = Walking start s h₀ j₀ img′ h′ j′ × (left (layoutOf start) img′ h′ j′ < left (layoutOf start) img h j)
+
+  after-stays : Taken (layoutOf start) img j → stays (layoutOf start) img h j ≡ true → After img h (next (layoutOf start .N) j)
+  after-stays t a = (
+    record {
+      head = w .head;
+      shape = w .shape;
+      going = going-skip (layoutOf start) img h j (w .going) t;
+      same = w .same ∙ ap (λ (x : Walked). x .image) (turn-skip (layoutOf start) img h j (w .going) t a);
+    },
+    omega (arith, left-skip (layoutOf start) img h j (w .going) t),
+  )
+
+  after-moves : Taken (layoutOf start) img j → stays (layoutOf start) img h j ≡ false
+      → After (moved (layoutOf start) img h j) j (next (layoutOf start .N) j)
+  after-moves t a =
+      let g = layoutOf start in
+      let head′ = head-moved g img (w .head .opened) (w .going .room) h j (w .going .hole-lt) (w .going .slot-lt) in (
+        record {
+          head = head-trans (w .head) head′;
+          shape = w .shape ∙ sym (head′ .shape);
+          going = going-move g img h j (w .going) t;
+          same = w .same ∙ ap (λ (x : Walked). x .image) (turn-move g img h j (w .going) t a);
+        },
+        omega (arith, left-move g img h j (w .going) t a),
+      )
+
+  pub walking-turn : (img′ : Bytes) (h′ j′ : ℕ) → vacant (layoutOf img) (slot (layoutOf img) img j) ≡ false
+      → img′ ≡ lookedImage (layoutOf img) img h j → h′ ≡ lookedHole (layoutOf img) img h j → j′ ≡ next (s .slots) j
+      → After img′ h′ j′
+  walking-turn img′ h′ j′ t ei eh ej =
+      by-bool (stays (layoutOf start) img h j)
+      (λ a.
+      let e = looked-stays (layoutOf start) img h j a in
+      put (ei ∙ look-image ∙ e .1) (eh ∙ look-hole ∙ e .0) (after-stays (taken t) a))
+      (λ a.
+      let e = looked-moves (layoutOf start) img h j a in
+      put (ei ∙ look-image ∙ e .1) (eh ∙ look-hole ∙ e .0) (after-moves (taken t) a))
+    where
+      put : {x : Bytes} {k : ℕ} → img′ ≡ x → h′ ≡ k → After x k (next (layoutOf start .N) j) → After img′ h′ j′
+      put {x} {k} p q a =
+          subst (λ (y : Bytes). After y h′ j′) (sym p)
+          (subst (λ (y : ℕ). After x y j′) (sym q) (subst (λ (y : ℕ). After x k y) (sym (ej ∙ look-next)) a))
+
+  -- at a vacant slot the walk has ended
+  pub walking-end : vacant (layoutOf img) (slot (layoutOf img) img j) ≡ true
+      → img ≡ walk (looks (layoutOf start) start h₀ j₀) (layoutOf start) start h₀ j₀ .image
+  walking-end v =
+      sym (w .same ∙ turn-image (layoutOf start) img h j (sym (ap (λ (g : Layout). vacant g (slot g img j)) (w .head .layout)) ∙ v))
+
+-- ---- the start: slot i was zeroed
+module _ (img : Bytes) (s : Shape) (o : openNumber img ≡ 0) (is : s ≡ shapeOf img) (i : ℕ) (l : i < s .slots) where
+  slot-lt : i < layoutOf img .N
+  slot-lt = omega (arith, layout-slots img s is)
+
+  cleared : Bytes
+  cleared = putSlot (layoutOf img) img i (blank (layoutOf img))
+
+  cleared-head : SameHead img cleared
+  unfolding cleared
+  cleared-head = head-putSlot (layoutOf img) img o (room img o) i (blank (layoutOf img)) slot-lt (length-blank (layoutOf img))
+
+  pub walking-start : (b : Bytes) (j : ℕ) → b ≡ putSlot (layoutOf img) img i (blank (layoutOf img)) → j ≡ next (s .slots) i
+      → Walking b s i j b i j
+  unfolding cleared
+  walking-start b j e ej =
+      subst (λ (x : Bytes). Walking x s i j x i j) (sym e)
+      (subst (λ (k : ℕ). Walking cleared s i k cleared i k) (sym (ej ∙ ap (λ (n : ℕ). next n i) (sym (layout-slots img s is))))
+      (record {
+        head = record { opened = cleared-head .opened; layout = refl; shape = refl; size = refl };
+        shape = is ∙ sym (cleared-head .shape);
+        going =
+            subst (λ (g : Layout). Going g cleared i (next (layoutOf img .N) i)) (sym (cleared-head .layout))
+            (going-closed (layoutOf img) img (room img o) i slot-lt);
+        same = refl;
+      }))
+
+  pub walking-closed : (b : Bytes) (j : ℕ) → b ≡ putSlot (layoutOf img) img i (blank (layoutOf img)) → j ≡ next (s .slots) i
+      → walk (looks (layoutOf b) b i j) (layoutOf b) b i j .image ≡ closed (layoutOf img) img i
+  unfolding cleared
+  walking-closed b j e ej =
+      ap₂ (λ (x : Bytes) (k : ℕ). walk (looks (layoutOf x) x i k) (layoutOf x) x i k .image) e
+      (ej ∙ ap (λ (n : ℕ). next n i) (sym (layout-slots img s is)))
+      ∙ ap (λ (g : Layout). walk (looks g cleared i (next (layoutOf img .N) i)) g cleared i (next (layoutOf img .N) i) .image)
+      (cleared-head .layout)
+      ∙ sym (closed-looks (layoutOf img) img (room img o) i slot-lt)

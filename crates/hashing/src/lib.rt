@@ -1,0 +1,37 @@
+// The hash of a key.
+use words::arith::mul_u32;
+use words::fields::read_u32;
+ghost use mathlib.Core.Path.{_≡_};
+ghost use Prim.Native.Nat.{_+_, _-_, _*_, _≤_};
+ghost use lib.ListN.{length};
+ghost use Rattle.bhtf.specs.Image.{hashStep, hashFrom};
+
+// The hash h, taken one key byte c further.
+pub fn hash_step(scramble: &[u8], multiplier: u32, first: u32, last: u32, h: u32, c: u8) -> u32
+    requires { ⌜ 4 * (last - first + 1) ≤ length (now scramble) ⌝ }
+    ensures { λ r. ⌜ r ≡ hashStep multiplier first last (now (scramble .entry)) h c ⌝ }
+{
+    let x = mul_u32(h, multiplier);
+    let n = c as u32;
+    if n < first {
+        return x;
+    }
+    if last < n {
+        return x;
+    }
+    x ^ read_u32(scramble, (4 * (n - first)) as usize)
+}
+
+// The hash of the key, from the start value on.
+pub fn hash(scramble: &[u8], multiplier: u32, start: u32, first: u32, last: u32, key: &[u8]) -> u32
+    requires { ⌜ 4 * (last - first + 1) ≤ length (now scramble) ⌝ }
+    ensures { λ r. ⌜ r ≡ hashFrom multiplier first last (now (scramble .entry)) start (now (key .entry)) ⌝ }
+{
+    let mut h = start;
+    let mut i = 0;
+    while i < key.len() {
+        h = hash_step(scramble, multiplier, first, last, h, key[i]);
+        i += 1;
+    }
+    h
+}

@@ -1,0 +1,144 @@
+// A point that is present: its message is replaced or made longer, in place where the bytes fit, else in new space.
+use layout::places::Offset;
+use layout::places::Slot;
+use layout::shape::Shape;
+use messages::held_at;
+use messages::is_active;
+use messages::length_at;
+use messages::message_sound;
+use messages::text_start;
+use room::room_number;
+use storing::overwrite;
+use storing::retire;
+use storing::take_space;
+use table::offset_of;
+use table::put_entry;
+use words::fields::read_u32;
+use words::limits::FREE_FIELD;
+ghost use mathlib.Core.Path.{_≡_};
+ghost use mathlib.Core.Bool.{true};
+ghost use mathlib.Core.List.{_++_};
+ghost use Prim.Native.Nat.{_+_, _≤_, _<_};
+ghost use lib.ListN.{length};
+ghost use Rattle.bhtf.specs.Bytes.{part};
+ghost use Rattle.bhtf.specs.Calls.{settled, add};
+ghost use Rattle.bhtf.specs.Image.{field, layoutOf};
+ghost use Rattle.bhtf.specs.Messages.{relocated, renewedText, renewedAt};
+ghost use Rattle.bhtf.specs.Questions.{openNumber, nameAllowed, modeKnown, messageSound};
+ghost use Rattle.bhtf.specs.Search.{met, search};
+ghost use Rattle.layout.specs.Shapes.{shapeOf};
+ghost use Rattle.room.specs.Rooms.{roomNumber, placeNumber, shownLength};
+
+// The old message, if there is one, becomes inactive; the first `before` bytes of its text, and the bytes, are placed in new
+// space, where the point's entry then points.
+fn relocate(
+    image: &mut [u8],
+    shape: Shape,
+    slot: Slot,
+    o: Offset,
+    before: usize,
+    key: &[u8],
+    bytes: &[u8],
+)
+    requires { ⌜ (openNumber (now image) ≡ 0) × (shape ≡ shapeOf (now image)) × (slot .0 < shape .slots)
+        × (length (now key) ≡ shape .key)
+        × (messageSound (layoutOf (now image)) (now image) (o .0) ≡ true)
+        × (o .0 + 4 + before ≤ field (now image) 52)
+        × (roomNumber (now image) (before + length (now bytes)) ≡ 0) ⌝ }
+    ensures { λ _. ⌜ now (image .exit)
+        ≡ relocated (layoutOf (now (image .entry))) (now (image .entry)) (slot .0) (o .0) (now (key .entry))
+        (part (now (image .entry)) (o .0 + 4) before ++ now (bytes .entry)) ⌝ }
+{
+    let area = shape.area;
+    let free = Offset::new(read_u32(image, FREE_FIELD) as usize);
+    retire(image, o);
+    take_space(image, area, text_start(o), before, bytes);
+    put_entry(image, shape, slot, key, free);
+}
+
+// Mode 2: no bytes make the message inactive; as many as the offset holds are written in place; more are placed in new space.
+fn replace(image: &mut [u8], shape: Shape, slot: Slot, o: Offset, key: &[u8], bytes: &[u8]) -> u32
+    requires { ⌜ (openNumber (now image) ≡ 0) × (shape ≡ shapeOf (now image)) × (slot .0 < shape .slots)
+        × (length (now key) ≡ shape .key)
+        × (messageSound (layoutOf (now image)) (now image) (o .0) ≡ true) ⌝ }
+    ensures { λ r. ⌜ (r ≡ placeNumber (now (image .entry)) (renewedText (layoutOf (now (image .entry))) (now (image .entry)) (o .0) (now (bytes .entry)) 2))
+        × (now (image .exit)
+        ≡ settled r (now (image .entry))
+        (renewedAt (layoutOf (now (image .entry))) (now (image .entry)) (slot .0) (o .0) (now (key .entry)) (now (bytes .entry)) 2)) ⌝ }
+{
+    if bytes.len() == 0 {
+        retire(image, o);
+        return 0;
+    }
+    if bytes.len() <= held_at(image, o) {
+        overwrite(image, o, bytes);
+        return 0;
+    }
+    let number = room_number(image, bytes.len());
+    if number != 0 {
+        return number;
+    }
+    relocate(image, shape, slot, o, 0, key, bytes);
+    0
+}
+
+// How many bytes of text the offset shows: those of an active message.
+fn shown_length(image: &[u8], o: Offset) -> usize
+    requires { ⌜ o .0 + 4 ≤ length (now image) ⌝ }
+    ensures { λ r. ⌜ r ≡ shownLength (now (image .entry)) (o .0) ⌝ }
+{
+    if is_active(image, o) {
+        return length_at(image, o);
+    }
+    0
+}
+
+// Mode 3: no bytes change nothing; others are placed in new space, behind the text of an active message.
+fn append(image: &mut [u8], shape: Shape, slot: Slot, o: Offset, key: &[u8], bytes: &[u8]) -> u32
+    requires { ⌜ (openNumber (now image) ≡ 0) × (shape ≡ shapeOf (now image)) × (slot .0 < shape .slots)
+        × (length (now key) ≡ shape .key)
+        × (messageSound (layoutOf (now image)) (now image) (o .0) ≡ true) ⌝ }
+    ensures { λ r. ⌜ (r ≡ placeNumber (now (image .entry)) (renewedText (layoutOf (now (image .entry))) (now (image .entry)) (o .0) (now (bytes .entry)) 3))
+        × (now (image .exit)
+        ≡ settled r (now (image .entry))
+        (renewedAt (layoutOf (now (image .entry))) (now (image .entry)) (slot .0) (o .0) (now (key .entry)) (now (bytes .entry)) 3)) ⌝ }
+{
+    if bytes.len() == 0 {
+        return 0;
+    }
+    let before = shown_length(image, o);
+    let number = room_number(image, before + bytes.len());
+    if number != 0 {
+        return number;
+    }
+    relocate(image, shape, slot, o, before, key, bytes);
+    0
+}
+
+// Add of a point that is present: question 9 before its message is looked at, then 11, then 12 and 13.
+pub fn add_present(
+    image: &mut [u8],
+    shape: Shape,
+    slot: Slot,
+    key: &[u8],
+    bytes: &[u8],
+    mode: u32,
+) -> u32
+    requires { ⌜ (openNumber (now image) ≡ 0) × (shape ≡ shapeOf (now image))
+        × (nameAllowed (layoutOf (now image) .K) (now key) ≡ true) × (modeKnown mode ≡ true)
+        × (search (layoutOf (now image)) (now image) (now key) ≡ met (slot .0)) ⌝ }
+    ensures { λ r. ⌜ (r ≡ add (now (image .entry)) (now (key .entry)) (now (bytes .entry)) mode .answer .number)
+        × (now (image .exit) ≡ add (now (image .entry)) (now (key .entry)) (now (bytes .entry)) mode .after) ⌝ }
+{
+    if mode == 1 {
+        return 9;
+    }
+    let o = offset_of(image, shape, slot);
+    if !message_sound(image, shape, o) {
+        return 11;
+    }
+    if mode == 2 {
+        return replace(image, shape, slot, o, key, bytes);
+    }
+    append(image, shape, slot, o, key, bytes)
+}

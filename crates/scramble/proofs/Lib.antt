@@ -1,0 +1,2 @@
+pub mod SeedZero
+pub mod Stores

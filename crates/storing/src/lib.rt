@@ -1,0 +1,102 @@
+// A message is written: made inactive, in place, or in new space at X.
+use layout::places::Offset;
+use messages::is_active;
+use messages::length_at;
+use runs::copy;
+use runs::copy_up;
+use runs::zero;
+use words::fields::read_u32;
+use words::fields::write_u24;
+use words::fields::write_u32;
+use words::limits::FREE_FIELD;
+use words::limits::PAGE;
+use words::limits::PAGE_FIELD;
+ghost use mathlib.Core.Path.{_≡_};
+ghost use mathlib.Core.Bool.{true};
+ghost use mathlib.Core.List.{_++_};
+ghost use Prim.Native.Nat.{_+_, _≤_, _<_, _^_};
+ghost use lib.ListN.{length};
+ghost use Rattle.bhtf.specs.Bytes.{part};
+ghost use Rattle.bhtf.specs.Image.{field, lastPage, layoutOf};
+ghost use Rattle.bhtf.specs.Messages.{held, takeSpace, retire, overwrite};
+ghost use Rattle.bhtf.specs.Questions.{openNumber, messageSound};
+ghost use Rattle.storing.specs.Written.{written, freeSet};
+
+// Makes an active message inactive.
+pub fn retire(image: &mut [u8], o: Offset)
+    requires { ⌜ o .0 < length (now image) ⌝ }
+    ensures { λ _. ⌜ now (image .exit) ≡ retire (now (image .entry)) (o .0) ⌝ }
+{
+    if is_active(image, o) {
+        let at = o.at();
+        image[at] = b'd';
+    }
+}
+
+// Writes an active message: its header, and the bytes behind the text's first `before` bytes, which stand there.
+pub fn write_message(space: &mut [u8], before: usize, bytes: &[u8])
+    requires { ⌜ (length (now space) ≡ 4 + before + length (now bytes)) × (before + length (now bytes) < 2 ^ 24) ⌝ }
+    ensures { λ _. ⌜ now (space .exit) ≡ written (part (now (space .entry)) 4 before ++ now (bytes .entry)) ⌝ }
+{
+    let m = before + bytes.len();
+    space[0] = b'a';
+    write_u24(space, 1, m as u32);
+    let from = 4 + before;
+    copy(&mut space[from..], bytes);
+}
+
+// Writes a message over the one at the offset, and zeroes the rest of the old bytes.
+pub fn overwrite(image: &mut [u8], o: Offset, bytes: &[u8])
+    requires { ⌜ (openNumber (now image) ≡ 0)
+        × (messageSound (layoutOf (now image)) (now image) (o .0) ≡ true)
+        × (0 < o .0)
+        × (length (now bytes) ≤ held (layoutOf (now image)) (now image) (o .0)) ⌝ }
+    ensures { λ _. ⌜ now (image .exit)
+        ≡ overwrite (layoutOf (now (image .entry))) (now (image .entry)) (o .0) (now (bytes .entry)) ⌝ }
+{
+    let at = o.at();
+    let old = at + 4 + length_at(image, o);
+    let end = at + 4 + bytes.len();
+    write_message(&mut image[at..end], 0, bytes);
+    zero(&mut image[end..old]);
+}
+
+// The last page, M, of an image with data offset `area` and next free offset `free`.
+pub fn last_page(area: Offset, free: Offset) -> u32
+    requires { ⌜ (area .0 ≤ free .0) × (free .0 < 2 ^ 32) ⌝ }
+    ensures { λ r. ⌜ r ≡ lastPage (area .0) (free .0) ⌝ }
+{
+    let d = area.at();
+    let x = free.at();
+    if x == d {
+        return 0xffff_ffff;
+    }
+    ((x - d - 1) / PAGE) as u32
+}
+
+// Writes the next free offset, X, and the last page, M.
+pub fn set_free(image: &mut [u8], area: Offset, free: Offset)
+    requires { ⌜ (60 ≤ length (now image)) × (area .0 ≤ free .0) × (free .0 < 2 ^ 32) ⌝ }
+    ensures { λ _. ⌜ now (image .exit) ≡ freeSet (area .0) (now (image .entry)) (free .0) ⌝ }
+{
+    write_u32(image, FREE_FIELD, free.at() as u32);
+    write_u32(image, PAGE_FIELD, last_page(area, free));
+}
+
+// Places a message at X: its text is the `before` bytes from `from` on, copied, and then the bytes.
+pub fn take_space(image: &mut [u8], area: Offset, from: Offset, before: usize, bytes: &[u8])
+    requires { ⌜ (openNumber (now image) ≡ 0)
+        × (area .0 ≡ layoutOf (now image) .D)
+        × (from .0 + before ≤ field (now image) 52)
+        × (before + length (now bytes) < 2 ^ 24)
+        × (field (now image) 52 + 4 + (before + length (now bytes)) ≤ length (now image)) ⌝ }
+    ensures { λ _. ⌜ now (image .exit)
+        ≡ takeSpace (layoutOf (now (image .entry))) (now (image .entry))
+        (part (now (image .entry)) (from .0) before ++ now (bytes .entry)) ⌝ }
+{
+    let free = read_u32(image, FREE_FIELD) as usize;
+    copy_up(image, from.at(), free + 4, before);
+    let end = free + 4 + (before + bytes.len());
+    write_message(&mut image[free..end], before, bytes);
+    set_free(image, area, Offset::new(end));
+}
