@@ -33,7 +33,7 @@ refused() {
   fi
 }
 
-refused table search.rt 'Slot::new((h as usize) % slots)' 'Offset::new((h as usize) % slots)'
+refused table lib.rt 'Slot::new((h as usize) % slots)' 'Offset::new((h as usize) % slots)'
 refused lookup lib.rt 'message_sound(image, shape, o)' 'message_sound(image, shape, slot)'
 refused delete lib.rt 'close(image, shape, i)' 'close(image, shape, o)'
 
