@@ -24,16 +24,6 @@ show() {
   "$@"
 }
 
-need() {
-  local missing=()
-  command -v gcc >/dev/null || missing+=(gcc libc6-dev)
-  command -v make >/dev/null || missing+=(make)
-  [ ${#missing[@]} -eq 0 ] && return 0
-  say "Install ${missing[*]}"
-  apt-get update
-  apt-get install -y "${missing[@]}"
-}
-
 # Is the archive missing, or older than a source of it?
 stale() {
   [ ! -e "$1" ] || [ -n "$(find crates crates.txt -newer "$1" -print -quit)" ]
@@ -56,7 +46,7 @@ build() {
 }
 
 out=$(cd host && realpath -m "${OUT:-build}")
-need
+.ci/install gcc libc6-dev make
 build
 work=$(mktemp -d)
 trap 'rm -rf "$work"' EXIT
