@@ -74,9 +74,7 @@ settings=()
 
 holds "builds with gcc" make -C host OUT="$work/gcc" CC=gcc "${settings[@]}"
 [ -x "$work/gcc/bhtf" ] || { cat "$work/out"; echo "$passed passed, $failed failed"; exit 1; }
-if command -v clang >/dev/null; then
-  holds "builds with clang" make -C host OUT="$work/clang" CC=clang "${settings[@]}"
-fi
+holds "builds with clang" make -C host OUT="$work/clang" CC=clang "${settings[@]}"
 holds "builds with sanitizers" \
   make -C host OUT="$work/sanitize" SANITIZE=yes "${settings[@]}"
 holds "the lock holder builds" gcc -std=c99 -D_POSIX_C_SOURCE=200809L -Wall -Wextra -Werror \
@@ -91,9 +89,7 @@ int main(void) { return bhtf_message(BHTF_ABSENT) == 0; }' >"$work/uses$1"
     "$work/uses"
 }
 holds "the header is C99" header_compiles .c gcc -std=c99
-if command -v g++ >/dev/null; then
-  holds "the header is C++" header_compiles .cc g++ -std=c++98
-fi
+holds "the header is C++" header_compiles .cc g++ -std=c++98
 
 installs() {
   make -C host OUT="$work/gcc" "${settings[@]}" install PREFIX="$work/usr" || return 1
@@ -104,21 +100,20 @@ installs() {
   "$work/usr/bin/bhtf" --version
 }
 holds "installs" installs
-if command -v pkg-config >/dev/null; then
-  through_pkg_config() {
-    # shellcheck disable=SC2046
-    gcc -std=c99 "$work/uses.c" -o "$work/uses" \
-      $(PKG_CONFIG_PATH="$work/usr/lib/pkgconfig" pkg-config --cflags --libs bhtf) && "$work/uses"
-  }
-  holds "a program builds with pkg-config" through_pkg_config
-fi
-if command -v mandoc >/dev/null; then
-  holds "the man page passes mandoc" mandoc -Tlint host/bhtf.1
-fi
-if command -v man >/dev/null; then
-  man_is_clean() { [ -z "$(man --warnings -l host/bhtf.1 2>&1 >/dev/null)" ]; }
-  holds "the man page has no warnings" man_is_clean
-fi
+through_pkg_config() {
+  # shellcheck disable=SC2046
+  gcc -std=c99 "$work/uses.c" -o "$work/uses" \
+    $(PKG_CONFIG_PATH="$work/usr/lib/pkgconfig" pkg-config --cflags --libs bhtf) && "$work/uses"
+}
+holds "a program builds with pkg-config" through_pkg_config
+holds "the man page passes mandoc" mandoc -Tlint host/bhtf.1
+man_is_clean() {
+  local said
+  said=$(man --warnings -l host/bhtf.1 2>&1 >"$work/page") && [ -z "$said" ] && [ -s "$work/page" ] && return
+  echo "$said"
+  return 1
+}
+holds "the man page has no warnings" man_is_clean
 
 gives "the demonstration runs" 0 '^sound: 11 points$' \
   env LIB="$work/gcc/libbhtf.a" OUT="$work/demo" host/demo.sh
@@ -562,17 +557,17 @@ gives "and a message" 0 'cut short by another program' cat import.err
 
 # ---- progress ----
 
-if command -v script >/dev/null; then
-  bhtf create slow
-  mkfifo slow.in slow.in2
-  slowly() { seq 300 | sed 's/.*/S&,&,&,&,/'; sleep 0.8; seq 301 900 | sed 's/.*/S&,&,&,&,/'; }
-  slowly >slow.in &
-  script -qec "bhtf import slow slow.in" /dev/null >progress </dev/null
-  gives "a long import shows its progress on a terminal" 0 $'\rbhtf: [0-9]+ points stored' cat progress
-  slowly >slow.in2 &
-  script -qec "bhtf import slow slow.in2 --replace --quiet" /dev/null >progress </dev/null
-  same "but not with --quiet" '' "$(cat progress)"
-fi
+bhtf create slow
+mkfifo slow.in slow.in2
+slowly() { seq 300 | sed 's/.*/S&,&,&,&,/'; sleep 0.8; seq 301 900 | sed 's/.*/S&,&,&,&,/'; }
+slowly >slow.in &
+helpers+=($!)
+script -qec "bhtf import slow slow.in" /dev/null >progress </dev/null
+gives "a long import shows its progress on a terminal" 0 $'\rbhtf: [0-9]+ points stored' cat progress
+slowly >slow.in2 &
+helpers+=($!)
+script -qec "bhtf import slow slow.in2 --replace --quiet" /dev/null >progress </dev/null
+same "but not with --quiet" '0 900' "$? $(bhtf count slow)$(cat progress)"
 
 # ---- a file that may only be read ----
 
