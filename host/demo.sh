@@ -31,18 +31,12 @@ stale() {
 
 build() {
   local archive=${LIB:-target/staticlib/libstation.a}
-  local extra=()
   if [ -z "${LIB:-}" ] && stale "$archive"; then
     say "Prove the library and write its archive"
     "${RT:-rt}" staticlib station
   fi
-  archive=$(realpath "$archive")
-  if ! nm "$archive" 2>/dev/null | grep -q ' T bhtf_walk$'; then
-    say "The archive has no walk and check yet: they come from the tests' C"
-    extra=(WALK_CHECK=plain)
-  fi
   say "Build the command"
-  make -s -C host OUT="$out" LIB="$archive" "${extra[@]}"
+  make -s -C host OUT="$out" LIB="$(realpath "$archive")"
 }
 
 out=$(cd host && realpath -m "${OUT:-build}")

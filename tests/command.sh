@@ -1,12 +1,10 @@
 #!/usr/bin/env bash
 # End to end tests of the command bhtf. A line for each test; the last line is
 # 'N passed, M failed', and the status 0 only if M is 0.
-#   LIB=path          the library, from the repository's root;
-#                     target/staticlib/libstation.a unless given
-#   LDLIBS=..         if it needs more
-#   WALK_CHECK=plain  walk and check from the plain C of tests/reference, for
-#                     an archive without them
-#   STANDIN=yes       that C in the library's place
+#   LIB=path     the library, from the repository's root;
+#                target/staticlib/libstation.a unless given
+#   LDLIBS=..    if it needs more
+#   STANDIN=yes  the plain C of tests/reference in its place
 set -u
 cd "$(dirname "$0")/.." || exit 2
 root=$PWD
@@ -69,7 +67,6 @@ until_true() {
 settings=()
 [ -n "${LIB:-}" ] && settings+=(LIB="$(realpath "$LIB")")
 [ -n "${LDLIBS:-}" ] && settings+=(LDLIBS="$LDLIBS")
-[ -n "${WALK_CHECK:-}" ] && settings+=(WALK_CHECK="$WALK_CHECK")
 [ -n "${STANDIN:-}" ] && settings+=(STANDIN="$STANDIN")
 
 holds "builds with gcc" make -C host OUT="$work/gcc" CC=gcc "${settings[@]}"
