@@ -171,7 +171,7 @@ for round in $(seq "$rounds"); do
   if [ "$quick" = 1 ]; then run_quick_round "$round"; else run_round "$round"; fi
 done
 
-read -r same different < <(awk -f bench/compare.awk "$results")
+read -r same different < <(awk -f bench/compare.awk "$results") || fail "the answers were not compared"
 passed=$((passed + same))
 failed=$((failed + different))
 
