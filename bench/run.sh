@@ -45,20 +45,6 @@ bin=target/bench
 
 # ---- what is needed ----
 
-install_missing() {
-  local missing=() package
-  for package in gcc g++ make libgdbm-dev libtdb-dev liblmdb-dev libkyotocabinet-dev; do
-    dpkg-query -W -f '${Status}' "$package" 2>/dev/null | grep -q 'ok installed' || missing+=("$package")
-  done
-  [ ${#missing[@]} -eq 0 ] && return
-  echo "installing ${missing[*]}"
-  local as=()
-  [ "$(id -u)" = 0 ] || as=(sudo)
-  "${as[@]}" env DEBIAN_FRONTEND=noninteractive apt-get install -y -q --no-install-recommends "${missing[@]}" >/dev/null ||
-    { "${as[@]}" apt-get update -q >/dev/null &&
-      "${as[@]}" env DEBIAN_FRONTEND=noninteractive apt-get install -y -q --no-install-recommends "${missing[@]}" >/dev/null; }
-}
-
 find_library() {
   if [ "$self" = 1 ]; then
     make -s -C bench standin || return
@@ -70,7 +56,7 @@ find_library() {
   [ -f "$LIB" ]
 }
 
-install_missing || { echo "packages are missing"; exit 2; }
+.ci/install gcc g++ make util-linux libgdbm-dev libtdb-dev liblmdb-dev libkyotocabinet-dev || exit 2
 find_library || { echo "no library"; exit 2; }
 make -s -C bench LIB="$LIB" || exit 2
 
@@ -185,7 +171,7 @@ for round in $(seq "$rounds"); do
   if [ "$quick" = 1 ]; then run_quick_round "$round"; else run_round "$round"; fi
 done
 
-read -r same different < <(awk -f bench/compare.awk "$results")
+read -r same different < <(awk -f bench/compare.awk "$results") || fail "the answers were not compared"
 passed=$((passed + same))
 failed=$((failed + different))
 

@@ -209,12 +209,15 @@ int run_delete(const struct options *o)
 
 static int print_text(const struct buffer *text, const struct options *o)
 {
+    /* Asked first, since it changes errno, which says why a write failed. */
+    int on_terminal = isatty(STDOUT_FILENO);
+
     if (text->length == 0 && !o->quiet)
         complain("%s: %s: the point has no text", o->word[0], o->word[1]);
     if (text->length > 0)
         fwrite(text->bytes, 1, text->length, stdout);
     if (text->length > 0 && text->bytes[text->length - 1] != '\n' &&
-        isatty(STDOUT_FILENO))
+        on_terminal)
         putchar('\n');
     return finish_output(DONE);
 }

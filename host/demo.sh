@@ -24,16 +24,6 @@ show() {
   "$@"
 }
 
-need() {
-  local missing=()
-  command -v gcc >/dev/null || missing+=(gcc libc6-dev)
-  command -v make >/dev/null || missing+=(make)
-  [ ${#missing[@]} -eq 0 ] && return 0
-  say "Install ${missing[*]}"
-  apt-get update
-  apt-get install -y "${missing[@]}"
-}
-
 # Is the archive missing, or older than a source of it?
 stale() {
   [ ! -e "$1" ] || [ -n "$(find crates crates.txt -newer "$1" -print -quit)" ]
@@ -41,22 +31,16 @@ stale() {
 
 build() {
   local archive=${LIB:-target/staticlib/libstation.a}
-  local extra=()
   if [ -z "${LIB:-}" ] && stale "$archive"; then
     say "Prove the library and write its archive"
     "${RT:-rt}" staticlib station
   fi
-  archive=$(realpath "$archive")
-  if ! nm "$archive" 2>/dev/null | grep -q ' T bhtf_walk$'; then
-    say "The archive has no walk and check yet: they come from the tests' C"
-    extra=(WALK_CHECK=plain)
-  fi
   say "Build the command"
-  make -s -C host OUT="$out" LIB="$archive" "${extra[@]}"
+  make -s -C host OUT="$out" LIB="$(realpath "$archive")"
 }
 
 out=$(cd host && realpath -m "${OUT:-build}")
-need
+.ci/install gcc libc6-dev make
 build
 work=$(mktemp -d)
 trap 'rm -rf "$work"' EXIT

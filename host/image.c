@@ -85,6 +85,10 @@ static int take(const struct image *i, short type, struct stretch s)
             complain("%s: cannot lock: %s", i->path, strerror(errno));
             return -1;
         }
+        if (i->stop != NULL && *i->stop) {
+            complain("%s: interrupted while others had it locked", i->path);
+            return -1;
+        }
         clock_gettime(CLOCK_MONOTONIC, &now);
         if (now.tv_sec - start.tv_sec > (time_t)i->wait ||
             (now.tv_sec - start.tv_sec == (time_t)i->wait &&
@@ -235,13 +239,27 @@ static int map(struct image *i)
     return 0;
 }
 
+/* Does the path still lead to the open file? What is written to a file that
+ * was removed or replaced while its lock was waited for would be lost. */
+static int ask_path(const struct image *i)
+{
+    struct stat ours, there;
+
+    if (fstat(i->fd, &ours) == 0 && stat(i->path, &there) == 0 &&
+        ours.st_dev == there.st_dev && ours.st_ino == there.st_ino)
+        return 0;
+    complain("%s: another program removed or replaced the file while it was "
+             "in use", i->path);
+    return -1;
+}
+
 static int open_locked(struct image *i)
 {
     if (i->writing && take(i, F_WRLCK, writer_lock) != 0)
         return -1;
     if (take_bytes(i) != 0 || learn_length(i) != 0)
         return -1;
-    if (i->writing && allocate(i) != 0)
+    if (i->writing && (ask_path(i) != 0 || allocate(i) != 0))
         return -1;
     return map(i);
 }
@@ -285,6 +303,7 @@ static int create_file(struct image *i)
 {
     if (open_file(i, O_RDWR | O_CREAT | O_EXCL) != 0)
         return -1;
+    i->created = 1;
     if (take(i, F_WRLCK, writer_lock) == 0 && take_bytes(i) == 0 &&
         allocate(i) == 0 && map(i) == 0)
         return 0;
@@ -319,7 +338,43 @@ void image_pause(struct image *i)
 
 int image_resume(struct image *i)
 {
-    return take_bytes(i);
+    if (take_bytes(i) != 0)
+        return -1;
+    if (ask_path(i) == 0)
+        return 0;
+    give_bytes(i);
+    return -1;
+}
+
+/* The directory that a path's last name stands in; 0, or -1 for no memory. */
+static int directory_of(struct buffer *directory, const char *path)
+{
+    const char *slash = strrchr(path, '/');
+
+    if (slash == NULL)
+        return buffer_put(directory, ".", 2);
+    if (buffer_put(directory, path, (size_t)(slash - path) + 1) != 0)
+        return -1;
+    return buffer_put_byte(directory, '\0');
+}
+
+/* Puts a new file's name on the disk, which is a matter of its directory: 0,
+ * or an error. A directory that may not be read, or that its file system does
+ * not write on demand, is left to the system. */
+static int sync_name(const struct image *i)
+{
+    struct buffer directory = { NULL, 0, 0 };
+    int error = ENOMEM;
+    int fd = -1;
+
+    if (directory_of(&directory, i->path) == 0) {
+        fd = open((const char *)directory.bytes, O_RDONLY | O_CLOEXEC);
+        error = fd >= 0 && fsync(fd) == 0 ? 0 : errno;
+    }
+    if (fd >= 0)
+        close(fd);
+    buffer_free(&directory);
+    return error == EACCES || error == EINVAL ? 0 : error;
 }
 
 int image_close(struct image *i)
@@ -332,6 +387,8 @@ int image_close(struct image *i)
         error = errno;
     if (i->writing && error == 0 && fsync(i->fd) != 0)
         error = errno;
+    if (i->created && error == 0)
+        error = sync_name(i);
     if (error == 0)
         error = release(i);
     else

@@ -15,7 +15,9 @@ struct image {
     uint8_t none;    /* what bytes points to when the file is empty */
     int mapped;
     unsigned wait;   /* seconds to wait for a lock */
+    const volatile sig_atomic_t *stop; /* ends such a wait; may be NULL */
     int writing;     /* opened to be changed */
+    int created;     /* its name is new in its directory */
     int held;        /* the lock on the bytes is held */
     sigset_t before; /* signals blocked before a change began */
 };

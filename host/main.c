@@ -1,6 +1,7 @@
 /* bhtf: keeps control points in a file. */
 #include "commands.h"
 
+#include <fcntl.h>
 #include <signal.h>
 #include <string.h>
 
@@ -37,11 +38,26 @@ static int run_command(const struct command *command, int count, char **words)
     return command->run(&o);
 }
 
+/* Fills the places of standard streams that are closed: a file opened there
+ * would have messages written into it. To use such a stream still fails. */
+static int fill_streams(void)
+{
+    for (int fd = 0; fd <= 2; fd++)
+        if (fcntl(fd, F_GETFD) < 0 &&
+            open("/dev/null", fd == 0 ? O_WRONLY : O_RDONLY) != fd)
+            return -1;
+    return 0;
+}
+
 int main(int argc, char **argv)
 {
     const struct command *command;
     int status;
 
+    if (fill_streams() != 0) {
+        complain("a standard stream is closed, and /dev/null cannot be opened");
+        return TROUBLE;
+    }
     /* A limit on the length of files is then an error like a full disk. */
     signal(SIGXFSZ, SIG_IGN);
     if (argc < 2) {

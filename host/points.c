@@ -320,6 +320,7 @@ static int open_image(struct import *m)
 
     if (image_open(&m->image, m->o->word[0], 1, (unsigned)m->o->wait) != 0)
         return TROUBLE;
+    m->image.stop = &interrupted;
     number = ask_header(m->image.bytes, m->image.length, &m->key_size);
     image_pause(&m->image);
     if (number == BHTF_ACCEPTED)

@@ -1,12 +1,10 @@
 #!/usr/bin/env bash
 # End to end tests of the command bhtf. A line for each test; the last line is
 # 'N passed, M failed', and the status 0 only if M is 0.
-#   LIB=path          the library, from the repository's root;
-#                     target/staticlib/libstation.a unless given
-#   LDLIBS=..         if it needs more
-#   WALK_CHECK=plain  walk and check from the plain C of tests/reference, for
-#                     an archive without them
-#   STANDIN=yes       that C in the library's place
+#   LIB=path     the library, from the repository's root;
+#                target/staticlib/libstation.a unless given
+#   LDLIBS=..    if it needs more
+#   STANDIN=yes  the plain C of tests/reference in its place
 set -u
 cd "$(dirname "$0")/.." || exit 2
 root=$PWD
@@ -69,18 +67,17 @@ until_true() {
 settings=()
 [ -n "${LIB:-}" ] && settings+=(LIB="$(realpath "$LIB")")
 [ -n "${LDLIBS:-}" ] && settings+=(LDLIBS="$LDLIBS")
-[ -n "${WALK_CHECK:-}" ] && settings+=(WALK_CHECK="$WALK_CHECK")
 [ -n "${STANDIN:-}" ] && settings+=(STANDIN="$STANDIN")
 
 holds "builds with gcc" make -C host OUT="$work/gcc" CC=gcc "${settings[@]}"
 [ -x "$work/gcc/bhtf" ] || { cat "$work/out"; echo "$passed passed, $failed failed"; exit 1; }
-if command -v clang >/dev/null; then
-  holds "builds with clang" make -C host OUT="$work/clang" CC=clang "${settings[@]}"
-fi
+holds "builds with clang" make -C host OUT="$work/clang" CC=clang "${settings[@]}"
 holds "builds with sanitizers" \
   make -C host OUT="$work/sanitize" SANITIZE=yes "${settings[@]}"
 holds "the lock holder builds" gcc -std=c99 -D_POSIX_C_SOURCE=200809L -Wall -Wextra -Werror \
   -pedantic tests/locker.c -o "$work/locker"
+holds "the fsync of the tests builds" gcc -std=c99 -D_POSIX_C_SOURCE=200809L -Wall -Wextra -Werror \
+  -pedantic -shared -fPIC tests/fsync.c -o "$work/fsync.so"
 PATH=$work/gcc:$PATH
 
 header_compiles() {
@@ -91,9 +88,7 @@ int main(void) { return bhtf_message(BHTF_ABSENT) == 0; }' >"$work/uses$1"
     "$work/uses"
 }
 holds "the header is C99" header_compiles .c gcc -std=c99
-if command -v g++ >/dev/null; then
-  holds "the header is C++" header_compiles .cc g++ -std=c++98
-fi
+holds "the header is C++" header_compiles .cc g++ -std=c++98
 
 installs() {
   make -C host OUT="$work/gcc" "${settings[@]}" install PREFIX="$work/usr" || return 1
@@ -104,21 +99,20 @@ installs() {
   "$work/usr/bin/bhtf" --version
 }
 holds "installs" installs
-if command -v pkg-config >/dev/null; then
-  through_pkg_config() {
-    # shellcheck disable=SC2046
-    gcc -std=c99 "$work/uses.c" -o "$work/uses" \
-      $(PKG_CONFIG_PATH="$work/usr/lib/pkgconfig" pkg-config --cflags --libs bhtf) && "$work/uses"
-  }
-  holds "a program builds with pkg-config" through_pkg_config
-fi
-if command -v mandoc >/dev/null; then
-  holds "the man page passes mandoc" mandoc -Tlint host/bhtf.1
-fi
-if command -v man >/dev/null; then
-  man_is_clean() { [ -z "$(man --warnings -l host/bhtf.1 2>&1 >/dev/null)" ]; }
-  holds "the man page has no warnings" man_is_clean
-fi
+through_pkg_config() {
+  # shellcheck disable=SC2046
+  gcc -std=c99 "$work/uses.c" -o "$work/uses" \
+    $(PKG_CONFIG_PATH="$work/usr/lib/pkgconfig" pkg-config --cflags --libs bhtf) && "$work/uses"
+}
+holds "a program builds with pkg-config" through_pkg_config
+holds "the man page passes mandoc" mandoc -Tlint host/bhtf.1
+man_is_clean() {
+  local said
+  said=$(man --warnings -l host/bhtf.1 2>&1 >"$work/page") && [ -z "$said" ] && [ -s "$work/page" ] && return
+  echo "$said"
+  return 1
+}
+holds "the man page has no warnings" man_is_clean
 
 gives "the demonstration runs" 0 '^sound: 11 points$' \
   env LIB="$work/gcc/libbhtf.a" OUT="$work/demo" host/demo.sh
@@ -146,6 +140,7 @@ gives "no such file" 2 'No such file' bhtf count nowhere
 gives "a directory" 2 'not a regular file' bhtf count .
 gives "a device" 2 'not a regular file' bhtf count /dev/null
 gives "output to a full device" 2 'cannot write' sh -c 'bhtf --help >/dev/full'
+gives "closed output" 2 'cannot write' sh -c 'bhtf --help >&-'
 
 # ---- create ----
 
@@ -191,6 +186,9 @@ head -c 70000 /dev/urandom >bytes
 gives "a text from standard input" 0 '' sh -c 'bhtf add a bytes <bytes'
 bhtf get a bytes >got
 holds "bytes come back as they were" cmp bytes got
+gives "a long text to a full device" 2 'cannot write.*: No space left' sh -c 'bhtf get a bytes >/dev/full'
+gives "closed input is no empty text" 2 'cannot be read' sh -c 'bhtf add a bytes --replace <&-'
+gives "nor is it the file" 2 'standard input: cannot be read' sh -c 'bhtf import a - <&-'
 gives "an argument behind --" 0 '' bhtf add a -- --name --text
 same "its text" --text "$(bhtf get a -- --name)"
 gives "a text with one minus" 0 '' bhtf add a minus -12.5
@@ -335,6 +333,17 @@ done <<'LIST'
 6 clipped
 6 header
 LIST
+# With standard error closed the file must not be opened in its place, and the
+# message written into it.
+cp header before
+gives "refused with standard error closed" 1 '' sh -c 'bhtf delete header n 2>&-'
+holds "it is as it was" cmp before header
+cp a one
+cp a two
+printf 'new,1,2,3,\nCP-1,1,2,3,\n' >lines.csv
+bhtf import one lines.csv 2>/dev/null
+gives "a refused line with standard error closed" 1 '' sh -c 'bhtf import two - <lines.csv 2>&-'
+holds "only the point in front of it is stored" cmp one two
 cp tiny damaged
 # The offset of the first slot that is taken, behind its key of one byte.
 slot=$(bhtf list damaged --long | awk '{print $1}')
@@ -401,8 +410,8 @@ holds "import and export under the sanitizers" csv_cleanly
 # ---- locks ----
 
 mkfifo hold reply
-lock() { # FILE KIND: another program's lock on the whole file
-  ./locker "$1" "$2" <hold >reply &
+lock() { # FILE KIND [LENGTH]: another program's lock on the whole file, or on its first bytes
+  ./locker "$@" <hold >reply &
   locker=$!
   helpers+=("$locker")
   exec 8>hold
@@ -416,6 +425,9 @@ lock a write
 gives "a reader waits for another program's lock, and says so" 2 \
   "still locked by process $locker \\(writing\\) after 1 s" bhtf count a --wait 1
 gives "so does a writer" 2 'still locked by process' bhtf add a locked x --wait 0
+cp a before
+gives "with standard error closed too" 2 '' sh -c 'bhtf add a locked x --wait 0 2>&-'
+holds "the locked file is as it was" cmp before a
 (bhtf count a --wait 20 >waited; echo $? >>waited) 8>&- &
 waiter=$!
 helpers+=("$waiter")
@@ -429,9 +441,23 @@ gives "readers read side by side" 0 '^5$' bhtf count a --wait 0
 gives "a writer waits for readers" 2 '\(reading\)' bhtf add a locked x --wait 0
 unlock
 
+# A file that is replaced while a writer waits for its lock.
+cp a replaced
+cp a newer
+lock replaced write
+(bhtf add replaced late x --wait 20 >waited 2>&1; echo $? >>waited) 8>&- &
+waiter=$!
+helpers+=("$waiter")
+sleep 0.3
+mv newer replaced
+unlock
+wait "$waiter"
+gives "a writer finds that its file was replaced" 0 'removed or replaced' cat waited
+same "and has status 2" 2 "$(tail -n 1 waited)"
+
 mkfifo feed
-start_import() { # FILE: an import that waits for its input
-  bhtf import "$1" feed >import.out 2>import.err &
+start_import() { # FILE [OPTION..]: an import that waits for its input
+  bhtf import "$1" feed "${@:2}" >import.out 2>import.err &
   importer=$!
   helpers+=("$importer")
   exec 9>feed
@@ -549,6 +575,23 @@ exec 9>&-
 gives "it says what it stored" 0 "stopped: $(bhtf count stopped) points stored" cat import.err
 gives "the file is sound" 0 sound bhtf check stopped
 
+bhtf create waiting
+start_import waiting --wait 600
+feed 1 300
+until_true has waiting 256
+lock waiting read 1
+feed 301 900
+sleep 0.3
+kill -TERM "$importer"
+ended() { ! kill -0 "$importer"; }
+holds "an import that waits for a lock can be interrupted" until_true ended
+unlock
+exec 9>&-
+wait "$importer"
+same "it has status 2" 2 $?
+gives "and says so" 0 'interrupted while others had it locked' cat import.err
+gives "and what it stored" 0 'stopped: 256 points stored' cat import.err
+
 bhtf create shrunk
 start_import shrunk
 feed 1 600
@@ -560,19 +603,45 @@ wait "$importer"
 same "a file cut short while in use: status 2" 2 $?
 gives "and a message" 0 'cut short by another program' cat import.err
 
+bhtf create swapped
+bhtf create other
+start_import swapped
+feed 1 600
+until_true has swapped 512
+mv other swapped
+feed 601 1200
+exec 9>&-
+wait "$importer"
+same "a file replaced during an import: status 2" 2 $?
+gives "and a message, too" 0 'removed or replaced' cat import.err
+gives "with what was stored before" 0 'stopped: 512 points stored' cat import.err
+
+# ---- what is put on the disk ----
+
+put_on_disk() { LD_PRELOAD=$work/fsync.so "$@"; }
+gives "a new file's name is put on the disk" 0 'fsync of a directory' put_on_disk bhtf create durable
+mkdir deeper
+gives "in another directory as well" 0 'fsync of a directory' put_on_disk bhtf create deeper/durable
+gives "a change is put on the disk" 0 'fsync of a file' put_on_disk bhtf add durable n x
+export FSYNC_FAILS=yes
+gives "a disk that fails at add" 2 'written to the disk: Input/output error' put_on_disk bhtf add durable m x
+gives "a disk that fails at create" 2 'written to the disk: Input/output error' put_on_disk bhtf create lost
+unset FSYNC_FAILS
+holds "leaves no new file" test ! -e lost
+
 # ---- progress ----
 
-if command -v script >/dev/null; then
-  bhtf create slow
-  mkfifo slow.in slow.in2
-  slowly() { seq 300 | sed 's/.*/S&,&,&,&,/'; sleep 0.8; seq 301 900 | sed 's/.*/S&,&,&,&,/'; }
-  slowly >slow.in &
-  script -qec "bhtf import slow slow.in" /dev/null >progress </dev/null
-  gives "a long import shows its progress on a terminal" 0 $'\rbhtf: [0-9]+ points stored' cat progress
-  slowly >slow.in2 &
-  script -qec "bhtf import slow slow.in2 --replace --quiet" /dev/null >progress </dev/null
-  same "but not with --quiet" '' "$(cat progress)"
-fi
+bhtf create slow
+mkfifo slow.in slow.in2
+slowly() { seq 300 | sed 's/.*/S&,&,&,&,/'; sleep 0.8; seq 301 900 | sed 's/.*/S&,&,&,&,/'; }
+slowly >slow.in &
+helpers+=($!)
+script -qec "bhtf import slow slow.in" /dev/null >progress </dev/null
+gives "a long import shows its progress on a terminal" 0 $'\rbhtf: [0-9]+ points stored' cat progress
+slowly >slow.in2 &
+helpers+=($!)
+script -qec "bhtf import slow slow.in2 --replace --quiet" /dev/null >progress </dev/null
+same "but not with --quiet" '0 900' "$? $(bhtf count slow)$(cat progress)"
 
 # ---- a file that may only be read ----
 

@@ -4,10 +4,17 @@
 #     SEED=n COUNT=n         of the names, and how many of each size (at least 3)
 # The last line is 'N passed, M failed'.
 set -u
-cd "$(dirname "$0")" || exit 2
+usage() {
+  sed -n '3,4s/^# *//p' "$0" >&2
+  exit 2
+}
 program=${1:-build/library-fnv}
 seed=${SEED:-$((RANDOM * 32768 + RANDOM))}
 count=${COUNT:-50}
+case $seed$count in *[!0-9]*) usage ;; esac
+[ "$count" -ge 3 ] || usage
+cd "$(dirname "$0")" || exit 2
+[ -x "$program" ] || { echo "$program is missing: run make" >&2; exit 2; }
 passed=0
 failed=0
 work=$(mktemp -d)

@@ -1,7 +1,7 @@
 #!/usr/bin/env bash
 # Builds and runs the port of the original's own test; its last line is
 # 'N passed, M failed'.
-#   LIB, LDLIBS, WALK_CHECK and STANDIN as for tests/command.sh
+#   LIB, LDLIBS and STANDIN as for tests/command.sh
 set -eu
 cd "$(dirname "$0")/../host"
 work=$(mktemp -d)
@@ -10,7 +10,6 @@ trap 'rm -rf "$work"' EXIT
 settings=()
 [ -z "${LIB:-}" ] || settings+=(LIB="$(cd .. && realpath "$LIB")")
 [ -z "${LDLIBS:-}" ] || settings+=(LDLIBS="$LDLIBS")
-[ -z "${WALK_CHECK:-}" ] || settings+=(WALK_CHECK="$WALK_CHECK")
 [ -z "${STANDIN:-}" ] || settings+=(STANDIN="$STANDIN")
 make -s OUT="$work/build" "${settings[@]}"
 # shellcheck disable=SC2086
