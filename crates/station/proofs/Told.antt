@@ -16,19 +16,17 @@ use Rattle.bhtf.specs.Inspect.{Stop, stopped, end, stopNumber, keyStart, keyWal
 use Rattle.bhtf.proofs.Opened.{opened-facts, opened-room}
 use Rattle.bhtf.proofs.Slots.{slot-end}
 use Rattle.bhtf.proofs.Verdict.{lowest-some}
-use Rattle.layout.specs.Shapes.{shapeOf}
-use Rattle.layout.specs.declared.shape.Shape.{Shape}
 use Rattle.walk.specs.Stops.{stopSlot}
 use Rattle.inspect.specs.Verdicts.{verdictIn}
 use Rattle.inspect.specs.declared.Verdict as code
 use Rattle.walk.proofs.Stopping.{stopped-open, stopped-below}
 use Rattle.station.specs.Codes.{verdictCode, verdictSlot}
 
--- ---- the walk
+-- what an export answers, and that the image is as it was
+pub with-image : {A B C : Type 0} {img : Bytes} → A × B × C → A × B × C × (img ≡ img)
+with-image w = (w .0, w .1, w .2, refl)
 
-pub shape-key : (img : Bytes) (s : Shape) → s ≡ shapeOf img → s .key ≡ field img keyField
-unfolding shapeOf
-shape-key img s e = ap (λ (t : Shape). t .key) e
+-- ---- the walk
 
 abbrev pub Walks : Bytes → Stop → ℕ → ℕ → ℕ → Type 0
 Walks img s n i p = (n ≡ stopNumber s) × (i ≡ stopSlot s) × (p ≡ keyStart img s)

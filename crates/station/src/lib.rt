@@ -2,11 +2,12 @@
 // host/bhtf.h declares them for C.
 use inspect::Verdict;
 use inspect::check;
-use layout::shape::read_shape;
 use lookup::count;
 use lookup::locate;
 use walk::Stop;
 use walk::next_taken;
+use words::fields::read_u32;
+use words::limits::KEY_FIELD;
 ghost use mathlib.Core.Path.{_≡_};
 ghost use Rattle.bhtf.specs.Inspect.{keyWalk, stopNumber, keyStart, check, verdictNumber};
 ghost use Rattle.walk.specs.Stops.{stopSlot};
@@ -45,7 +46,8 @@ pub extern "C" fn bhtf_delete(image: &mut [u8], key: &[u8]) -> u32
 pub extern "C" fn bhtf_lookup(image: &[u8], key: &[u8], offset: &mut u32, length: &mut u32) -> u32
     ensures { λ r. ⌜ (r ≡ lookup (now (image .entry)) (now (key .entry)) .answer .number)
         × (now (offset .exit) ≡ lookupStart (now (image .entry)) (now (key .entry)))
-        × (now (length .exit) ≡ lookupLength (now (image .entry)) (now (key .entry))) ⌝ }
+        × (now (length .exit) ≡ lookupLength (now (image .entry)) (now (key .entry)))
+        × (now (image .exit) ≡ lookup (now (image .entry)) (now (key .entry)) .after) ⌝ }
 {
     let found = locate(image, key);
     let start = found.start;
@@ -58,7 +60,8 @@ pub extern "C" fn bhtf_lookup(image: &[u8], key: &[u8], offset: &mut u32, length
 #[no_mangle]
 pub extern "C" fn bhtf_count(image: &[u8], points: &mut u32) -> u32
     ensures { λ r. ⌜ (r ≡ count (now (image .entry)) .answer .number)
-        × (now (points .exit) ≡ count (now (image .entry)) .answer .amount) ⌝ }
+        × (now (points .exit) ≡ count (now (image .entry)) .answer .amount)
+        × (now (image .exit) ≡ count (now (image .entry)) .after) ⌝ }
 {
     let counted = count(image);
     *points = counted.points;
@@ -71,7 +74,8 @@ pub extern "C" fn bhtf_count(image: &[u8], points: &mut u32) -> u32
 pub extern "C" fn bhtf_walk(image: &[u8], from: u32, slot: &mut u32, place: &mut u32) -> u32
     ensures { λ r. ⌜ (r ≡ stopNumber (keyWalk (now (image .entry)) from))
         × (now (slot .exit) ≡ stopSlot (keyWalk (now (image .entry)) from))
-        × (now (place .exit) ≡ keyStart (now (image .entry)) (keyWalk (now (image .entry)) from)) ⌝ }
+        × (now (place .exit) ≡ keyStart (now (image .entry)) (keyWalk (now (image .entry)) from))
+        × (now (image .exit) ≡ now (image .entry)) ⌝ }
 {
     *slot = 0;
     *place = 0;
@@ -79,8 +83,7 @@ pub extern "C" fn bhtf_walk(image: &[u8], from: u32, slot: &mut u32, place: &mut
     match stop {
         Stop::Refused(n) => n,
         Stop::At(i) => {
-            let shape = read_shape(image);
-            let size = shape.key;
+            let size = read_u32(image, KEY_FIELD) as usize;
             *slot = i.number() as u32;
             *place = i.start(size).at() as u32;
             0
@@ -94,7 +97,8 @@ pub extern "C" fn bhtf_walk(image: &[u8], from: u32, slot: &mut u32, place: &mut
 pub extern "C" fn bhtf_check(image: &[u8], verdict: &mut u32, slot: &mut u32) -> u32
     ensures { λ r. ⌜ (r ≡ verdictNumber (check (now (image .entry))))
         × (now (verdict .exit) ≡ verdictCode (check (now (image .entry))))
-        × (now (slot .exit) ≡ verdictSlot (check (now (image .entry)))) ⌝ }
+        × (now (slot .exit) ≡ verdictSlot (check (now (image .entry))))
+        × (now (image .exit) ≡ now (image .entry)) ⌝ }
 {
     *verdict = 0;
     *slot = 0;

@@ -3,7 +3,7 @@ use borrow.Author.Needs.{needs}
 use mathlib.Core.Path.{sym, ap, _∙_}
 use native.Mathlib.Omega.{arith}
 use Rattle.inspect.specs.Verdicts.{verdictIn}
-use Rattle.station.proofs.Told.{says-refused, says-sound, says-slot, says-count, check-slot}
+use Rattle.station.proofs.Told.{with-image, says-refused, says-sound, says-slot, says-count, check-slot}
 use Rattle.station.proofs.bhtf_check.Statement.{statement}
 use Rattle.station.proofs.bhtf_check.Tie as tie
 
@@ -36,25 +36,25 @@ returns : tie.Need-returns
 unfolding verdictIn
 returns c =
     let F = c .before .before .before in
-    says-refused _ _ (sym (ap verdictIn (c .before .found .given .1)) ∙ F .check .ensures)
+    with-image (says-refused _ _ (sym (ap verdictIn (c .before .found .given .1)) ∙ F .check .ensures))
 
 returns-2 : tie.Need-returns-2
 unfolding verdictIn
 returns-2 c =
     let F = c .before .before in
-    says-sound _ (sym (ap verdictIn (c .enum-told .given .1)) ∙ F .check .ensures)
+    with-image (says-sound _ (sym (ap verdictIn (c .enum-told .given .1)) ∙ F .check .ensures))
 
 returns-3 : tie.Need-returns-3
 unfolding verdictIn
 returns-3 c =
     let F = c .before .before .before .before in
-    says-slot _ _ _ (sym (ap verdictIn (c .before .before .found2 .given .1)) ∙ F .check .ensures) (c .number .ensures)
+    with-image (says-slot _ _ _ (sym (ap verdictIn (c .before .before .found2 .given .1)) ∙ F .check .ensures) (c .number .ensures))
 
 returns-4 : tie.Need-returns-4
 unfolding verdictIn
 returns-4 c =
     let F = c .before .before in
-    says-count _ (sym (ap verdictIn (c .enum-told2 .given .1)) ∙ F .check .ensures)
+    with-image (says-count _ (sym (ap verdictIn (c .enum-told2 .given .1)) ∙ F .check .ensures))
 
 pub bhtf-check-spec : {M : Type 1} → statement M
 bhtf-check-spec =

@@ -1,6 +1,6 @@
 -- Start and length as `locate` answers them; both fit 32 bits. Assumes nothing.
 use borrow.Author.Needs.{needs}
-use mathlib.Core.Path.{_∙_}
+use mathlib.Core.Path.{refl, _∙_}
 use native.Mathlib.Omega.{arith}
 use Rattle.bhtf.specs.Calls.{lookup}
 use Rattle.station.proofs.Small.{lookup-small}
@@ -29,7 +29,7 @@ returns : tie.Need-returns
 unfolding lookup
 returns c =
     let L = c .before .before .before in
-    (L .locate .ensures .0, c .before .at .ensures ∙ L .locate .ensures .1, L .locate .ensures .2)
+    (L .locate .ensures .0, c .before .at .ensures ∙ L .locate .ensures .1, L .locate .ensures .2, refl)
 
 pub bhtf-lookup-spec : {M : Type 1} → statement M
 bhtf-lookup-spec = tie.close (tie.spec locate-requires at-requires cast-offset cast-length returns)

@@ -4,7 +4,7 @@ use mathlib.Core.Path.{sym, _∙_}
 use native.Mathlib.Omega.{arith}
 use Rattle.bhtf.specs.Inspect.{keyWalk}
 use Rattle.walk.proofs.Stopping.{stopped-is, refused-is, end-is}
-use Rattle.station.proofs.Told.{shape-key, walks-refused, walks-end, walks-stopped, walk-key, walk-long, walk-slot, walk-place}
+use Rattle.station.proofs.Told.{with-image, walks-refused, walks-end, walks-stopped, walk-key, walk-long, walk-slot, walk-place}
 use Rattle.station.proofs.bhtf_walk.Statement.{statement}
 use Rattle.station.proofs.bhtf_walk.Tie as tie
 
@@ -17,12 +17,15 @@ enum-known-stop c = search needs
 enum-known-stop-2 : tie.Need-enum-known-stop-2
 enum-known-stop-2 c = search needs
 
-read-shape-requires : tie.Need-read-shape-requires
-read-shape-requires c κs =
+read-u32-requires : tie.Need-read-u32-requires
+read-u32-requires c κs =
     let F = c .before .before .before in
     let A = F .before .before .args in
     let w = stopped-is (A .image .now) (A .from) (F .next-taken .result) (F .next-taken .ensures) (c .before .stop2 .given .1) in
-    walk-long (A .image .now) (A .from) _ w
+    omega (arith, walk-long (A .image .now) (A .from) _ w)
+
+cast-size : tie.Need-cast-size
+cast-size c = search needs
 
 number-requires : tie.Need-number-requires
 number-requires c κs = search needs
@@ -40,7 +43,7 @@ start-requires c κs =
     let A = F .before .before .args in
     let w = stopped-is (A .image .now) (A .from) (F .next-taken .result) (F .next-taken .ensures) (c .before .before .before .stop2 .given .1) in (
       omega (arith, walk-slot (A .image .now) (A .from) _ w),
-      omega (arith, shape-key (A .image .now) _ (c .before .read-shape .ensures), walk-key (A .image .now) (A .from) _ w),
+      omega (arith, c .before .read-u32 .ensures, walk-key (A .image .now) (A .from) _ w),
     )
 
 at-requires : tie.Need-at-requires
@@ -56,7 +59,7 @@ cast-place c =
       arith,
       c .at .ensures,
       c .before .start .ensures,
-      walk-place (A .image .now) (A .from) _ w (N .before .read-shape .result .key) (shape-key (A .image .now) _ (N .before .read-shape .ensures)),
+      walk-place (A .image .now) (A .from) _ w (N .before .read-u32 .result) (N .before .read-u32 .ensures),
     )
 
 enum-told : tie.Need-enum-told
@@ -66,8 +69,8 @@ returns : tie.Need-returns
 returns c =
     let F = c .before .before .before in
     let A = F .before .before .args in
-    walks-refused (A .image .now) (keyWalk (A .image .now) (A .from)) _
-    (refused-is (A .image .now) (A .from) (F .next-taken .result) (F .next-taken .ensures) (c .before .stop .given .1))
+    with-image (walks-refused (A .image .now) (keyWalk (A .image .now) (A .from)) _
+    (refused-is (A .image .now) (A .from) (F .next-taken .result) (F .next-taken .ensures) (c .before .stop .given .1)))
 
 returns-2 : tie.Need-returns-2
 returns-2 c =
@@ -75,15 +78,15 @@ returns-2 c =
     let F = N .before .before .before .before .before in
     let A = F .before .before .args in
     let w = stopped-is (A .image .now) (A .from) (F .next-taken .result) (F .next-taken .ensures) (N .before .before .before .stop2 .given .1) in
-    walks-stopped (A .image .now) (keyWalk (A .image .now) (A .from)) _ _ _ (N .before .read-shape .result .key) (sym w)
-    (N .number .ensures) (shape-key (A .image .now) _ (N .before .read-shape .ensures)) (c .at .ensures ∙ c .before .start .ensures)
+    with-image (walks-stopped (A .image .now) (keyWalk (A .image .now) (A .from)) _ _ _ (N .before .read-u32 .result) (sym w)
+    (N .number .ensures) (N .before .read-u32 .ensures) (c .at .ensures ∙ c .before .start .ensures))
 
 returns-3 : tie.Need-returns-3
 returns-3 c =
     let F = c .before .before in
     let A = F .before .before .args in
-    walks-end (A .image .now) (keyWalk (A .image .now) (A .from))
-    (end-is (A .image .now) (A .from) (F .next-taken .result) (F .next-taken .ensures) (c .enum-told .given .1))
+    with-image (walks-end (A .image .now) (keyWalk (A .image .now) (A .from))
+    (end-is (A .image .now) (A .from) (F .next-taken .result) (F .next-taken .ensures) (c .enum-told .given .1)))
 
 pub bhtf-walk-spec : {M : Type 1} → statement M
 bhtf-walk-spec =
@@ -92,7 +95,8 @@ bhtf-walk-spec =
     next-taken-requires
     enum-known-stop
     enum-known-stop-2
-    read-shape-requires
+    read-u32-requires
+    cast-size
     number-requires
     cast-slot
     start-requires
