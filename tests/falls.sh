@@ -1,0 +1,58 @@
+#!/usr/bin/env bash
+# Each must-fail edit says in its first lines what the wrong program does and at which fact of a proof it falls:
+#     # a lookup that always answers 14
+#     # falls at: proofs/lookup/Proof.antt returns
+# Held to the log that `rt ci` or `rt must-fail` left of it: that fact must be among those that the prover refused in themselves,
+# and none of those may be refused because the edit changed the code's shape. The last line is 'N passed, M failed'.
+#   tests/falls.sh --list   the edits with their words and facts, as they are written
+set -u
+cd "$(dirname "$0")/.." || exit 2
+passed=0
+failed=0
+
+# refused LOG: what the prover refused in itself, a line each: file, fact, reason. What only rests on it is left out.
+refused() {
+  sed -nE \
+    -e 's|^[^ ]*/(proofs/[^ :]*):[0-9]+:[0-9]+: error: `([^`]*)`: (.*)|\1 \2 \3|p' \
+    -e 's|^fn [^ ]*: no proof: .*/(proofs/[^ ;]*); `search` does not close `([^`]*)`.*|\1 \2 no proof is found|p' "$1" |
+    grep -v 'was not admitted (it has holes'
+}
+
+# The prover's words where a proof names a step that the code no longer has.
+shape='^[^ ]+ [^ ]+ (`[^`]*`: module `[^`]*` has no `|record `|`[^`]*` is not in scope)'
+
+fall() {
+  local edit=$1 crate label log words fact own
+  crate=$(basename "$(dirname "$(dirname "$edit")")")
+  label=$(basename "$edit" .edit)
+  log=target/must-fail/$crate/$label/.log
+  words=$(sed -n '1s/^# //p' "$edit")
+  fact=$(sed -n '2s/^# falls at: //p' "$edit")
+  if [ -z "$words" ] || [ -z "$fact" ]; then
+    echo "FAILED: $edit does not say what is wrong and at which fact it falls"
+    return 1
+  fi
+  [ -f "$log" ] || { echo "FAILED: $edit left no log"; return 1; }
+  own=$(refused "$log")
+  if ! cut -d' ' -f1,2 <<<"$own" | grep -qxF -- "$fact"; then
+    echo "FAILED: $edit does not fall at $fact, but at: $(cut -d' ' -f1,2 <<<"$own" | uniq | tr '\n' ' ')"
+    return 1
+  fi
+  if grep -qE "$shape" <<<"$own"; then
+    echo "FAILED: $edit changes the code's shape: $(grep -m 1 -E "$shape" <<<"$own" | cut -c1-200)"
+    return 1
+  fi
+}
+
+for edit in crates/*/must-fail/*.edit; do
+  if [ "${1:-}" = --list ]; then
+    echo "$edit: $(sed -n '1s/^# //p' "$edit"); falls at $(sed -n '2s/^# falls at: //p' "$edit")"
+  elif fall "$edit"; then
+    passed=$((passed + 1))
+  else
+    failed=$((failed + 1))
+  fi
+done
+[ "${1:-}" = --list ] && exit
+echo "$passed passed, $failed failed"
+[ "$failed" -eq 0 ] && [ "$passed" -gt 0 ]
