@@ -2,7 +2,7 @@
 -- The questions that come before stand in `Questions`; the calls, questions and effect together, in `Calls`.
 --     shown g img o           the text of the active message at offset o, nothing where there is none
 --     takeSpace g img t       the image with a new message t at X
---     added g img key data mode, deleted g img i       the image that an accepted add or delete leaves
+--     added g img key data mode, deleted g img probe       the image that an accepted add or delete leaves
 -- Assumes nothing.
 use Prim.Native.Nat.{ℕ, zero, suc, _+_, _-_, _*_}
 use mathlib.Core.Bool.{Bool, true, false, cond, not, _&&_}
