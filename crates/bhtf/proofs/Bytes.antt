@@ -8,7 +8,7 @@ use native.Mathlib.Omega.{arith}
 use mathlib.Core.Bool.{true, false, true≢false, false≢true}
 use mathlib.Core.Logic.{_⊎_, inl, inr}
 use mathlib.Core.List.{List, [], _∷_, _++_}
-use lib.ListN.{length, take, drop, getD, length-append, length-drop, length-replicate, take-append-drop}
+use lib.ListN.{length, take, drop, getD, length-append, length-drop, length-replicate}
 use lib.Seq.{take-at, drop-at, take-append-le, drop-append-le, drop-append-add, drop-drop, take-take, length-take-le}
 use lib.Dec.{eqb, lit<}
 use lib.Pow.{pow-add, mod-pow-add}
@@ -99,17 +99,6 @@ pub part-store-other : (b : Bytes) (p : ℕ) (v : Bytes) (q m : ℕ) → p + len
     → part (store b p v) q m ≡ part b q m
 part-store-other b p v q m h (inl f) = part-store-below b p v q m (omega arith) f
 part-store-other b p v q m h (inr f) = part-store-above b p v q m h f
-
--- a store of what is there changes nothing
-pub store-part : (b : Bytes) (p m : ℕ) → p + m ≤ length b → store b p (part b p m) ≡ b
-unfolding store part
-store-part b p m h =
-    ap (λ (n : ℕ). take p b ++ (part b p m ++ drop n (drop p b))) (part-length b p m h)
-    ∙ ap (λ (l : Bytes). take p b ++ l) (whole m (drop p b))
-    ∙ take-append-drop p b
-  where
-    whole : (m : ℕ) (l : Bytes) → take m l ++ drop m l ≡ l
-    whole m l = take-append-drop m l
 
 -- ---- numbers of any width
 

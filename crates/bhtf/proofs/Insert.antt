@@ -1,6 +1,6 @@
 -- Edits by key: what a slot put where a search ended does to the table.
 --     Stands g img s      some taken slot holds the bytes s
---     entry-slot, entry-taken, entry-stands, entry-absent      what a key's slot holds, and what stands in the table
+--     entry-taken, entry-stands, entry-absent      what a key's slot holds, and what stands in the table
 --     same-entries, delete-entry, delete-other      two tables in which the same stands answer a key alike
 --     insert-..      a slot put where the search met a vacant slot
 --     replace-..     a slot put where the search met the key
@@ -48,15 +48,6 @@ module _ (g : Layout) (img key : Bytes) (pos : 0 < g .N) where
   by-entry {ℓ} : {A : Type ℓ} → ((i : ℕ) → search g img key ≡ met i → A) → (entryOf g img key ≡ none → A) → A
   by-entry yes′ no′ =
       by-search g img key pos yes′ (λ i e. no′ (entry-empty g img key i e)) (λ e. no′ (entry-exhausted g img key e))
-
-  pub entry-slot : (s : Bytes) → entryOf g img key ≡ some s
-      → (i : ℕ) × (i < g .N) × (search g img key ≡ met i) × (slot g img i ≡ s)
-  entry-slot s e =
-      by-entry
-      (λ i f.
-      let q : some (slot g img i) ≡ some s = sym (entry-met g img key i f) ∙ e in
-      (i, search-met g img key pos i f .0, f, cc))
-      (λ n. let z : _≡_ {A = ℕ} 0 1 = cc in absurd (omega arith))
 
   -- where a key that is not all zero is met, its slot stands in the table
   pub met-stands : (i : ℕ) → allZero key ≡ false → search g img key ≡ met i → Stands g img (slot g img i)
