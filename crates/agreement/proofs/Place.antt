@@ -20,6 +20,7 @@ use Rattle.bhtf.specs.Questions.{ask, firstNo, lengthAllowed, spaceLeft}
 use Rattle.bhtf.specs.Book.{Terms, Book, find, roomAsks, entered, placed}
 use Rattle.bhtf.proofs.Tests.{by-le}
 use Rattle.bhtf.proofs.Opened.{firstNo-head, firstNo-tail}
+use Rattle.bhtf.proofs.Outcomes.{roomOf}
 use Rattle.bhtf.proofs.Table.{entryOf}
 use Rattle.bhtf.proofs.Probe.{search-frame}
 use Rattle.bhtf.proofs.Insert.{entry-met, entry-empty}
@@ -41,8 +42,7 @@ leb-shift D U x L k e h =
     (λ l. lt-leb (x + k) L l ∙ sym (lt-leb (U + k) (L - D) (omega arith)))
 
 module _ (g : Layout) (img : Bytes) (b : Book) (r : Reflects g img b) (t : Bytes) where
-  pub room-both : firstNo (ask 12 (lengthAllowed g (some t)) ∷ ask 13 (spaceLeft g (field img freeField) (length img) (some t)) ∷ [])
-      ≡ firstNo (roomAsks b (length t))
+  pub room-both : roomOf g img (some t) ≡ firstNo (roomAsks b (length t))
   unfolding lengthAllowed spaceLeft roomAsks
   room-both =
       ap₂ (λ (x y : Bool). firstNo (ask 12 x ∷ ask 13 y ∷ []))

@@ -11,16 +11,16 @@ use lib.ListN.{length}
 use borrow.Author.Tests.{ne-eqb, le-leb}
 use Rattle.bhtf.specs.Bytes.{Bytes, part}
 use Rattle.bhtf.specs.Limits.{pointsField, freeField}
-use Rattle.bhtf.specs.Image.{field, setField, Layout, layoutOf, slot, offsetOf}
+use Rattle.bhtf.specs.Image.{field, setField, Layout, slot, offsetOf}
 use Rattle.bhtf.specs.Search.{met, search, isMet, slotOf}
 use Rattle.bhtf.specs.Messages.{headSize, isActive, textAt, lengthAt, shown, held, retire, closed, deleted, deletedAt}
-use Rattle.bhtf.specs.Questions.{Question, ask, firstNo, nameAllowed, messageSound, metMessageSound, somePoint, opened, openNumber, lookupAsks, deleteAsks, lookupNumber, deleteNumber}
+use Rattle.bhtf.specs.Questions.{Question, ask, firstNo, nameAllowed, messageSound, somePoint, openNumber, lookupNumber, deleteNumber}
 use Rattle.bhtf.specs.Calls.{Outcome, plain, settled, delete, lookup, lookupOffset, lookupStart, lookupLength, count, countOf}
 use Rattle.bhtf.specs.Book.{Book, find, without, stepOf, guarded, bookDelete, deleteFound, bookLookup, lookupFound, bookCount}
-use Rattle.bhtf.proofs.Tests.{by-bool, not-both, and-true}
+use Rattle.bhtf.proofs.Tests.{by-bool, not-both}
 use Rattle.bhtf.proofs.Bytes.{part-length}
-use Rattle.bhtf.proofs.Opened.{firstNo-none, firstNo-yes, firstNo-no, facts-opened, firstNo-opened}
-use Rattle.bhtf.proofs.Outcomes.{settled-yes, settled-no}
+use Rattle.bhtf.proofs.Opened.{firstNo-none, firstNo-yes, firstNo-no, facts-opened}
+use Rattle.bhtf.proofs.Outcomes.{settled-yes, settled-no, lookup-7, lookup-14, lookup-0, delete-7, delete-14, delete-0}
 use Rattle.bhtf.proofs.Table.{entryOf}
 use Rattle.bhtf.proofs.Probe.{by-search, search-frame}
 use Rattle.bhtf.proofs.Insert.{entry-met, entry-empty, entry-exhausted}
@@ -107,28 +107,11 @@ same-count g img b r =
 -- ---- lookup
 
 module _ (g : Layout) (img : Bytes) (b : Book) (r : Reflects g img b) (key : Bytes) where
-  lookup-number : lookupNumber img key ≡ firstNo (lookupAsks g img (search g img key) key)
-  unfolding lookupNumber
-  lookup-number =
-      firstNo-opened img (lookupAsks (layoutOf img) img (search (layoutOf img) img key) key) (open₀ g img b r key)
-      ∙ ap (λ (l : Layout). firstNo (lookupAsks l img (search l img key) key)) (r .file .layout)
-
-  lookup-name : nameAllowed (g .K) key ≡ false → lookupNumber img key ≡ 7
-  unfolding lookupAsks
-  lookup-name h = lookup-number ∙ firstNo-no 7 _ _ h
-
-  lookup-absent : Allowed g key → isMet (search g img key) ≡ false → lookupNumber img key ≡ 14
-  unfolding lookupAsks
-  lookup-absent a h = lookup-number ∙ firstNo-yes 7 _ _ a ∙ firstNo-no 14 _ _ h
-
+  -- the file's number, by the layout
   lookup-met : Allowed g key → (i : ℕ) → search g img key ≡ met i → lookupNumber img key ≡ 0
-  unfolding lookupAsks isMet metMessageSound
   lookup-met a i m =
-      lookup-number
-      ∙ firstNo-yes 7 _ _ a
-      ∙ firstNo-yes 14 _ _ (ap isMet m)
-      ∙ firstNo-yes 11 _ _ (ap (metMessageSound g img) m ∙ met-sound g img b r key a i m)
-      ∙ firstNo-none
+      lookup-0 img key (open₀ g img b r key) (rw (r .file .layout) a) i (rw (r .file .layout) m)
+      (rw (r .file .layout) (met-sound g img b r key a i m))
 
   -- refused: the image's first 0 bytes
   lookup-refused : (lookupNumber img key ≡ 0 → ⊥) → lookup img key .answer ≡ plain (lookupNumber img key)
@@ -199,28 +182,14 @@ module _ (g : Layout) (img : Bytes) (b : Book) (r : Reflects g img b) (key : Byt
       (record { answer = unfold lookupFound in lookup-shows a i m; after = unfold lookup lookupFound in r }))
       (λ h.
       rw (found-none g img b r key a h)
-      (unfold lookupFound in lookup-both (ask 14 false ∷ []) b (lookup-absent a h ∙ sym absent-number) (λ z. omega (arith, z, absent-number))))))
+      (unfold lookupFound in lookup-both (ask 14 false ∷ []) b (lookup-14 img key (open₀ g img b r key) (rw (r .file .layout) a) (rw (r .file .layout) h) ∙ sym absent-number) (λ z. omega (arith, z, absent-number))))))
       (λ h.
       rw (guarded-no b _ (lookupFound b (find key (b .entries))) (seven _ (book-name h)))
-      (lookup-both _ b (lookup-name h ∙ sym (book-name h)) (seven _ (book-name h))))
+      (lookup-both _ b (lookup-7 img key (open₀ g img b r key) (rw (r .file .layout) h) ∙ sym (book-name h)) (seven _ (book-name h))))
 
 -- ---- delete
 
 module _ (g : Layout) (img : Bytes) (b : Book) (r : Reflects g img b) (key : Bytes) where
-  delete-number : deleteNumber img key ≡ firstNo (deleteAsks g img (search g img key) key)
-  unfolding deleteNumber
-  delete-number =
-      firstNo-opened img (deleteAsks (layoutOf img) img (search (layoutOf img) img key) key) (open₀ g img b r key)
-      ∙ ap (λ (l : Layout). firstNo (deleteAsks l img (search l img key) key)) (r .file .layout)
-
-  delete-name : nameAllowed (g .K) key ≡ false → deleteNumber img key ≡ 7
-  unfolding deleteAsks
-  delete-name h = delete-number ∙ firstNo-no 7 _ _ h
-
-  delete-absent : Allowed g key → isMet (search g img key) ≡ false → deleteNumber img key ≡ 14
-  unfolding deleteAsks
-  delete-absent a h = delete-number ∙ firstNo-yes 7 _ _ a ∙ firstNo-no 14 _ _ h
-
   -- a point that is met is one of C
   module _ (a : Allowed g key) (i : ℕ) (m : search g img key ≡ met i) where
     abbrev o : ℕ
@@ -236,16 +205,10 @@ module _ (g : Layout) (img : Bytes) (b : Book) (r : Reflects g img b) (key : Byt
     one-less = length-without key (b .entries) _ (found-met g img b r key a i m) ∙ r .number
 
     delete-met : deleteNumber img key ≡ 0
-    unfolding deleteAsks isMet metMessageSound somePoint
     delete-met =
-        delete-number
-        ∙ firstNo-yes 7 _ _ a
-        ∙ firstNo-yes 14 _ _ (ap isMet m)
-        ∙ firstNo-yes 11 _ _
-        (and-true (metMessageSound g img (search g img key)) _
-        (ap (metMessageSound g img) m ∙ met-sound g img b r key a i m)
-        (le-leb 1 (field img pointsField) (omega (arith, one-less))))
-        ∙ firstNo-none
+        delete-0 img key (open₀ g img b r key) (rw (r .file .layout) a) i (rw (r .file .layout) m)
+        (rw (r .file .layout) (met-sound g img b r key a i m))
+        (unfold somePoint in le-leb 1 (field img pointsField) (omega (arith, one-less)))
 
     off-change : Change g img off key
     off-change = retire-change g img (r .file) key (slot g img i) a e₁
@@ -288,7 +251,7 @@ module _ (g : Layout) (img : Bytes) (b : Book) (r : Reflects g img b) (key : Byt
       (λ h.
       rw (found-none g img b r key a h)
       (unfold deleteFound in
-      same-refused g img b r (deleteNumber img key) _ (ask 14 false ∷ []) b (delete-absent a h ∙ sym (absent-number g img b r key)) (λ z. omega (arith, z, absent-number g img b r key))))))
+      same-refused g img b r (deleteNumber img key) _ (ask 14 false ∷ []) b (delete-14 img key (open₀ g img b r key) (rw (r .file .layout) a) (rw (r .file .layout) h) ∙ sym (absent-number g img b r key)) (λ z. omega (arith, z, absent-number g img b r key))))))
       (λ h.
       rw (guarded-no b _ (deleteFound b key (find key (b .entries))) (seven g img b r key _ (book-name g img b r key h)))
-      (same-refused g img b r (deleteNumber img key) _ _ b (delete-name h ∙ sym (book-name g img b r key h)) (seven g img b r key _ (book-name g img b r key h))))
+      (same-refused g img b r (deleteNumber img key) _ _ b (delete-7 img key (open₀ g img b r key) (rw (r .file .layout) h) ∙ sym (book-name g img b r key h)) (seven g img b r key _ (book-name g img b r key h))))
