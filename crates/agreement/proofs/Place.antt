@@ -27,7 +27,7 @@ use Rattle.bhtf.proofs.Insert.{entry-met, entry-empty}
 use Rattle.bhtf.proofs.Stretch.{lies-sound}
 use Rattle.agreement.proofs.File.{Allowed, pointOf, pointOf-none, File, file-some, file-room, Change, file-change, change-trans, change-any}
 use Rattle.agreement.proofs.Retire.{retire-change, retire-slot, retire-field}
-use Rattle.agreement.proofs.Space.{written-value, space-change, space-file, space-slot, space-free, space-points, space-written, space-some, space-lies, space-away}
+use Rattle.agreement.proofs.Space.{written-value, space-change, space-file, space-is, space-written, space-some, space-lies, space-away}
 use Rattle.agreement.proofs.Slots.{Fresh, set-change, set-point, set-field, enter-change, enter-point, enter-points, enter-free}
 use Rattle.agreement.proofs.Entries.{length-withEntry-new, length-withEntry-old}
 use Rattle.agreement.proofs.Reflect.{Reflects, reflect-entered}
@@ -130,7 +130,7 @@ module _ (g : Layout) (img : Bytes) (b : Book) (r : Reflects g img b) (key : Byt
 
     spaced-met : search g spaced key ≡ met i
     spaced-met =
-        search-frame g off spaced key (file-some (r .file)) (space-slot g off off-file t s₁ off-fits)
+        search-frame g off spaced key (file-some (r .file)) (space-is g off off-file t s₁ off-fits .slots)
         ∙ search-frame g img off key (file-some (r .file)) (retire-slot g img (r .file) key (slot g img i) a e₁)
         ∙ m
 
@@ -156,13 +156,13 @@ module _ (g : Layout) (img : Bytes) (b : Book) (r : Reflects g img b) (key : Byt
     final-free : field final freeField ≡ x + (b .terms .head + length t)
     final-free =
         set-field g spaced spaced-file key a (field off freeField) fresh₁ i spaced-met freeField (omega arith)
-        ∙ space-free g off off-file t s₁ off-fits
+        ∙ space-is g off off-file t s₁ off-fits .free
         ∙ omega (arith, off-free, more-is g img b r (length t))
 
     final-points : field final pointsField ≡ field img pointsField
     final-points =
         set-field g spaced spaced-file key a (field off freeField) fresh₁ i spaced-met pointsField (omega arith)
-        ∙ space-points g off off-file t s₁ off-fits
+        ∙ space-is g off off-file t s₁ off-fits .points
         ∙ retire-field g img (r .file) key (slot g img i) a e₁ pointsField (omega arith)
 
     pub relocate : Reflects g (relocated g img i (offsetOf g (slot g img i)) key t) (placed b key t)
@@ -181,10 +181,10 @@ module _ (g : Layout) (img : Bytes) (b : Book) (r : Reflects g img b) (key : Byt
     wide-file = space-file g img (r .file) t s₁ l₁
 
     wide-empty : search g wide key ≡ empty i
-    wide-empty = search-frame g img wide key (file-some (r .file)) (space-slot g img (r .file) t s₁ l₁) ∙ m
+    wide-empty = search-frame g img wide key (file-some (r .file)) (space-is g img (r .file) t s₁ l₁ .slots) ∙ m
 
     wide-room : field wide pointsField < g .N
-    wide-room = rw (space-points g img (r .file) t s₁ l₁) room
+    wide-room = rw (space-is g img (r .file) t s₁ l₁ .points) room
 
     fresh₂ : Fresh g wide key x
     fresh₂ = fresh-space g img (r .file) t s₁ l₁ least key
@@ -203,7 +203,7 @@ module _ (g : Layout) (img : Bytes) (b : Book) (r : Reflects g img b) (key : Byt
         (enter-point g wide wide-file key a x fresh₂ i wide-empty wide-room
         ∙ ap some (written-value g wide x t (space-written g img (r .file) t s₁ l₁) (space-some g img (r .file) t s₁ l₁) key))
         (enter-free g wide wide-file key a x fresh₂ i wide-empty wide-room
-        ∙ space-free g img (r .file) t s₁ l₁
+        ∙ space-is g img (r .file) t s₁ l₁ .free
         ∙ omega (arith, more-is g img b r (length t)))
         (length-withEntry-new _ (b .entries) absent
-        ∙ omega (arith, r .number, enter-points g wide wide-file key a x fresh₂ i wide-empty wide-room, space-points g img (r .file) t s₁ l₁))
+        ∙ omega (arith, r .number, enter-points g wide wide-file key a x fresh₂ i wide-empty wide-room, space-is g img (r .file) t s₁ l₁ .points))

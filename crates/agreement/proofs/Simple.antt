@@ -20,13 +20,14 @@ use Rattle.bhtf.specs.Book.{Book, find, without, stepOf, guarded, bookDelete, d
 use Rattle.bhtf.proofs.Tests.{by-bool, not-both}
 use Rattle.bhtf.proofs.Bytes.{part-length}
 use Rattle.bhtf.proofs.Opened.{firstNo-none, firstNo-yes, firstNo-no, facts-opened}
+use Rattle.bhtf.proofs.Effects.{active-some}
 use Rattle.bhtf.proofs.Outcomes.{settled-yes, settled-no, lookup-7, lookup-14, lookup-0, delete-7, delete-14, delete-0}
 use Rattle.bhtf.proofs.Table.{entryOf}
 use Rattle.bhtf.proofs.Probe.{by-search, search-frame}
 use Rattle.bhtf.proofs.Insert.{entry-met, entry-empty, entry-exhausted}
 use Rattle.agreement.proofs.File.{Allowed, valueOf, pointOf-some, pointOf-none, File, file-some, Change, file-change, change-trans}
 use Rattle.agreement.proofs.Data.{point-end}
-use Rattle.agreement.proofs.Retire.{active-offset, shown-active, shown-inactive, retire-change, retire-slot, retire-field}
+use Rattle.agreement.proofs.Retire.{shown-active, shown-inactive, retire-change, retire-slot, retire-field}
 use Rattle.agreement.proofs.Remove.{remove-change, remove-point, remove-points, remove-free}
 use Rattle.agreement.proofs.Entries.{length-without}
 use Rattle.agreement.proofs.Reflect.{Reflects, reflect-without}
@@ -131,7 +132,7 @@ module _ (g : Layout) (img : Bytes) (b : Book) (r : Reflects g img b) (key : Byt
         → lookup img key .answer ≡ record { number = 0; amount = length (shown g img at); text = shown g img at }
     unfolding lookup lookupLength lookupStart held textAt
     active-text h =
-        let z : at ≡ 0 → ⊥ = active-offset img at h in
+        let z : at ≡ 0 → ⊥ = active-some img at h in
         let o : lookupOffset img key ≡ at = offset-is ∙ ap (λ (t : Bool). cond t at 0) h in
         let end = point-end g img (r .file) key (slot g img i) a (entry-met g img key i m) z in
         let len : length (part img (at + headSize g) (lengthAt g img at)) ≡ lengthAt g img at =
