@@ -9,20 +9,22 @@ use mathlib.Core.Logic.{inr}
 use mathlib.Core.Bool.{true}
 use mathlib.Core.Option.{some}
 use lib.ListN.{length}
-use Rattle.bhtf.specs.Bytes.{Bytes, digits}
-use Rattle.bhtf.specs.Limits.{pointsField, freeField, tableStart}
+use Rattle.bhtf.specs.Bytes.{Bytes}
+use Rattle.bhtf.specs.Limits.{slotsField, pointsField, freeField, tableStart}
 use Rattle.bhtf.specs.Image.{field, setField, Layout, slotSize, offsetOf, slot, putSlot, keyOf, entry}
 use Rattle.bhtf.specs.Messages.{headSize, enter}
 use Rattle.bhtf.specs.Search.{search, met, empty}
 use Rattle.bhtf.specs.Questions.{messageSound}
 use Rattle.bhtf.proofs.Tests.{by-eq}
-use Rattle.bhtf.proofs.Bytes.{Apart, length-digits}
-use Rattle.bhtf.proofs.Slots.{Room, slot-above, slot-end, slot-setField, part-putSlot-data, field-putSlot, length-putSlot, length-entry, keyOf-entry, offsetOf-entry, field-setField-other, field-setField-same}
-use Rattle.bhtf.proofs.Kept.{Kept, kept-trans, kept-store, kept-points}
+use Rattle.bhtf.proofs.Bytes.{Apart}
+use Rattle.bhtf.proofs.Slots.{Room, slot-above, slot-end, slot-setField, part-putSlot-outside, field-putSlot, length-putSlot, length-entry, keyOf-entry, offsetOf-entry}
+use Rattle.bhtf.proofs.Opened.{Opened}
+use Rattle.bhtf.proofs.Kept.{Kept, kept-trans, kept-store, kept-slots, opened-kept}
+use Rattle.bhtf.proofs.Effects.{points-kept, points-is, points-free, points-behind}
 use Rattle.bhtf.proofs.Table.{Sound, entryOf, weight}
 use Rattle.bhtf.proofs.Probe.{search-met, search-empty}
 use Rattle.bhtf.proofs.Insert.{weight-frame, insert-sound, insert-entry, insert-other, insert-weight, replace-sound, replace-entry, replace-other, replace-weight}
-use Rattle.bhtf.proofs.Stretch.{size, Lies, sound-lies, lies-sound, none-sound, SameOn, same-on-trans, same-on-store, lengthAt-same, shown-same, held-same, lies-same}
+use Rattle.bhtf.proofs.Stretch.{size, Lies, sound-lies, lies-sound, none-sound, SameOn, same-on-trans, lengthAt-same, shown-same, held-same, lies-same}
 use Rattle.agreement.proofs.Data.{frame-entry, frame-sound, file-above, some-same}
 use Rattle.agreement.proofs.File.{Allowed, allowed-length, allowed-zero, valueOf, pointOf, pointOf-some, none-value, File, file-slots, file-room, file-some, Change}
 
@@ -112,28 +114,10 @@ module _ (g : Layout) (img : Bytes) (f : File g img) (i : ℕ) (s : Bytes) (l : 
 
   put-same : (p n : ℕ) → g .D ≤ p → SameOn img (putSlot g img i s) p n
   put-same p n lo =
-      record { on = λ q m a b. part-putSlot-data g img (file-room f) i s q m l len (omega arith) }
+      record { on = λ q m a b. part-putSlot-outside g img (file-room f) i s q m l len (inr (omega arith)) }
 
   put-field : (at : ℕ) → at + 4 ≤ tableStart → field (putSlot g img i s) at ≡ field img at
   put-field at h = field-putSlot g img (file-room f) i s at l len h
-
--- ---- C's write
-
-module _ (g : Layout) (img : Bytes) (r : Room g (length img)) (lo : tableStart ≤ g .D) (long : 60 ≤ length img) (n : ℕ) where
-  pub points-slot : (k : ℕ) → k < g .N → slot g (setField img pointsField n) k ≡ slot g img k
-  points-slot k h = slot-setField g img r pointsField n k (omega arith) h
-
-  pub points-same : (p m : ℕ) → g .D ≤ p → SameOn img (setField img pointsField n) p m
-  unfolding setField
-  points-same p m h =
-      same-on-store img pointsField (digits 4 n) p m (rw (length-digits 4 n) (omega (arith, long)))
-      (inr (rw (length-digits 4 n) (omega (arith, lo))))
-
-  pub points-free : field (setField img pointsField n) freeField ≡ field img freeField
-  points-free = field-setField-other img pointsField n freeField (omega (arith, long)) (inr (omega arith))
-
-  pub points-is : n < 2 ^ 32 → field (setField img pointsField n) pointsField ≡ n
-  points-is h = field-setField-same img pointsField n (omega (arith, long)) h
 
 -- ---- the offset x written into the slot where the point was met
 
@@ -202,18 +186,24 @@ module _ (g : Layout) (img : Bytes) (f : File g img) (key : Bytes) (a : Allowed 
   room-put : Room g (length put)
   room-put = rw length-put (file-room f)
 
-  long : 60 ≤ length put
-  long = rw length-put (omega (arith, f .opened .size-low))
+  put-opened : Opened put
+  unfolding put
+  put-opened =
+      opened-kept (put-kept g img f i (entry key x) lt len) (f .opened)
+      (rw (put-field g img f i (entry key x) lt len pointsField (omega arith)) (f .opened .points))
+      (rw (put-field g img f i (entry key x) lt len freeField (omega arith)) (f .opened .free-low))
+      (rw (put-field g img f i (entry key x) lt len freeField (omega arith)) (f .opened .free-high))
+
+  more : field img pointsField + 1 ≤ field put slotsField
+  unfolding put
+  more = omega (arith, room, file-slots f, kept-slots (put-kept g img f i (entry key x) lt len))
 
   is-enter : enter g img i key x ≡ setField put pointsField (field img pointsField + 1)
   unfolding enter put
   is-enter = refl
 
-  few : field img pointsField + 1 < 2 ^ 32
-  few = omega (arith, room, f .opened .slots-high, file-slots f)
-
   enter-slot : (k : ℕ) → k < g .N → slot g (enter g img i key x) k ≡ slot g put k
-  enter-slot k h = ap (λ (j : Bytes). slot g j k) is-enter ∙ points-slot g put room-put (file-above f) long (field img pointsField + 1) k h
+  enter-slot k h = ap (λ (j : Bytes). slot g j k) is-enter ∙ slot-setField g put room-put pointsField (field img pointsField + 1) k (omega arith) h
 
   enter-entry : (k : Bytes) → entryOf g (enter g img i key x) k ≡ entryOf g put k
   enter-entry = frame-entry g put (enter g img i key x) (file-some f) enter-slot
@@ -226,24 +216,25 @@ module _ (g : Layout) (img : Bytes) (f : File g img) (key : Bytes) (a : Allowed 
 
   pub enter-points : field (enter g img i key x) pointsField ≡ field img pointsField + 1
   enter-points =
-      ap (λ (j : Bytes). field j pointsField) is-enter ∙ points-is g put room-put (file-above f) long (field img pointsField + 1) few
+      ap (λ (j : Bytes). field j pointsField) is-enter ∙ points-is put put-opened (field img pointsField + 1) more
 
   pub enter-free : field (enter g img i key x) freeField ≡ field img freeField
   unfolding put
   enter-free =
       ap (λ (j : Bytes). field j freeField) is-enter
-      ∙ points-free g put room-put (file-above f) long (field img pointsField + 1)
+      ∙ points-free put put-opened (field img pointsField + 1) more
       ∙ put-field g img f i (entry key x) lt len freeField (omega arith)
 
   enter-kept : Kept img (enter g img i key x)
   unfolding put
-  enter-kept = rw is-enter (kept-trans (put-kept g img f i (entry key x) lt len) (kept-points put (field img pointsField + 1) long))
+  enter-kept = rw is-enter (kept-trans (put-kept g img f i (entry key x) lt len) (points-kept put put-opened (field img pointsField + 1) more))
 
   enter-same : (p n : ℕ) → g .D ≤ p → SameOn img (enter g img i key x) p n
   unfolding put
   enter-same p n h =
       rw is-enter
-      (same-on-trans (put-same g img f i (entry key x) lt len p n h) (points-same g put room-put (file-above f) long (field img pointsField + 1) p n h))
+      (same-on-trans (put-same g img f i (entry key x) lt len p n h)
+      (record { on = λ q m lo hi. points-behind put put-opened (field img pointsField + 1) more q m (omega (arith, h, file-above f)) }))
 
   pub enter-change : Change g img (enter g img i key x) key
   unfolding put
