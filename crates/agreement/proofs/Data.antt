@@ -8,7 +8,7 @@ use Prim.Native.Nat.{ℕ, _+_, _≤_, _<_}
 use native.Mathlib.Omega.{arith}
 use mathlib.Core.Logic.{inl, inr}
 use mathlib.Core.Bool.{true}
-use mathlib.Core.Option.{some}
+use mathlib.Core.Option.{some, Option·some-injective}
 use lib.ListN.{length}
 use Rattle.bhtf.specs.Bytes.{Bytes}
 use Rattle.bhtf.specs.Limits.{pointsField, freeField, tableStart}
@@ -35,9 +35,6 @@ module _ (g : Layout) (img img′ : Bytes) (pos : 0 < g .N) (e : (k : ℕ) → k
 -- where the table ends the data area begins, above the header
 pub file-above : {g : Layout} {img : Bytes} → File g img → tableStart ≤ g .D
 file-above f = omega (arith, file-room f .table)
-
-pub some-same : {x y : Bytes} → some x ≡ some y → x ≡ y
-some-same e = cc
 
 -- a shorter stretch
 pub apart-shrink : (p n n′ q m : ℕ) → n ≤ n′ → Apart p n′ q m → Apart p n q m
@@ -88,7 +85,7 @@ module _ (g : Layout) (img img′ : Bytes) (f : File g img) (kept₁ : Kept img 
       (f .apart key key′ s₁ s′ a a′ (λ q. n (sym q)) e₁ e′ z₁ z′))
     where
       is-s : (s₁ : Bytes) → entryOf g img key ≡ some s₁ → s₁ ≡ s
-      is-s s₁ e₁ = some-same (sym e₁ ∙ e)
+      is-s s₁ e₁ = Option·some-injective s₁ s (sym e₁ ∙ e)
 
 -- ---- the message of a point
 

@@ -16,14 +16,14 @@ use mathlib.Core.Option.{Option, none, some}
 use lib.ListN.{length}
 use lib.Dec.{eqb}
 use borrow.Author.Tests.{eqb-true, not-true}
-use Rattle.bhtf.specs.Bytes.{Bytes, allZero, same}
+use Rattle.bhtf.specs.Bytes.{Bytes, allZero}
 use Rattle.bhtf.specs.Limits.{pointsField, freeField, slotsField, dataField}
 use Rattle.bhtf.specs.Image.{field, Layout, layoutOf, offsetOf}
 use Rattle.bhtf.specs.Messages.{headSize, shown, held, isActive}
 use Rattle.bhtf.specs.Questions.{nameAllowed, messageSound}
 use Rattle.bhtf.specs.Book.{Entry}
-use Rattle.bhtf.proofs.Tests.{by-bool, by-eq, and-left, and-right}
-use Rattle.bhtf.proofs.Bytes.{Apart, same-true, same-false}
+use Rattle.bhtf.proofs.Tests.{by-eq, and-left, and-right}
+use Rattle.bhtf.proofs.Bytes.{Apart, by-same}
 use Rattle.bhtf.proofs.Slots.{Room}
 use Rattle.bhtf.proofs.Opened.{Opened, opened-room}
 use Rattle.bhtf.proofs.Kept.{Kept, kept-trans, kept-layout, opened-kept}
@@ -42,10 +42,6 @@ allowed-length g key a = eqb-true _ _ (and-left (eqb (length key) (g .K)) (not (
 pub allowed-zero : (g : Layout) (key : Bytes) → Allowed g key → allZero key ≡ false
 unfolding nameAllowed
 allowed-zero g key a = not-true _ (and-right (eqb (length key) (g .K)) (not (allZero key)) a)
-
--- two names are equal or not
-pub by-name {ℓ} : {A : Type ℓ} (a b : Bytes) → (a ≡ b → A) → ((a ≡ b → ⊥) → A) → A
-by-name a b yes′ no′ = by-bool (same a b) (λ e. yes′ (same-true a b e)) (λ e. no′ (same-false a b e))
 
 -- ---- a point's value
 
@@ -158,7 +154,7 @@ module _ (g : Layout) (img img′ key : Bytes) (f : File g img) (c : Change g im
 
   new-messages : (k s : Bytes) → Allowed g k → entryOf g img′ k ≡ some s → messageSound g img′ (offsetOf g s) ≡ true
   new-messages k s a e =
-      by-name k key
+      by-same k key
       (λ q. c .here s (rw q at a) (rw q at e))
       (λ n. other-sound k s a n (before k s a n e))
 
@@ -166,13 +162,13 @@ module _ (g : Layout) (img img′ key : Bytes) (f : File g img) (c : Change g im
       → entryOf g img′ k ≡ some s → entryOf g img′ k′ ≡ some s′ → (offsetOf g s ≡ 0 → ⊥) → (offsetOf g s′ ≡ 0 → ⊥)
       → Apart (offsetOf g s) (size g img′ (offsetOf g s)) (offsetOf g s′) (size g img′ (offsetOf g s′))
   new-apart k k′ s s′ a a′ n e e′ z z′ =
-      by-name k key
-      (λ q. by-name k′ key
+      by-same k key
+      (λ q. by-same k′ key
       (λ q′. absurd (n (q ∙ sym q′)))
       (λ n′.
       let b′ = before k′ s′ a′ n′ e′ in
       rw (other-size k′ s′ a′ n′ b′ z′) (c .here-apart s k′ s′ (rw q at a) a′ n′ (rw q at e) b′ z z′)))
-      (λ n₁. by-name k′ key
+      (λ n₁. by-same k′ key
       (λ q′.
       let b = before k s a n₁ e in
       rw (other-size k s a n₁ b z) (apart-sym (offsetOf g s′) _ (offsetOf g s) _ (c .here-apart s′ k s (rw q′ at a′) a n₁ (rw q′ at e′) b z′ z)))

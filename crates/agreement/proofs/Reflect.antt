@@ -15,7 +15,8 @@ use Rattle.bhtf.specs.Messages.{headSize}
 use Rattle.bhtf.specs.Questions.{nameAllowed}
 use Rattle.bhtf.specs.Book.{Entry, Terms, Book, find, without, withEntry, entered}
 use Rattle.bhtf.proofs.Tests.{not-both}
-use Rattle.agreement.proofs.File.{Allowed, by-name, pointOf, File, Change, file-change, point-other}
+use Rattle.bhtf.proofs.Bytes.{by-same}
+use Rattle.agreement.proofs.File.{Allowed, pointOf, File, Change, file-change, point-other}
 use Rattle.agreement.proofs.Entries.{Distinct, find-without-other, find-without-same, distinct-without, find-withEntry, find-withEntry-other, distinct-withEntry}
 
 -- the book's terms of a file of L bytes
@@ -54,7 +55,7 @@ module _ (g : Layout) (img img′ key : Bytes) (b : Book) (r : Reflects g img b)
         number = n;
         points =
             λ name a′.
-            by-name name key
+            by-same name key
             (λ q. ap (pointOf g img′) q ∙ p ∙ sym (ap (λ (k : Bytes). find k (withEntry new (b .entries))) q ∙ find-withEntry new (b .entries)))
             (λ q. point-other g img img′ key (r .file) c name a′ q ∙ r .points name a′ ∙ sym (find-withEntry-other new (b .entries) name q));
         others = λ name h. find-withEntry-other new (b .entries) name (other-name g key name a h) ∙ r .others name h;
@@ -76,7 +77,7 @@ module _ (g : Layout) (img img′ key : Bytes) (b : Book) (r : Reflects g img b)
         number = n;
         points =
             λ name a′.
-            by-name name key
+            by-same name key
             (λ q. ap (pointOf g img′) q ∙ p ∙ sym (ap (λ (k : Bytes). find k (without key (b .entries))) q ∙ find-without-same key (b .entries) (r .distinct)))
             (λ q. point-other g img img′ key (r .file) c name a′ q ∙ r .points name a′ ∙ sym (find-without-other key name (b .entries) q));
         others = λ name h. find-without-other key name (b .entries) (other-name g key name a h) ∙ r .others name h;

@@ -5,7 +5,7 @@ use mathlib.Core.Path.{_≡_, sym, ap, _∙_}
 use Prim.Native.Nat.{ℕ, _-_, _≤_, _<_}
 use native.Mathlib.Omega.{arith}
 use mathlib.Core.Logic.{_↔_, inr}
-use mathlib.Core.Option.{Option, none, some}
+use mathlib.Core.Option.{none, Option·none-ne-some}
 use lib.ListN.{length}
 use Rattle.bhtf.specs.Bytes.{Bytes}
 use Rattle.bhtf.specs.Limits.{slotsField, pointsField, freeField}
@@ -122,12 +122,9 @@ module _ (g : Layout) (img : Bytes) (f : File g img) (key : Bytes) (a : Allowed 
         counted = gone-counted;
         others = remove-other;
         still = λ key′ s a′ n e′ z. remove-same _ _ (sound-lies g img _ (f .messages key′ s a′ e′) z .low);
-        here = λ s a₁ e₁. absurd (none-some s (sym remove-entry ∙ e₁));
-        here-apart = λ s key′ s′ a₁ a′ n e₁ e′ z z′. absurd (none-some s (sym remove-entry ∙ e₁));
+        here = λ s a₁ e₁. absurd (Option·none-ne-some s (sym remove-entry ∙ e₁));
+        here-apart = λ s key′ s′ a₁ a′ n e₁ e′ z z′. absurd (Option·none-ne-some s (sym remove-entry ∙ e₁));
       }
-    where
-      none-some : (s : Bytes) → _≡_ {A = Option Bytes} none (some s) → ⊥
-      none-some s e = let z : _≡_ {A = ℕ} 0 1 = cc in omega arith
 
   pub remove-change : Change g img (closed g (setField img pointsField (field img pointsField - 1)) i) key
   unfolding gone fewer

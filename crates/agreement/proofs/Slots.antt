@@ -7,7 +7,7 @@ use Prim.Native.Nat.{ℕ, _+_, _^_, _≤_, _<_}
 use native.Mathlib.Omega.{arith}
 use mathlib.Core.Logic.{inr}
 use mathlib.Core.Bool.{true}
-use mathlib.Core.Option.{some}
+use mathlib.Core.Option.{some, Option·some-injective}
 use lib.ListN.{length}
 use Rattle.bhtf.specs.Bytes.{Bytes}
 use Rattle.bhtf.specs.Limits.{slotsField, pointsField, freeField, tableStart}
@@ -25,7 +25,7 @@ use Rattle.bhtf.proofs.Table.{Sound, entryOf, weight}
 use Rattle.bhtf.proofs.Probe.{search-met, search-empty}
 use Rattle.bhtf.proofs.Insert.{weight-frame, insert-sound, insert-entry, insert-other, insert-weight, replace-sound, replace-entry, replace-other, replace-weight}
 use Rattle.bhtf.proofs.Stretch.{size, Lies, sound-lies, lies-sound, none-sound, SameOn, same-on-trans, lengthAt-same, shown-same, held-same, lies-same}
-use Rattle.agreement.proofs.Data.{frame-entry, frame-sound, file-above, some-same}
+use Rattle.agreement.proofs.Data.{frame-entry, frame-sound, file-above}
 use Rattle.agreement.proofs.File.{Allowed, allowed-length, allowed-zero, valueOf, pointOf, pointOf-some, none-value, File, file-slots, file-room, file-some, Change}
 
 -- ---- a step that leaves the data area alone and writes the offset x into the point's slot
@@ -91,7 +91,7 @@ module _ (g : Layout) (img : Bytes) (f : File g img) (key : Bytes) (a : Allowed 
       }
     where
       is-x : (s : Bytes) → entryOf g img′ key ≡ some s → offsetOf g s ≡ x
-      is-x s e₁ = ap (offsetOf g) (some-same (sym e₁ ∙ e)) ∙ offset-is
+      is-x s e₁ = ap (offsetOf g) (Option·some-injective s (entry key x) (sym e₁ ∙ e)) ∙ offset-is
 
       offset-of : (s : Bytes) → entryOf g img′ key ≡ some s → messageSound g img′ x ≡ true → messageSound g img′ (offsetOf g s) ≡ true
       offset-of s e₁ h = rw (is-x s e₁) h

@@ -13,7 +13,7 @@ use lib.Seq.{take-at, drop-at, take-append-le, drop-append-le, drop-append-add, 
 use lib.Dec.{eqb, lit<}
 use lib.Pow.{pow-add, mod-pow-add}
 use borrow.Author.Tests.{eqb-true, eq-eqb}
-use Rattle.bhtf.proofs.Tests.{and-left, and-right}
+use Rattle.bhtf.proofs.Tests.{by-bool, and-left, and-right}
 use Rattle.bhtf.specs.Bytes.{Bytes, part, store, number, digits, zeros, allZero, same}
 
 -- ---- part
@@ -173,3 +173,7 @@ same-true (x ∷ a) (y ∷ b) h = ap₂ _∷_ (eqb-true x y (and-left (eqb x y) 
 
 pub same-false : (a b : Bytes) → same a b ≡ false → a ≡ b → ⊥
 same-false a b h e = true≢false (sym (same-refl a) ∙ ap (same a) e ∙ h)
+
+-- two strings are equal or not
+pub by-same {ℓ} : {A : Type ℓ} (a b : Bytes) → (a ≡ b → A) → ((a ≡ b → ⊥) → A) → A
+by-same a b yes′ no′ = by-bool (same a b) (λ h. yes′ (same-true a b h)) (λ h. no′ (same-false a b h))
