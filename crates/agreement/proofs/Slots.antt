@@ -2,7 +2,7 @@
 --     set-change, set-point          an offset written into the point's slot
 --     enter-change, enter-point      a new point
 -- Assumes nothing.
-use mathlib.Core.Path.{_≡_, refl, sym, ap, ap₂, _∙_}
+use mathlib.Core.Path.{_≡_, refl, sym, ap, _∙_}
 use Prim.Native.Nat.{ℕ, _+_, _^_, _≤_, _<_}
 use native.Mathlib.Omega.{arith}
 use mathlib.Core.Logic.{inr}
@@ -12,10 +12,9 @@ use lib.ListN.{length}
 use Rattle.bhtf.specs.Bytes.{Bytes}
 use Rattle.bhtf.specs.Limits.{slotsField, pointsField, freeField, tableStart}
 use Rattle.bhtf.specs.Image.{field, setField, Layout, slotSize, offsetOf, slot, putSlot, keyOf, entry}
-use Rattle.bhtf.specs.Messages.{headSize, enter}
+use Rattle.bhtf.specs.Messages.{enter}
 use Rattle.bhtf.specs.Search.{search, met, empty}
 use Rattle.bhtf.specs.Questions.{messageSound}
-use Rattle.bhtf.proofs.Tests.{by-eq}
 use Rattle.bhtf.proofs.Bytes.{Apart}
 use Rattle.bhtf.proofs.Slots.{Room, slot-above, slot-end, slot-setField, part-putSlot-outside, field-putSlot, length-putSlot, length-entry, keyOf-entry, offsetOf-entry}
 use Rattle.bhtf.proofs.Opened.{Opened}
@@ -24,9 +23,9 @@ use Rattle.bhtf.proofs.Effects.{points-kept, points-is, points-free, points-beh
 use Rattle.bhtf.proofs.Table.{Sound, entryOf, weight}
 use Rattle.bhtf.proofs.Probe.{search-met, search-empty}
 use Rattle.bhtf.proofs.Insert.{weight-frame, insert-sound, insert-entry, insert-other, insert-weight, replace-sound, replace-entry, replace-other, replace-weight}
-use Rattle.bhtf.proofs.Stretch.{size, Lies, sound-lies, lies-sound, none-sound, SameOn, same-on-trans, lengthAt-same, shown-same, held-same, lies-same}
+use Rattle.bhtf.proofs.Stretch.{size, sound-lies, none-sound, SameOn, same-on-trans, size-same, sound-same}
 use Rattle.agreement.proofs.Data.{frame-entry, frame-sound, file-above}
-use Rattle.agreement.proofs.File.{Allowed, allowed-length, allowed-zero, valueOf, pointOf, pointOf-some, none-value, File, file-slots, file-room, file-some, Change}
+use Rattle.agreement.proofs.File.{Allowed, allowed-length, allowed-zero, valueOf, pointOf, pointOf-some, value-same, File, file-slots, file-room, file-some, Change}
 
 -- ---- a step that leaves the data area alone and writes the offset x into the point's slot
 
@@ -48,31 +47,15 @@ module _ (g : Layout) (img : Bytes) (f : File g img) (key : Bytes) (a : Allowed 
   offset-is : offsetOf g (entry key x) ≡ x
   offset-is = offsetOf-entry g key x (allowed-length g key a) (fr .small)
 
-  x-lies : (x ≡ 0 → ⊥) → Lies g img x
-  x-lies z = sound-lies g img x (fr .sound) z
-
-  x-sound : messageSound g img′ x ≡ true
-  x-sound =
-      by-eq x 0
-      (λ z. rw z (none-sound g img′))
-      (λ z. lies-sound g img′ x (lies-same g img img′ x (same-on x _ (x-lies z .low)) (rw free (omega arith)) (x-lies z)))
-
-  x-size : (x ≡ 0 → ⊥) → size g img′ x ≡ size g img x
-  x-size z = ap (λ (m : ℕ). headSize g + m) (lengthAt-same g img img′ x (same-on x _ (x-lies z .low)))
-
-  x-value : valueOf g img′ key x ≡ valueOf g img key x
-  x-value =
-      by-eq x 0
-      (λ z. rw z (none-value g img img′ key))
-      (λ z.
-      ap₂ (λ (t : Bytes) (h : ℕ). record { name = key; text = t; held = h })
-      (shown-same g img img′ x (same-on x _ (x-lies z .low))) (held-same g img img′ x (same-on x _ (x-lies z .low))))
+  -- x's message is as it was
+  x-same : (x ≡ 0 → ⊥) → SameOn img img′ x (size g img x)
+  x-same z = same-on x _ (sound-lies g img x (fr .sound) z .low)
 
   pub slot-point : pointOf g img′ key ≡ some (valueOf g img key x)
   slot-point =
       pointOf-some g img′ key (entry key x) e
       ∙ ap (λ (o : ℕ). some (valueOf g img′ key o)) offset-is
-      ∙ ap some x-value
+      ∙ ap some (value-same g img img′ key x x-same)
 
   pub slot-change : field img′ pointsField ≤ g .N → Sound g img′ → field img′ pointsField ≡ weight g img′ (λ s. 1)
       → ((key′ : Bytes) → Allowed g key′ → (key′ ≡ key → ⊥) → entryOf g img′ key′ ≡ entryOf g img key′) → Change g img img′ key
@@ -86,22 +69,19 @@ module _ (g : Layout) (img : Bytes) (f : File g img) (key : Bytes) (a : Allowed 
         counted = counted;
         others = others;
         still = λ key′ s a′ n e′ z. same-on _ _ (sound-lies g img _ (f .messages key′ s a′ e′) z .low);
-        here = λ s a₁ e₁. offset-of s e₁ x-sound;
+        here = λ s a₁ e₁. rw (is-x s e₁) (sound-same g img img′ x x-same (rw free (omega arith)) (fr .sound));
         here-apart = λ s key′ s′ a₁ a′ n e₁ e′ z z′. apart₁ s key′ s′ a′ n e₁ e′ z z′;
       }
     where
       is-x : (s : Bytes) → entryOf g img′ key ≡ some s → offsetOf g s ≡ x
       is-x s e₁ = ap (offsetOf g) (Option·some-injective s (entry key x) (sym e₁ ∙ e)) ∙ offset-is
 
-      offset-of : (s : Bytes) → entryOf g img′ key ≡ some s → messageSound g img′ x ≡ true → messageSound g img′ (offsetOf g s) ≡ true
-      offset-of s e₁ h = rw (is-x s e₁) h
-
       apart₁ : (s key′ s′ : Bytes) → Allowed g key′ → (key′ ≡ key → ⊥)
           → entryOf g img′ key ≡ some s → entryOf g img key′ ≡ some s′ → (offsetOf g s ≡ 0 → ⊥) → (offsetOf g s′ ≡ 0 → ⊥)
           → Apart (offsetOf g s) (size g img′ (offsetOf g s)) (offsetOf g s′) (size g img (offsetOf g s′))
       apart₁ s key′ s′ a′ n e₁ e′ z z′ =
           let z₁ : x ≡ 0 → ⊥ = λ q. z (is-x s e₁ ∙ q) in
-          rw (is-x s e₁, x-size z₁) (fr .away z₁ key′ s′ a′ n e′ z′)
+          rw (is-x s e₁, size-same g img img′ x (x-same z₁)) (fr .away z₁ key′ s′ a′ n e′ z′)
 
 -- ---- a slot's write
 

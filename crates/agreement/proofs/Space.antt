@@ -21,7 +21,7 @@ use Rattle.bhtf.specs.Messages.{headSize, letterAt, lengthAt, textAt, isActive,
 use Rattle.bhtf.proofs.Bytes.{Apart, part-part, length-digits, number-digits-fits}
 use Rattle.bhtf.proofs.Effects.{Spaced, spaced}
 use Rattle.bhtf.proofs.Table.{entryOf}
-use Rattle.bhtf.proofs.Stretch.{size, Lies, sound-lies, lengthAt-same}
+use Rattle.bhtf.proofs.Stretch.{size, Lies, sound-lies, size-same}
 use Rattle.agreement.proofs.Data.{frame-entry, file-above, frame-change}
 use Rattle.agreement.proofs.File.{Allowed, not-allowed, valueOf, File, file-data, file-some, Change, file-change}
 
@@ -113,4 +113,4 @@ module _ (g : Layout) (img : Bytes) (f : File g img) (t : Bytes) (small : length
   space-away key s a e z =
       let e′ : entryOf g img key ≡ some s = sym (frame-entry g img (takeSpace g img t) (file-some f) (space-is .slots) key) ∙ e in
       let same-on = space-change .still key s a (λ q. not-allowed f (rw q at a)) e′ z in
-      inr (rw (lengthAt-same g img (takeSpace g img t) (offsetOf g s) same-on) (below key s a e′ z))
+      inr (rw (size-same g img (takeSpace g img t) (offsetOf g s) same-on) (below key s a e′ z))
