@@ -1,7 +1,7 @@
 -- Add of a point that is absent: the file's answer is the book's, and the relation is kept.
 -- Assumes nothing.
 use mathlib.Core.Path.{_≡_, refl, sym, ap, ap₂, _∙_}
-use Prim.Native.Nat.{ℕ, zero, suc, _<_}
+use Prim.Native.Nat.{ℕ, _<_}
 use native.Mathlib.Omega.{arith}
 use native.Mathlib.Nat.{add-zero}
 use mathlib.Core.Bool.{Bool, true, false, cond}
@@ -21,7 +21,7 @@ use Rattle.bhtf.specs.Book.{Terms, Book, find, roomAsks, entered, addAbsent, ad
 use Rattle.bhtf.proofs.Tests.{by-bool, by-eq, not-both}
 use Rattle.bhtf.proofs.Opened.{firstNo-none, firstNo-yes, firstNo-no}
 use Rattle.bhtf.proofs.Outcomes.{roomOf, room-none, add-10-exhausted, add-10-full, add-fresh}
-use Rattle.bhtf.proofs.Total.{total, total-same}
+use Rattle.bhtf.proofs.Total.{total-same, total-const}
 use Rattle.bhtf.proofs.Table.{weight, weigh, Taken}
 use Rattle.bhtf.proofs.Probe.{by-search, search-exhausted}
 use Rattle.bhtf.proofs.Insert.{weigh-taken}
@@ -35,16 +35,11 @@ use Rattle.agreement.proofs.Place.{room-both, insert}
 -- ---- a point that is absent
 
 -- a table with no vacant slot has N points
-ones : (n : ℕ) → total (λ i. 1) n ≡ n
-unfolding total
-ones zero = refl
-ones (suc n) = omega (arith, ones n)
-
 weight-full : (g : Layout) (img : Bytes) → ((k : ℕ) → k < g .N → Taken g img k) → weight g img (λ s. 1) ≡ g .N
 unfolding weight
 weight-full g img h =
     total-same (λ i. weigh g (λ s. 1) (slot g img i)) (λ i. 1) (g .N) (λ i l. weigh-taken g (λ s. 1) (slot g img i) (h i l))
-    ∙ ones (g .N)
+    ∙ omega (arith, total-const 1 (g .N))
 
 module _ (g : Layout) (img : Bytes) (b : Book) (r : Reflects g img b) (key : Bytes) (a : Allowed g key) (bytes : Bytes) (mode : ℕ)
     (k : modeKnown mode ≡ true) (h : isMet (search g img key) ≡ false) where

@@ -27,7 +27,7 @@ use Rattle.bhtf.proofs.Opened.{Opened, opened-room}
 use Rattle.bhtf.proofs.Accepted.{Accepted}
 use Rattle.bhtf.proofs.Table.{Taken, entryOf, weight, weigh}
 use Rattle.bhtf.proofs.Insert.{entry-absent, weigh-vacant}
-use Rattle.bhtf.proofs.Total.{total-same, total-zero}
+use Rattle.bhtf.proofs.Total.{total-same, total-const}
 use Rattle.agreement.proofs.File.{Allowed, allowed-zero, pointOf-none, File}
 use Rattle.agreement.proofs.Entries.{find-none}
 use Rattle.agreement.proofs.Reflect.{Reflects}
@@ -185,7 +185,7 @@ module _ (L K N seed : ℕ) (ok : Accepted L K N) (pos : 1 ≤ N) where
       nothing =
           unfold weight in
           (total-same (λ i. weigh g (λ s. 1) (slot g img i)) (λ i. 0) (g .N) (λ i l. weigh-vacant g (λ s. 1) (slot g img i) (fresh-vacant i l))
-          ∙ total-zero (g .N))
+          ∙ omega (arith, total-const 0 (g .N)))
 
   pub fresh-reflects : Reflects (layoutOf (freshImage L K N seed)) (freshImage L K N seed) (newBook (termsOf L K N))
   unfolding g img newBook termsOf layoutOf headSize

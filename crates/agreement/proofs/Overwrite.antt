@@ -25,7 +25,7 @@ use Rattle.agreement.proofs.Data.{frame-entry, file-above, point-change
 use Rattle.agreement.proofs.Space.{Written, written, written-value, written-lies}
 use Rattle.agreement.proofs.File.{Allowed, pointOf, pointOf-some, File, file-room, file-some, Change}
 
-held-length : (g : Layout) (img : Bytes) (o : ℕ) → (o ≡ 0 → ⊥) → held g img o ≡ lengthAt g img o
+pub held-length : (g : Layout) (img : Bytes) (o : ℕ) → (o ≡ 0 → ⊥) → held g img o ≡ lengthAt g img o
 unfolding held
 held-length g img o z = rw (ne-eqb o 0 z) refl
 

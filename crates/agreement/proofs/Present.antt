@@ -4,7 +4,7 @@ use mathlib.Core.Path.{_≡_, refl, sym, ap, _∙_, subst}
 use Prim.Native.Nat.{ℕ, _^_, _≤_, _<_}
 use native.Mathlib.Omega.{arith}
 use native.Mathlib.Nat.{add-zero}
-use mathlib.Core.Bool.{Bool, true, false, cond}
+use mathlib.Core.Bool.{true, false}
 use mathlib.Core.List.{[], _∷_, _++_}
 use mathlib.Core.Option.{Option, none, some}
 use lib.ListN.{length, length-append}
@@ -14,7 +14,7 @@ use Rattle.bhtf.specs.Bytes.{Bytes}
 use Rattle.bhtf.specs.Limits.{leastLength, pointsField, freeField}
 use Rattle.bhtf.specs.Image.{field, Layout, layoutOf, slot, offsetOf}
 use Rattle.bhtf.specs.Search.{met, search}
-use Rattle.bhtf.specs.Messages.{lengthAt, shown, held, retire, overwrite, renewedText, renewed, renewedAt, addedAt, added}
+use Rattle.bhtf.specs.Messages.{shown, held, retire, overwrite, renewedText, renewed, renewedAt, addedAt, added}
 use Rattle.bhtf.specs.Questions.{ask, firstNo, modeKnown, addNumber}
 use Rattle.bhtf.specs.Calls.{add}
 use Rattle.bhtf.specs.Book.{Entry, Book, find, withEntry, stepOf, roomAsks, entered, placed, replace, append, addPresent, addFound}
@@ -27,7 +27,7 @@ use Rattle.agreement.proofs.File.{Allowed, valueOf}
 use Rattle.bhtf.proofs.Stretch.{sound-lies}
 use Rattle.agreement.proofs.Data.{file-above}
 use Rattle.agreement.proofs.Retire.{retire-change, retire-field, retire-point}
-use Rattle.agreement.proofs.Overwrite.{overwrite-change, overwrite-field, overwrite-point}
+use Rattle.agreement.proofs.Overwrite.{held-length, overwrite-change, overwrite-field, overwrite-point}
 use Rattle.agreement.proofs.Entries.{length-withEntry-old}
 use Rattle.agreement.proofs.Reflect.{Reflects, reflect-entered}
 use Rattle.agreement.proofs.Simple.{Same, same-refused, same-accepted, open₀, found-met, met-sound}
@@ -118,12 +118,11 @@ module _ (g : Layout) (img : Bytes) (b : Book) (r : Reflects g img b) (key : Byt
 
   -- a message lies in the image, which is shorter than the longest length
   held-small : (o ≡ 0 → ⊥) → length bytes ≤ held g img o → length bytes < 256 ^ g .W
-  unfolding held layoutOf
+  unfolding layoutOf
   held-small z hi =
       let l = sound-lies g img o (met-sound g img b r key a i m) z in
-      let is : held g img o ≡ lengthAt g img o = ap (λ (t : Bool). cond t 0 (lengthAt g img o)) (ne-eqb o 0 z) in
       subst (λ (w : ℕ). length bytes < 256 ^ w) (ap (λ (y : Layout). y .W) (r .file .layout))
-      (omega (arith, is, hi, l .low, l .end, file-above (r .file), r .file .opened .free-high, r .file .opened .size-high))
+      (omega (arith, held-length g img o z, hi, l .low, l .end, file-above (r .file), r .file .opened .free-high, r .file .opened .size-high))
 
   held-zero : o ≡ 0 → held g img o ≡ 0
   unfolding held

@@ -17,7 +17,7 @@ use Rattle.bhtf.proofs.Kept.{Kept, kept-trans}
 use Rattle.bhtf.proofs.Effects.{points-kept, points-is, points-free, points-behind}
 use Rattle.bhtf.proofs.Table.{Sound, Taken, keyAt, entryOf, weight}
 use Rattle.bhtf.proofs.Probe.{search-met, met-taken}
-use Rattle.bhtf.proofs.Insert.{Stands, weight-frame, delete-entry, delete-other}
+use Rattle.bhtf.proofs.Insert.{Stands, entry-absent, same-entries, weight-frame}
 use Rattle.bhtf.proofs.Frames.{part-closed, kept-closed, field-closed, weight-closed, stands-closed}
 use Rattle.bhtf.proofs.Delete.{sound-closed, gone-closed}
 use Rattle.bhtf.proofs.Stretch.{sound-lies, SameOn}
@@ -73,11 +73,12 @@ module _ (g : Layout) (img : Bytes) (f : File g img) (key : Bytes) (a : Allowed 
   gone-others s n = stands-closed g fewer room-fewer i lt₁ s (λ e. n (e ∙ key₁))
 
   remove-entry : entryOf g gone key ≡ none
-  remove-entry = delete-entry g fewer gone key (file-some f) sound-fewer sound-gone gone-key gone-others (allowed-zero g key a)
+  remove-entry = entry-absent g gone key (file-some f) gone-key (allowed-zero g key a)
 
   remove-other : (key′ : Bytes) → Allowed g key′ → (key′ ≡ key → ⊥) → entryOf g gone key′ ≡ entryOf g img key′
   remove-other key′ a′ n =
-      delete-other g fewer gone key (file-some f) sound-fewer sound-gone gone-key gone-others key′ n (allowed-zero g key′ a′)
+      same-entries g fewer gone key′ (file-some f) sound-fewer sound-gone (allowed-zero g key′ a′)
+      (λ s k. gone-others s (λ q. n (sym k ∙ q)))
       ∙ frame-entry g img fewer (file-some f) fewer-slot key′
 
   remove-kept : Kept img gone
