@@ -14,7 +14,7 @@ use borrow.Author.Tests.{ne-eqb}
 use Rattle.bhtf.specs.Bytes.{Bytes, store, number}
 use Rattle.bhtf.specs.Limits.{active, inactive, pointsField, freeField, tableStart}
 use Rattle.bhtf.specs.Image.{field, Layout, layoutOf, offsetOf, slot}
-use Rattle.bhtf.specs.Messages.{headSize, letterAt, lengthAt, textAt, isActive, shown, held, retire}
+use Rattle.bhtf.specs.Messages.{headSize, letterAt, lengthAt, isActive, shown, held, retire}
 use Rattle.bhtf.specs.Questions.{messageSound}
 use Rattle.bhtf.proofs.Tests.{by-eq}
 use Rattle.bhtf.proofs.Bytes.{Apart, part-store-same}
@@ -28,13 +28,9 @@ use Rattle.agreement.proofs.File.{Allowed, pointOf, pointOf-some, File,
 
 -- ---- retire
 
-pub shown-inactive : (g : Layout) (img : Bytes) (o : ℕ) → isActive img o ≡ false → shown g img o ≡ []
+shown-inactive : (g : Layout) (img : Bytes) (o : ℕ) → isActive img o ≡ false → shown g img o ≡ []
 unfolding shown
 shown-inactive g img o h = rw h refl
-
-pub shown-active : (g : Layout) (img : Bytes) (o : ℕ) → isActive img o ≡ true → shown g img o ≡ textAt g img o
-unfolding shown
-shown-active g img o h = rw h refl
 
 -- what retire leaves of a point with message offset o: no text, the length held as before
 module _ (g : Layout) (img : Bytes) (f : File g img) (key s : Bytes) (a : Allowed g key) (e : entryOf g img key ≡ some s) where
