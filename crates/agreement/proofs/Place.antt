@@ -1,6 +1,6 @@
 -- Messages in new space: the file's questions 12 and 13 are the book's, and the relation is kept by an insert and a relocation.
 --     room-both        questions 12 and 13, of the file and of the book
---     relocate, insert, insert-bare      the relation afterwards
+--     relocate, insert      the relation afterwards
 -- Assumes nothing.
 use mathlib.Core.Path.{_≡_, sym, ap, ap₂, _∙_, subst}
 use Prim.Native.Nat.{ℕ, _+_, _-_, _^_, _≤_, _<_}

@@ -1,6 +1,6 @@
 -- Corollaries in the words of a user: what was added and not deleted is found, what was deleted is not, and a delete changes no
 -- other point. Each is read off the book, which the file agrees with.
---     delete-others       deleting one point changes no other point's message
+--     delete-others, add-others      deleting, or adding, one point changes no other point's message
 --     added-found         after an accepted add in mode 1 the point is found with its text
 --     deleted-gone        after an accepted delete it is not found
 --     stays-found         a point that is found stays so until it is deleted
