@@ -1,26 +1,26 @@
--- Stores in the data area: they change no slot and, apart from other points' messages, no other point.
---     change-store      such a store is a change to one point at the most
---     change-refl       and so is none
---     point-lies, point-away     the message of a point, and that a store inside its stretch meets no other's
+-- Steps in the data area: they change no slot and, apart from other points' messages, no other point.
+--     frame-change      such a step is a change to one point at the most
+--     point-change      and so is one inside the message of a point
+--     point-lies, point-end     the message of a point
 -- Assumes nothing.
-use mathlib.Core.Path.{_≡_, refl, sym, ap, _∙_}
+use mathlib.Core.Path.{_≡_, sym, ap, _∙_}
 use Prim.Native.Nat.{ℕ, _+_, _≤_, _<_}
 use native.Mathlib.Omega.{arith}
 use mathlib.Core.Logic.{inl, inr}
 use mathlib.Core.Bool.{true}
-use mathlib.Core.Option.{some}
+use mathlib.Core.Option.{some, Option·some-injective}
 use lib.ListN.{length}
-use Rattle.bhtf.specs.Bytes.{Bytes, store}
+use Rattle.bhtf.specs.Bytes.{Bytes}
 use Rattle.bhtf.specs.Limits.{pointsField, freeField, tableStart}
 use Rattle.bhtf.specs.Image.{field, Layout, offsetOf, slot}
+use Rattle.bhtf.specs.Messages.{lengthAt}
 use Rattle.bhtf.specs.Questions.{messageSound}
 use Rattle.bhtf.proofs.Bytes.{Apart}
-use Rattle.bhtf.proofs.Slots.{slot-store-data, field-store-other}
-use Rattle.bhtf.proofs.Kept.{kept-refl, kept-store}
+use Rattle.bhtf.proofs.Kept.{Kept}
 use Rattle.bhtf.proofs.Table.{Sound, entryOf}
 use Rattle.bhtf.proofs.Probe.{entryOf-frame}
 use Rattle.bhtf.proofs.Insert.{weight-frame, sound-keys}
-use Rattle.bhtf.proofs.Stretch.{size, Lies, sound-lies, same-on-refl, same-on-store}
+use Rattle.bhtf.proofs.Stretch.{size, Lies, sound-lies, SameOn}
 use Rattle.agreement.proofs.File.{Allowed, File, file-slots, file-room, file-some, Change}
 
 -- ---- the table over images with the same slots
@@ -36,62 +36,56 @@ module _ (g : Layout) (img img′ : Bytes) (pos : 0 < g .N) (e : (k : ℕ) → k
 pub file-above : {g : Layout} {img : Bytes} → File g img → tableStart ≤ g .D
 file-above f = omega (arith, file-room f .table)
 
--- ---- a store in the data area
+-- a shorter stretch
+pub apart-shrink : (p n n′ q m : ℕ) → n ≤ n′ → Apart p n′ q m → Apart p n q m
+apart-shrink p n n′ q m h (inl a) = inl (omega arith)
+apart-shrink p n n′ q m h (inr a) = inr a
 
-module _ (g : Layout) (img : Bytes) (f : File g img) (p : ℕ) (v : Bytes) (low : g .D ≤ p) (fits : p + length v ≤ length img) where
-  pub store-slot : (k : ℕ) → k < g .N → slot g (store img p v) k ≡ slot g img k
-  store-slot k h = slot-store-data g img (file-room f) p v k h low fits
+-- ---- a step that changes no slot and not C
 
-  pub store-entry : (key : Bytes) → entryOf g (store img p v) key ≡ entryOf g img key
-  store-entry = frame-entry g img (store img p v) (file-some f) store-slot
+module _ (g : Layout) (img img′ : Bytes) (f : File g img) (kept₁ : Kept img img′)
+    (slots : (k : ℕ) → k < g .N → slot g img′ k ≡ slot g img k) (points₁ : field img′ pointsField ≡ field img pointsField)
+    (low : field img freeField ≤ field img′ freeField) (high : field img′ freeField ≤ length img) where
+  same-entry : (key : Bytes) → entryOf g img′ key ≡ entryOf g img key
+  same-entry = frame-entry g img img′ (file-some f) slots
 
-  pub store-field : (at : ℕ) → at + 4 ≤ tableStart → field (store img p v) at ≡ field img at
-  store-field at h = field-store-other img p v at fits (inl (omega (arith, file-above f)))
-
-  pub change-store : (key : Bytes)
+  pub frame-change : (key : Bytes)
       → ((key′ s : Bytes) → Allowed g key′ → (key′ ≡ key → ⊥) → entryOf g img key′ ≡ some s → (offsetOf g s ≡ 0 → ⊥)
-      → Apart (offsetOf g s) (size g img (offsetOf g s)) p (length v))
-      → ((s : Bytes) → Allowed g key → entryOf g img key ≡ some s → messageSound g (store img p v) (offsetOf g s) ≡ true)
+      → SameOn img img′ (offsetOf g s) (size g img (offsetOf g s)))
+      → ((s : Bytes) → Allowed g key → entryOf g img key ≡ some s → messageSound g img′ (offsetOf g s) ≡ true)
       → ((s key′ s′ : Bytes) → Allowed g key → Allowed g key′ → (key′ ≡ key → ⊥) → entryOf g img key ≡ some s
       → entryOf g img key′ ≡ some s′ → (offsetOf g s ≡ 0 → ⊥) → (offsetOf g s′ ≡ 0 → ⊥)
-      → Apart (offsetOf g s) (size g (store img p v) (offsetOf g s)) (offsetOf g s′) (size g img (offsetOf g s′)))
-      → Change g img (store img p v) key
-  change-store key away here₁ apart₁ =
+      → Apart (offsetOf g s) (size g img′ (offsetOf g s)) (offsetOf g s′) (size g img (offsetOf g s′)))
+      → Change g img img′ key
+  frame-change key still₁ here₁ apart₁ =
       record {
-        kept = kept-store img p v fits (omega (arith, file-above f));
-        free-low = rw (store-field freeField (omega arith)) (omega arith);
-        free-high = rw (store-field freeField (omega arith)) (f .opened .free-high);
-        points = rw (store-field pointsField (omega arith)) (omega (arith, f .opened .points, file-slots f));
-        sound = frame-sound g img (store img p v) (file-some f) store-slot (f .table);
-        counted =
-            store-field pointsField (omega arith) ∙ f .counted
-            ∙ sym (weight-frame g img (store img p v) (λ s. 1) store-slot);
-        others = λ key′ a n. store-entry key′;
-        still = λ key′ s a n e z. same-on-store img p v _ _ fits (away key′ s a n e z);
-        here = λ s a e. here₁ s a (sym (store-entry key) ∙ e);
-        here-apart = λ s key′ s′ a a′ n e e′ z z′. apart₁ s key′ s′ a a′ n (sym (store-entry key) ∙ e) e′ z z′;
+        kept = kept₁;
+        free-low = low;
+        free-high = high;
+        points = rw points₁ (omega (arith, f .opened .points, file-slots f));
+        sound = frame-sound g img img′ (file-some f) slots (f .table);
+        counted = points₁ ∙ f .counted ∙ sym (weight-frame g img img′ (λ s. 1) slots);
+        others = λ key′ a n. same-entry key′;
+        still = still₁;
+        here = λ s a e. here₁ s a (sym (same-entry key) ∙ e);
+        here-apart = λ s key′ s′ a a′ n e e′ z z′. apart₁ s key′ s′ a a′ n (sym (same-entry key) ∙ e) e′ z z′;
       }
 
--- ---- nothing changed
-
-pub change-refl : (g : Layout) (img : Bytes) → File g img → (key : Bytes) → Change g img img key
-change-refl g img f key =
-    record {
-      kept = kept-refl img;
-      free-low = omega arith;
-      free-high = f .opened .free-high;
-      points = omega (arith, f .opened .points, file-slots f);
-      sound = f .table;
-      counted = f .counted;
-      others = λ key′ a n. refl;
-      still = λ key′ s a n e z. same-on-refl img _ _;
-      here = λ s a e. f .messages key s a e;
-      here-apart = λ s key′ s′ a a′ n e e′ z z′. f .apart key key′ s s′ a a′ (λ q. n (sym q)) e e′ z z′;
-    }
-
-apart-shrink : (p n q m m′ : ℕ) → m′ ≤ m → Apart p n q m → Apart p n q m′
-apart-shrink p n q m m′ h (inl a) = inl a
-apart-shrink p n q m m′ h (inr a) = inr (omega arith)
+  -- inside the message of one point, which stays sound and does not grow
+  pub point-change : (key s : Bytes) → Allowed g key → entryOf g img key ≡ some s
+      → ((p n : ℕ) → ((offsetOf g s ≡ 0 → ⊥) → Apart p n (offsetOf g s) (size g img (offsetOf g s))) → SameOn img img′ p n)
+      → messageSound g img′ (offsetOf g s) ≡ true → lengthAt g img′ (offsetOf g s) ≤ lengthAt g img (offsetOf g s)
+      → Change g img img′ key
+  point-change key s a e away sound₁ le =
+      frame-change key
+      (λ key′ s′ a′ n e′ z′. away (offsetOf g s′) _ (λ z. f .apart key′ key s′ s a′ a n e′ e z′ z))
+      (λ s₁ a₁ e₁. rw (is-s s₁ e₁) sound₁)
+      (λ s₁ key′ s′ a₁ a′ n e₁ e′ z₁ z′.
+      apart-shrink (offsetOf g s₁) _ (size g img (offsetOf g s₁)) (offsetOf g s′) _ (rw (is-s s₁ e₁) (omega arith))
+      (f .apart key key′ s₁ s′ a a′ (λ q. n (sym q)) e₁ e′ z₁ z′))
+    where
+      is-s : (s₁ : Bytes) → entryOf g img key ≡ some s₁ → s₁ ≡ s
+      is-s s₁ e₁ = Option·some-injective s₁ s (sym e₁ ∙ e)
 
 -- ---- the message of a point
 
@@ -102,13 +96,3 @@ module _ (g : Layout) (img : Bytes) (f : File g img) (key s : Bytes) (a : Allowe
 
   pub point-end : offsetOf g s + size g img (offsetOf g s) ≤ length img
   point-end = omega (arith, point-lies .end, f .opened .free-high)
-
-  -- a store inside its stretch meets no other point's
-  pub point-away : (n : ℕ) → n ≤ size g img (offsetOf g s) → (key′ s′ : Bytes) → Allowed g key′ → (key′ ≡ key → ⊥)
-      → entryOf g img key′ ≡ some s′ → (offsetOf g s′ ≡ 0 → ⊥)
-      → Apart (offsetOf g s′) (size g img (offsetOf g s′)) (offsetOf g s) n
-  point-away n h key′ s′ a′ n′ e′ z′ =
-      apart-shrink (offsetOf g s′) _ (offsetOf g s) _ n h (f .apart key′ key s′ s a′ a n′ e′ e z′ z)
-
-pub some-same : {x y : Bytes} → some x ≡ some y → x ≡ y
-some-same e = cc

@@ -2,16 +2,15 @@
 --     Distinct es      no name stands twice
 -- Assumes nothing.
 use mathlib.Core.Path.{_≡_, refl, sym, ap, _∙_}
-use Prim.Native.Nat.{ℕ, suc}
+use Prim.Native.Nat.{suc}
 use mathlib.Core.Bool.{false}
 use mathlib.Core.List.{List, [], _∷_}
-use mathlib.Core.Option.{Option, none, some}
-use native.Mathlib.Omega.{arith}
+use mathlib.Core.Option.{none, some, Option·none-ne-some, Option·some-injective}
 use lib.ListN.{length}
 use Rattle.bhtf.specs.Bytes.{Bytes, same}
 use Rattle.bhtf.specs.Book.{Entry, find, without, withEntry}
 use Rattle.bhtf.proofs.Tests.{by-bool}
-use Rattle.bhtf.proofs.Bytes.{same-refl, same-true, same-false}
+use Rattle.bhtf.proofs.Bytes.{same-refl, same-true, by-same}
 
 abbrev pub Distinct : List Entry → Type 0
 Distinct [] = Unit {0}
@@ -38,12 +37,6 @@ without-on : (e : Entry) (es : List Entry) (name : Bytes) → (e .name ≡ name 
 unfolding without
 without-on e es name n = rw (same-no (e .name) name n) refl
 
-by-same {ℓ} : {A : Type ℓ} (a b : Bytes) → (a ≡ b → A) → ((a ≡ b → ⊥) → A) → A
-by-same a b y n = by-bool (same a b) (λ h. y (same-true a b h)) (λ h. n (same-false a b h))
-
-none-some : (e : Entry) → _≡_ {A = Option Entry} none (some e) → ⊥
-none-some e q = let z : _≡_ {A = ℕ} 0 1 = cc in omega arith
-
 -- ---- without
 
 pub find-none : (name : Bytes) → find name [] ≡ none
@@ -56,7 +49,7 @@ without-absent name [] h = refl
 without-absent name (e ∷ es) h =
     let ih : find name es ≡ none → without name es ≡ es = without-absent name es in
     by-same (e .name) name
-    (λ q. absurd (none-some e (sym h ∙ find-here e es name q)))
+    (λ q. absurd (Option·none-ne-some e (sym h ∙ find-here e es name q)))
     (λ n. without-on e es name n ∙ ap (_∷_ e) (ih (sym (find-on e es name n) ∙ h)))
 
 pub find-without-other : (name name′ : Bytes) (es : List Entry) → (name′ ≡ name → ⊥) → find name′ (without name es) ≡ find name′ es
@@ -91,7 +84,7 @@ distinct-without name (e ∷ es) d =
 
 pub length-without : (name : Bytes) (es : List Entry) (x : Entry) → find name es ≡ some x → suc (length (without name es)) ≡ length es
 unfolding find without
-length-without name [] x h = absurd (none-some x h)
+length-without name [] x h = absurd (Option·none-ne-some x h)
 length-without name (e ∷ es) x h =
     let ih : find name es ≡ some x → suc (length (without name es)) ≡ length es = length-without name es x in
     by-same (e .name) name
@@ -124,12 +117,9 @@ length-withEntry-old e es x h = length-without (e .name) es x h
 -- ---- the entry found has the name asked for
 pub find-same : (name : Bytes) (es : List Entry) (x : Entry) → find name es ≡ some x → x .name ≡ name
 unfolding find
-find-same name [] x h = absurd (none-some x h)
+find-same name [] x h = absurd (Option·none-ne-some x h)
 find-same name (e ∷ es) x h =
     let ih : find name es ≡ some x → x .name ≡ name = find-same name es x in
     by-same (e .name) name
-    (λ q. let w : some e ≡ some x = sym (find-here e es name q) ∙ h in ap (λ (y : Entry). y .name) (some-entry w) ∙ q)
+    (λ q. ap (λ (y : Entry). y .name) (sym (Option·some-injective e x (sym (find-here e es name q) ∙ h))) ∙ q)
     (λ n. ih (sym (find-on e es name n) ∙ h))
-  where
-    some-entry : some e ≡ some x → x ≡ e
-    some-entry w = cc

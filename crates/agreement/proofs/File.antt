@@ -7,7 +7,7 @@
 --     change-trans, change-any    changes in turn; a step that concerns no point
 -- Assumes nothing.
 use mathlib.Core.Path.{_≡_, refl, sym, ap, ap₂, _∙_, subst}
-use Prim.Native.Nat.{ℕ, _+_, _≤_, _<_}
+use Prim.Native.Nat.{ℕ, _≤_, _<_}
 use native.Mathlib.Omega.{arith}
 use mathlib.Core.Logic.{inl, inr}
 use mathlib.Core.Bool.{true, false, not}
@@ -16,19 +16,19 @@ use mathlib.Core.Option.{Option, none, some}
 use lib.ListN.{length}
 use lib.Dec.{eqb}
 use borrow.Author.Tests.{eqb-true, not-true}
-use Rattle.bhtf.specs.Bytes.{Bytes, allZero, same}
+use Rattle.bhtf.specs.Bytes.{Bytes, allZero}
 use Rattle.bhtf.specs.Limits.{pointsField, freeField, slotsField, dataField}
 use Rattle.bhtf.specs.Image.{field, Layout, layoutOf, offsetOf}
-use Rattle.bhtf.specs.Messages.{headSize, shown, held, isActive}
+use Rattle.bhtf.specs.Messages.{shown, held, isActive}
 use Rattle.bhtf.specs.Questions.{nameAllowed, messageSound}
 use Rattle.bhtf.specs.Book.{Entry}
-use Rattle.bhtf.proofs.Tests.{by-bool, by-eq, and-left, and-right}
-use Rattle.bhtf.proofs.Bytes.{Apart, same-true, same-false}
+use Rattle.bhtf.proofs.Tests.{by-eq, and-left, and-right}
+use Rattle.bhtf.proofs.Bytes.{Apart, by-same}
 use Rattle.bhtf.proofs.Slots.{Room}
 use Rattle.bhtf.proofs.Opened.{Opened, opened-room}
 use Rattle.bhtf.proofs.Kept.{Kept, kept-trans, kept-layout, opened-kept}
 use Rattle.bhtf.proofs.Table.{Sound, entryOf, weight}
-use Rattle.bhtf.proofs.Stretch.{size, Lies, sound-lies, lies-sound, none-sound, SameOn, same-on-trans, lengthAt-same, shown-same, held-same, lies-same}
+use Rattle.bhtf.proofs.Stretch.{size, SameOn, same-on-trans, size-same, shown-same, held-same, sound-same}
 
 -- ---- names
 
@@ -42,10 +42,6 @@ allowed-length g key a = eqb-true _ _ (and-left (eqb (length key) (g .K)) (not (
 pub allowed-zero : (g : Layout) (key : Bytes) → Allowed g key → allZero key ≡ false
 unfolding nameAllowed
 allowed-zero g key a = not-true _ (and-right (eqb (length key) (g .K)) (not (allZero key)) a)
-
--- two names are equal or not
-pub by-name {ℓ} : {A : Type ℓ} (a b : Bytes) → (a ≡ b → A) → ((a ≡ b → ⊥) → A) → A
-by-name a b yes′ no′ = by-bool (same a b) (λ e. yes′ (same-true a b e)) (λ e. no′ (same-false a b e))
 
 -- ---- a point's value
 
@@ -72,6 +68,16 @@ pointOf-none g img key e = rw e refl
 pub none-value : (g : Layout) (img img′ key : Bytes) → valueOf g img′ key 0 ≡ valueOf g img key 0
 unfolding shown held isActive
 none-value g img img′ key = refl
+
+-- a point whose message's stretch is the same has the same value
+pub value-same : (g : Layout) (img img′ key : Bytes) (o : ℕ) → ((o ≡ 0 → ⊥) → SameOn img img′ o (size g img o))
+    → valueOf g img′ key o ≡ valueOf g img key o
+value-same g img img′ key o same-on =
+    by-eq o 0
+    (λ z. rw z (none-value g img img′ key))
+    (λ z.
+    ap₂ (λ (t : Bytes) (h : ℕ). record { name = key; text = t; held = h })
+    (shown-same g img img′ o (same-on z)) (held-same g img img′ o (same-on z)))
 
 pub by-entry {ℓ} : {A : Type ℓ} (o : Option Bytes) → (o ≡ none → A) → ((s : Bytes) → o ≡ some s → A) → A
 by-entry none n y = n refl
@@ -137,42 +143,29 @@ module _ (g : Layout) (img img′ key : Bytes) (f : File g img) (c : Change g im
   before : (key′ s : Bytes) → Allowed g key′ → (key′ ≡ key → ⊥) → entryOf g img′ key′ ≡ some s → entryOf g img key′ ≡ some s
   before key′ s a n e = sym (c .others key′ a n) ∙ e
 
-  -- its message lies where it lay
-  other-lies : (key′ s : Bytes) → Allowed g key′ → (key′ ≡ key → ⊥) → entryOf g img key′ ≡ some s → (offsetOf g s ≡ 0 → ⊥)
-      → Lies g img′ (offsetOf g s)
-  other-lies key′ s a n e z =
-      lies-same g img img′ (offsetOf g s) (c .still key′ s a n e z) (c .free-low)
-      (sound-lies g img (offsetOf g s) (f .messages key′ s a e) z)
-
   other-size : (key′ s : Bytes) → Allowed g key′ → (key′ ≡ key → ⊥) → entryOf g img key′ ≡ some s → (offsetOf g s ≡ 0 → ⊥)
       → size g img′ (offsetOf g s) ≡ size g img (offsetOf g s)
-  other-size key′ s a n e z =
-      ap (λ (m : ℕ). headSize g + m) (lengthAt-same g img img′ (offsetOf g s) (c .still key′ s a n e z))
-
-  other-sound : (key′ s : Bytes) → Allowed g key′ → (key′ ≡ key → ⊥) → entryOf g img key′ ≡ some s
-      → messageSound g img′ (offsetOf g s) ≡ true
-  other-sound key′ s a n e =
-      by-eq (offsetOf g s) 0
-      (λ z. rw z (none-sound g img′))
-      (λ z. lies-sound g img′ (offsetOf g s) (other-lies key′ s a n e z))
+  other-size key′ s a n e z = size-same g img img′ (offsetOf g s) (c .still key′ s a n e z)
 
   new-messages : (k s : Bytes) → Allowed g k → entryOf g img′ k ≡ some s → messageSound g img′ (offsetOf g s) ≡ true
   new-messages k s a e =
-      by-name k key
+      by-same k key
       (λ q. c .here s (rw q at a) (rw q at e))
-      (λ n. other-sound k s a n (before k s a n e))
+      (λ n.
+      let b = before k s a n e in
+      sound-same g img img′ (offsetOf g s) (c .still k s a n b) (c .free-low) (f .messages k s a b))
 
   new-apart : (k k′ s s′ : Bytes) → Allowed g k → Allowed g k′ → (k ≡ k′ → ⊥)
       → entryOf g img′ k ≡ some s → entryOf g img′ k′ ≡ some s′ → (offsetOf g s ≡ 0 → ⊥) → (offsetOf g s′ ≡ 0 → ⊥)
       → Apart (offsetOf g s) (size g img′ (offsetOf g s)) (offsetOf g s′) (size g img′ (offsetOf g s′))
   new-apart k k′ s s′ a a′ n e e′ z z′ =
-      by-name k key
-      (λ q. by-name k′ key
+      by-same k key
+      (λ q. by-same k′ key
       (λ q′. absurd (n (q ∙ sym q′)))
       (λ n′.
       let b′ = before k′ s′ a′ n′ e′ in
       rw (other-size k′ s′ a′ n′ b′ z′) (c .here-apart s k′ s′ (rw q at a) a′ n′ (rw q at e) b′ z z′)))
-      (λ n₁. by-name k′ key
+      (λ n₁. by-same k′ key
       (λ q′.
       let b = before k s a n₁ e in
       rw (other-size k s a n₁ b z) (apart-sym (offsetOf g s′) _ (offsetOf g s) _ (c .here-apart s′ k s (rw q′ at a′) a n₁ (rw q′ at e′) b z′ z)))
@@ -201,17 +194,8 @@ module _ (g : Layout) (img img′ key : Bytes) (f : File g img) (c : Change g im
       (λ e. pointOf-none g img′ key′ (c .others key′ a n ∙ e) ∙ sym (pointOf-none g img key′ e))
       (λ s e.
       pointOf-some g img′ key′ s (c .others key′ a n ∙ e)
-      ∙ ap some (value s e)
+      ∙ ap some (value-same g img img′ key′ (offsetOf g s) (c .still key′ s a n e))
       ∙ sym (pointOf-some g img key′ s e))
-    where
-      value : (s : Bytes) → entryOf g img key′ ≡ some s → valueOf g img′ key′ (offsetOf g s) ≡ valueOf g img key′ (offsetOf g s)
-      value s e =
-          by-eq (offsetOf g s) 0
-          (λ z. rw z (none-value g img img′ key′))
-          (λ z.
-          let same-on = c .still key′ s a n e z in
-          ap₂ (λ (t : Bytes) (h : ℕ). record { name = key′; text = t; held = h })
-          (shown-same g img img′ (offsetOf g s) same-on) (held-same g img img′ (offsetOf g s) same-on))
 
 -- ---- changes in turn
 
@@ -221,8 +205,7 @@ module _ (g : Layout) (img img₁ img₂ key : Bytes) (c : Change g img img₁ k
 
   size₁ : (key′ s : Bytes) → Allowed g key′ → (key′ ≡ key → ⊥) → entryOf g img key′ ≡ some s → (offsetOf g s ≡ 0 → ⊥)
       → size g img₁ (offsetOf g s) ≡ size g img (offsetOf g s)
-  size₁ key′ s a n e z =
-      ap (λ (m : ℕ). headSize g + m) (lengthAt-same g img img₁ (offsetOf g s) (c .still key′ s a n e z))
+  size₁ key′ s a n e z = size-same g img img₁ (offsetOf g s) (c .still key′ s a n e z)
 
   pub change-trans : Change g img img₂ key
   change-trans =
@@ -265,6 +248,6 @@ module _ (g : Layout) (img img′ : Bytes) (f : File g img) (c : Change g img im
         here-apart =
             λ s key′ s′ a a′ n e e′ z z′.
             subst (λ (m : ℕ). Apart (offsetOf g s) (size g img′ (offsetOf g s)) (offsetOf g s′) m)
-            (ap (λ (m : ℕ). headSize g + m) (lengthAt-same g img img′ (offsetOf g s′) (c .still key′ s′ a′ (none-of key′ a′) e′ z′)))
+            (size-same g img img′ (offsetOf g s′) (c .still key′ s′ a′ (none-of key′ a′) e′ z′))
             (file-change g img img′ [] f c .apart key key′ s s′ a a′ (λ q. n (sym q)) e (c .others key′ a′ (none-of key′ a′) ∙ e′) z z′);
       }

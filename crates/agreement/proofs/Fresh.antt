@@ -7,7 +7,7 @@ use native.Mathlib.Omega.{arith}
 use native.Mathlib.Nat.{add-zero}
 use mathlib.Core.Bool.{true}
 use mathlib.Core.List.{_++_}
-use mathlib.Core.Option.{Option, none, some}
+use mathlib.Core.Option.{none, Option·none-ne-some}
 use lib.ListN.{length, take, drop, replicate, length-append, length-replicate, replicate-append-replicate}
 use lib.Seq.{drop-append-add, take-at, drop-at}
 use lib.Dec.{eqb}
@@ -27,7 +27,7 @@ use Rattle.bhtf.proofs.Opened.{Opened, opened-room}
 use Rattle.bhtf.proofs.Accepted.{Accepted}
 use Rattle.bhtf.proofs.Table.{Taken, entryOf, weight, weigh}
 use Rattle.bhtf.proofs.Insert.{entry-absent, weigh-vacant}
-use Rattle.bhtf.proofs.Total.{total-same, total-zero}
+use Rattle.bhtf.proofs.Total.{total-same, total-const}
 use Rattle.agreement.proofs.File.{Allowed, allowed-zero, pointOf-none, File}
 use Rattle.agreement.proofs.Entries.{find-none}
 use Rattle.agreement.proofs.Reflect.{Reflects}
@@ -177,18 +177,15 @@ module _ (L K N seed : ℕ) (ok : Accepted L K N) (pos : 1 ≤ N) where
         opened = fresh-opened;
         table = record { paths = λ i k li lk t h. absurd (none-taken i li t); distinct = λ i j li lj t u e. absurd (none-taken i li t) };
         counted = fresh-C ∙ sym nothing;
-        messages = λ key s a e. absurd (none-some s (sym (fresh-entry key a) ∙ e));
-        apart = λ key key′ s s′ a a′ n e e′ z z′. absurd (none-some s (sym (fresh-entry key a) ∙ e));
+        messages = λ key s a e. absurd (Option·none-ne-some s (sym (fresh-entry key a) ∙ e));
+        apart = λ key key′ s s′ a a′ n e e′ z z′. absurd (Option·none-ne-some s (sym (fresh-entry key a) ∙ e));
       }
     where
       nothing : weight g img (λ s. 1) ≡ 0
       nothing =
           unfold weight in
           (total-same (λ i. weigh g (λ s. 1) (slot g img i)) (λ i. 0) (g .N) (λ i l. weigh-vacant g (λ s. 1) (slot g img i) (fresh-vacant i l))
-          ∙ total-zero (g .N))
-
-      none-some : (s : Bytes) → _≡_ {A = Option Bytes} none (some s) → ⊥
-      none-some s e = let z : _≡_ {A = ℕ} 0 1 = cc in omega arith
+          ∙ omega (arith, total-const 0 (g .N)))
 
   pub fresh-reflects : Reflects (layoutOf (freshImage L K N seed)) (freshImage L K N seed) (newBook (termsOf L K N))
   unfolding g img newBook termsOf layoutOf headSize

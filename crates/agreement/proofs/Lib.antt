@@ -9,7 +9,6 @@ pub mod Entries
 pub mod Reflect
 pub mod Simple
 pub mod Place
-pub mod Asked
 pub mod Present
 pub mod Absent
 pub mod Add

@@ -1,29 +1,31 @@
 -- Overwrite: a message written in place of one at least as long, with the rest zeroed.
 --     overwrite-change, overwrite-point      the change, and the point's value
 -- Assumes nothing.
-use mathlib.Core.Path.{_≡_, refl, sym, ap, ap₂, _∙_, subst}
+use mathlib.Core.Path.{_≡_, refl, sym, ap, ap₂, _∙_}
 use Prim.Native.Nat.{ℕ, _+_, _-_, _^_, _≤_, _<_}
 use native.Mathlib.Omega.{arith}
 use native.Mathlib.Nat.{add-zero}
-use mathlib.Core.Bool.{true}
+use mathlib.Core.Logic.{inl}
 use mathlib.Core.List.{_++_}
 use mathlib.Core.Option.{some}
 use lib.ListN.{length, length-append}
 use lib.Seq.{take-at}
 use borrow.Author.Tests.{ne-eqb}
 use Rattle.bhtf.specs.Bytes.{Bytes, part, store, zeros}
-use Rattle.bhtf.specs.Limits.{leastLength, freeField, tableStart}
-use Rattle.bhtf.specs.Image.{field, Layout, offsetOf}
+use Rattle.bhtf.specs.Limits.{leastLength, pointsField, freeField, tableStart}
+use Rattle.bhtf.specs.Image.{field, Layout, offsetOf, slot}
 use Rattle.bhtf.specs.Messages.{headSize, lengthAt, held, message, overwrite}
-use Rattle.bhtf.specs.Questions.{messageSound}
-use Rattle.bhtf.proofs.Bytes.{Apart, part-store-inside, length-zeros}
+use Rattle.bhtf.proofs.Bytes.{part-store-inside, length-zeros}
+use Rattle.bhtf.proofs.Slots.{slot-store-data, field-store-other}
+use Rattle.bhtf.proofs.Kept.{kept-store}
+use Rattle.bhtf.proofs.Effects.{length-message}
 use Rattle.bhtf.proofs.Table.{entryOf}
-use Rattle.bhtf.proofs.Stretch.{size, Lies, lies-sound}
-use Rattle.agreement.proofs.Data.{store-entry, store-field, change-store, point-lies, point-end, point-away, some-same}
-use Rattle.agreement.proofs.Space.{Written, length-message, written, written-value, written-lies}
-use Rattle.agreement.proofs.File.{Allowed, pointOf, pointOf-some, File, Change, apart-sym}
+use Rattle.bhtf.proofs.Stretch.{size, Lies, lies-sound, same-on-store}
+use Rattle.agreement.proofs.Data.{frame-entry, file-above, point-change, point-lies, point-end}
+use Rattle.agreement.proofs.Space.{Written, written, written-value, written-lies}
+use Rattle.agreement.proofs.File.{Allowed, pointOf, pointOf-some, File, file-room, file-some, Change}
 
-held-length : (g : Layout) (img : Bytes) (o : ℕ) → (o ≡ 0 → ⊥) → held g img o ≡ lengthAt g img o
+pub held-length : (g : Layout) (img : Bytes) (o : ℕ) → (o ≡ 0 → ⊥) → held g img o ≡ lengthAt g img o
 unfolding held
 held-length g img o z = rw (ne-eqb o 0 z) refl
 
@@ -57,11 +59,16 @@ module _ (g : Layout) (img : Bytes) (f : File g img) (key s : Bytes) (a : Allowe
   now-written : Written g (store img (offsetOf g s) bytes) (offsetOf g s) t
   now-written = written g (store img (offsetOf g s) bytes) (offsetOf g s) t small there
 
+  now-slot : (k : ℕ) → k < g .N → slot g (store img (offsetOf g s) bytes) k ≡ slot g img k
+  now-slot k l = slot-store-data g img (file-room f) (offsetOf g s) bytes k l (lies .low) fits
+
+  now-field : (at : ℕ) → at + 4 ≤ tableStart → field (store img (offsetOf g s) bytes) at ≡ field img at
+  now-field at h = field-store-other img (offsetOf g s) bytes at fits (inl (omega (arith, lies .low, file-above f)))
+
   now-lies : Lies g (store img (offsetOf g s) bytes) (offsetOf g s)
   now-lies =
       written-lies g (store img (offsetOf g s) bytes) (offsetOf g s) t now-written z (lies .low) least
-      (rw (store-field g img f (offsetOf g s) bytes (lies .low) fits freeField (omega arith))
-      (omega (arith, lies .end, held-length g img (offsetOf g s) z, le)))
+      (rw (now-field freeField (omega arith)) (omega (arith, lies .end, held-length g img (offsetOf g s) z, le)))
 
   is-overwrite : overwrite g img (offsetOf g s) t ≡ store img (offsetOf g s) bytes
   unfolding overwrite bytes
@@ -70,28 +77,20 @@ module _ (g : Layout) (img : Bytes) (f : File g img) (key s : Bytes) (a : Allowe
   pub overwrite-change : Change g img (overwrite g img (offsetOf g s) t) key
   overwrite-change =
       rw is-overwrite
-      (change-store g img f (offsetOf g s) bytes (lies .low) fits key
-      (λ key′ s′ a′ n′ e′ z′. rw length-bytes (point-away g img f key s a e z _ (omega arith) key′ s′ a′ n′ e′ z′))
-      (λ s₁ a₁ e₁.
-      subst (λ (x : Bytes). messageSound g (store img (offsetOf g s) bytes) (offsetOf g x) ≡ true) (some-same (sym e ∙ e₁))
-      (lies-sound g (store img (offsetOf g s) bytes) (offsetOf g s) now-lies))
-      (λ s₁ key′ s′ a₁ a′ n′ e₁ e′ zz z′.
-      subst
-      (λ (x : Bytes). Apart (offsetOf g x) (size g (store img (offsetOf g s) bytes) (offsetOf g x)) (offsetOf g s′) (size g img (offsetOf g s′)))
-      (some-same (sym e ∙ e₁))
-      (apart-sym (offsetOf g s′) _ (offsetOf g s) _
-      (point-away g img f key s a e z _
-      (rw (now-written .count) (omega (arith, held-length g img (offsetOf g s) z, le))) key′ s′ a′ n′ e′ z′))))
-
-  pub overwrite-entry : (k : Bytes) → entryOf g (overwrite g img (offsetOf g s) t) k ≡ entryOf g img k
-  overwrite-entry k =
-      ap (λ (i : Bytes). entryOf g i k) is-overwrite ∙ store-entry g img f (offsetOf g s) bytes (lies .low) fits k
+      (point-change g img (store img (offsetOf g s) bytes) f
+      (kept-store img (offsetOf g s) bytes fits (omega (arith, lies .low, file-above f))) now-slot (now-field pointsField (omega arith))
+      (rw (now-field freeField (omega arith)) (omega arith))
+      (rw (now-field freeField (omega arith)) (f .opened .free-high))
+      key s a e
+      (λ p n away. same-on-store img (offsetOf g s) bytes p n fits (rw length-bytes (away z)))
+      (lies-sound g (store img (offsetOf g s) bytes) (offsetOf g s) now-lies)
+      (rw (now-written .count) (omega (arith, held-length g img (offsetOf g s) z, le))))
 
   pub overwrite-field : (at : ℕ) → at + 4 ≤ tableStart → field (overwrite g img (offsetOf g s) t) at ≡ field img at
-  overwrite-field at h =
-      ap (λ (i : Bytes). field i at) is-overwrite ∙ store-field g img f (offsetOf g s) bytes (lies .low) fits at h
+  overwrite-field at h = rw is-overwrite (now-field at h)
 
   pub overwrite-point : pointOf g (overwrite g img (offsetOf g s) t) key ≡ some (record { name = key; text = t; held = length t })
   overwrite-point =
-      pointOf-some g (overwrite g img (offsetOf g s) t) key s (overwrite-entry key ∙ e)
-      ∙ ap some (rw is-overwrite (written-value g (store img (offsetOf g s) bytes) (offsetOf g s) t now-written z key))
+      rw is-overwrite
+      (pointOf-some g (store img (offsetOf g s) bytes) key s (frame-entry g img _ (file-some f) now-slot key ∙ e)
+      ∙ ap some (written-value g (store img (offsetOf g s) bytes) (offsetOf g s) t now-written z key))

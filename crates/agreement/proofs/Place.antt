@@ -1,6 +1,6 @@
 -- Messages in new space: the file's questions 12 and 13 are the book's, and the relation is kept by an insert and a relocation.
 --     room-both        questions 12 and 13, of the file and of the book
---     relocate, insert, insert-bare      the relation afterwards
+--     relocate, insert      the relation afterwards
 -- Assumes nothing.
 use mathlib.Core.Path.{_≡_, sym, ap, ap₂, _∙_, subst}
 use Prim.Native.Nat.{ℕ, _+_, _-_, _^_, _≤_, _<_}
@@ -20,13 +20,14 @@ use Rattle.bhtf.specs.Questions.{ask, firstNo, lengthAllowed, spaceLeft}
 use Rattle.bhtf.specs.Book.{Terms, Book, find, roomAsks, entered, placed}
 use Rattle.bhtf.proofs.Tests.{by-le}
 use Rattle.bhtf.proofs.Opened.{firstNo-head, firstNo-tail}
+use Rattle.bhtf.proofs.Outcomes.{roomOf}
 use Rattle.bhtf.proofs.Table.{entryOf}
 use Rattle.bhtf.proofs.Probe.{search-frame}
 use Rattle.bhtf.proofs.Insert.{entry-met, entry-empty}
 use Rattle.bhtf.proofs.Stretch.{lies-sound}
 use Rattle.agreement.proofs.File.{Allowed, pointOf, pointOf-none, File, file-some, file-room, Change, file-change, change-trans, change-any}
 use Rattle.agreement.proofs.Retire.{retire-change, retire-slot, retire-field}
-use Rattle.agreement.proofs.Space.{written-value, space-change, space-file, space-slot, space-free, space-points, space-written, space-some, space-lies, space-away}
+use Rattle.agreement.proofs.Space.{written-value, space-change, space-file, space-is, space-written, space-some, space-lies, space-away}
 use Rattle.agreement.proofs.Slots.{Fresh, set-change, set-point, set-field, enter-change, enter-point, enter-points, enter-free}
 use Rattle.agreement.proofs.Entries.{length-withEntry-new, length-withEntry-old}
 use Rattle.agreement.proofs.Reflect.{Reflects, reflect-entered}
@@ -41,8 +42,7 @@ leb-shift D U x L k e h =
     (λ l. lt-leb (x + k) L l ∙ sym (lt-leb (U + k) (L - D) (omega arith)))
 
 module _ (g : Layout) (img : Bytes) (b : Book) (r : Reflects g img b) (t : Bytes) where
-  pub room-both : firstNo (ask 12 (lengthAllowed g (some t)) ∷ ask 13 (spaceLeft g (field img freeField) (length img) (some t)) ∷ [])
-      ≡ firstNo (roomAsks b (length t))
+  pub room-both : roomOf g img (some t) ≡ firstNo (roomAsks b (length t))
   unfolding lengthAllowed spaceLeft roomAsks
   room-both =
       ap₂ (λ (x y : Bool). firstNo (ask 12 x ∷ ask 13 y ∷ []))
@@ -130,7 +130,7 @@ module _ (g : Layout) (img : Bytes) (b : Book) (r : Reflects g img b) (key : Byt
 
     spaced-met : search g spaced key ≡ met i
     spaced-met =
-        search-frame g off spaced key (file-some (r .file)) (space-slot g off off-file t s₁ off-fits)
+        search-frame g off spaced key (file-some (r .file)) (space-is g off off-file t s₁ off-fits .slots)
         ∙ search-frame g img off key (file-some (r .file)) (retire-slot g img (r .file) key (slot g img i) a e₁)
         ∙ m
 
@@ -156,13 +156,13 @@ module _ (g : Layout) (img : Bytes) (b : Book) (r : Reflects g img b) (key : Byt
     final-free : field final freeField ≡ x + (b .terms .head + length t)
     final-free =
         set-field g spaced spaced-file key a (field off freeField) fresh₁ i spaced-met freeField (omega arith)
-        ∙ space-free g off off-file t s₁ off-fits
+        ∙ space-is g off off-file t s₁ off-fits .free
         ∙ omega (arith, off-free, more-is g img b r (length t))
 
     final-points : field final pointsField ≡ field img pointsField
     final-points =
         set-field g spaced spaced-file key a (field off freeField) fresh₁ i spaced-met pointsField (omega arith)
-        ∙ space-points g off off-file t s₁ off-fits
+        ∙ space-is g off off-file t s₁ off-fits .points
         ∙ retire-field g img (r .file) key (slot g img i) a e₁ pointsField (omega arith)
 
     pub relocate : Reflects g (relocated g img i (offsetOf g (slot g img i)) key t) (placed b key t)
@@ -181,10 +181,10 @@ module _ (g : Layout) (img : Bytes) (b : Book) (r : Reflects g img b) (key : Byt
     wide-file = space-file g img (r .file) t s₁ l₁
 
     wide-empty : search g wide key ≡ empty i
-    wide-empty = search-frame g img wide key (file-some (r .file)) (space-slot g img (r .file) t s₁ l₁) ∙ m
+    wide-empty = search-frame g img wide key (file-some (r .file)) (space-is g img (r .file) t s₁ l₁ .slots) ∙ m
 
     wide-room : field wide pointsField < g .N
-    wide-room = rw (space-points g img (r .file) t s₁ l₁) room
+    wide-room = rw (space-is g img (r .file) t s₁ l₁ .points) room
 
     fresh₂ : Fresh g wide key x
     fresh₂ = fresh-space g img (r .file) t s₁ l₁ least key
@@ -203,7 +203,7 @@ module _ (g : Layout) (img : Bytes) (b : Book) (r : Reflects g img b) (key : Byt
         (enter-point g wide wide-file key a x fresh₂ i wide-empty wide-room
         ∙ ap some (written-value g wide x t (space-written g img (r .file) t s₁ l₁) (space-some g img (r .file) t s₁ l₁) key))
         (enter-free g wide wide-file key a x fresh₂ i wide-empty wide-room
-        ∙ space-free g img (r .file) t s₁ l₁
+        ∙ space-is g img (r .file) t s₁ l₁ .free
         ∙ omega (arith, more-is g img b r (length t)))
         (length-withEntry-new _ (b .entries) absent
-        ∙ omega (arith, r .number, enter-points g wide wide-file key a x fresh₂ i wide-empty wide-room, space-points g img (r .file) t s₁ l₁))
+        ∙ omega (arith, r .number, enter-points g wide wide-file key a x fresh₂ i wide-empty wide-room, space-is g img (r .file) t s₁ l₁ .points))

@@ -4,7 +4,7 @@ use mathlib.Core.Path.{_≡_, refl, sym, ap, _∙_, subst}
 use Prim.Native.Nat.{ℕ, _^_, _≤_, _<_}
 use native.Mathlib.Omega.{arith}
 use native.Mathlib.Nat.{add-zero}
-use mathlib.Core.Bool.{Bool, true, false, cond, not, _&&_}
+use mathlib.Core.Bool.{true, false}
 use mathlib.Core.List.{[], _∷_, _++_}
 use mathlib.Core.Option.{Option, none, some}
 use lib.ListN.{length, length-append}
@@ -13,24 +13,24 @@ use borrow.Author.Tests.{eq-eqb, ne-eqb, leb-true, le-leb, lt-leb}
 use Rattle.bhtf.specs.Bytes.{Bytes}
 use Rattle.bhtf.specs.Limits.{leastLength, pointsField, freeField}
 use Rattle.bhtf.specs.Image.{field, Layout, layoutOf, slot, offsetOf}
-use Rattle.bhtf.specs.Search.{Probe, met, search, isMet}
-use Rattle.bhtf.specs.Messages.{lengthAt, shown, held, retire, overwrite, renewedText, placedText, renewed, renewedAt, addedAt, added}
-use Rattle.bhtf.specs.Questions.{ask, firstNo, modeKnown, newInMode1, slotToTake, metMessageSound, lengthAllowed, spaceLeft, pointAsks, addNumber}
+use Rattle.bhtf.specs.Search.{met, search}
+use Rattle.bhtf.specs.Messages.{shown, held, retire, overwrite, renewedText, renewed, renewedAt, addedAt, added}
+use Rattle.bhtf.specs.Questions.{ask, firstNo, modeKnown, addNumber}
 use Rattle.bhtf.specs.Calls.{add}
 use Rattle.bhtf.specs.Book.{Entry, Book, find, withEntry, stepOf, roomAsks, entered, placed, replace, append, addPresent, addFound}
 use Rattle.bhtf.proofs.Tests.{by-eq, by-le, and-left, and-right}
-use Rattle.bhtf.proofs.Opened.{firstNo-none, firstNo-yes, firstNo-no}
+use Rattle.bhtf.proofs.Opened.{firstNo-none, firstNo-no}
+use Rattle.bhtf.proofs.Outcomes.{roomOf, room-none, add-9, add-renewed}
 use Rattle.bhtf.proofs.Table.{entryOf}
 use Rattle.bhtf.proofs.Insert.{entry-met}
 use Rattle.agreement.proofs.File.{Allowed, valueOf}
 use Rattle.bhtf.proofs.Stretch.{sound-lies}
 use Rattle.agreement.proofs.Data.{file-above}
 use Rattle.agreement.proofs.Retire.{retire-change, retire-field, retire-point}
-use Rattle.agreement.proofs.Overwrite.{overwrite-change, overwrite-field, overwrite-point}
+use Rattle.agreement.proofs.Overwrite.{held-length, overwrite-change, overwrite-field, overwrite-point}
 use Rattle.agreement.proofs.Entries.{length-withEntry-old}
 use Rattle.agreement.proofs.Reflect.{Reflects, reflect-entered}
-use Rattle.agreement.proofs.Simple.{Same, same-refused, same-accepted, found-met, met-sound}
-use Rattle.agreement.proofs.Asked.{add-point, after-is}
+use Rattle.agreement.proofs.Simple.{Same, same-refused, same-accepted, open₀, found-met, met-sound}
 use Rattle.agreement.proofs.Place.{room-both, relocate}
 
 -- ---- a point that is present
@@ -50,43 +50,19 @@ module _ (g : Layout) (img : Bytes) (b : Book) (r : Reflects g img b) (key : Byt
   old-number e q =
       length-withEntry-old e (b .entries) _ (ap (λ (k : Bytes). find k (b .entries)) q ∙ found) ∙ r .number
 
-  -- in modes 2 and 3 questions 12 and 13 decide
-  present-number : (mode : ℕ) → modeKnown mode ≡ true → eqb mode 1 ≡ false
-      → addNumber img key bytes mode
-      ≡ firstNo (ask 12 (lengthAllowed g (renewedText g img o bytes mode))
-      ∷ ask 13 (spaceLeft g (field img freeField) (length img) (renewedText g img o bytes mode)) ∷ [])
-  unfolding pointAsks newInMode1 slotToTake isMet metMessageSound placedText
-  present-number mode k h =
-      add-point g img b r key bytes mode a k
-      ∙ ap (λ (s : Probe). firstNo (pointAsks g img s bytes mode)) m
-      ∙ firstNo-yes 9 _ _ (ap (λ (t : Bool). not (t && true)) h)
-      ∙ firstNo-yes 10 _ _ refl
-      ∙ firstNo-yes 11 _ _ (met-sound g img b r key a i m)
-
-  none-number : (mode : ℕ) → modeKnown mode ≡ true → eqb mode 1 ≡ false → renewedText g img o bytes mode ≡ none
-      → addNumber img key bytes mode ≡ 0
-  unfolding lengthAllowed spaceLeft
-  none-number mode k h q =
-      present-number mode k h
-      ∙ ap (λ (p : Option Bytes). firstNo (ask 12 (lengthAllowed g p) ∷ ask 13 (spaceLeft g (field img freeField) (length img) p) ∷ [])) q
-      ∙ firstNo-yes 12 true _ refl
-      ∙ firstNo-yes 13 true [] refl
-      ∙ firstNo-none
-
-  some-number : (mode : ℕ) (t : Bytes) → modeKnown mode ≡ true → eqb mode 1 ≡ false → renewedText g img o bytes mode ≡ some t
-      → addNumber img key bytes mode ≡ firstNo (roomAsks b (length t))
-  some-number mode t k h q =
-      present-number mode k h
-      ∙ ap (λ (p : Option Bytes). firstNo (ask 12 (lengthAllowed g p) ∷ ask 13 (spaceLeft g (field img freeField) (length img) p) ∷ [])) q
-      ∙ room-both g img b r t
+  -- in modes 2 and 3 questions 12 and 13 decide, of the text p to be placed
+  present-number : (mode : ℕ) (p : Option Bytes) → modeKnown mode ≡ true → eqb mode 1 ≡ false → renewedText g img o bytes mode ≡ p
+      → addNumber img key bytes mode ≡ roomOf g img p
+  present-number mode p k h q =
+      rw (r .file .layout) at
+      (add-renewed img key (open₀ g img b r key) bytes mode (rw (r .file .layout) a) k i (rw (r .file .layout) m) h
+      (rw (r .file .layout) (met-sound g img b r key a i m)))
+      ∙ ap (roomOf g img) q
 
   after-present : (mode : ℕ) (p : Option Bytes) → renewedText g img o bytes mode ≡ p
       → added (layoutOf img) img key bytes mode ≡ renewed g img i o key bytes mode p
-  unfolding addedAt renewedAt
-  after-present mode p q =
-      after-is g img b r key bytes mode
-      ∙ ap (λ (s : Probe). addedAt g img s key bytes mode) m
-      ∙ ap (renewed g img i o key bytes mode) q
+  unfolding added addedAt renewedAt
+  after-present mode p q = rw (r .file .layout, m) (ap (renewed g img i o key bytes mode) q)
 
   -- a text in new space
   same-placed : (mode : ℕ) (t : Bytes) → modeKnown mode ≡ true → eqb mode 1 ≡ false → renewedText g img o bytes mode ≡ some t
@@ -96,9 +72,12 @@ module _ (g : Layout) (img : Bytes) (b : Book) (r : Reflects g img b) (key : Byt
   same-placed mode t k h q le =
       by-eq (firstNo (roomAsks b (length t))) 0
       (λ z. same-accepted g img b r (addNumber img key bytes mode) _ (roomAsks b (length t)) (placed b key t)
-      (some-number mode t k h q ∙ z) z
+      (some-number ∙ z) z
       (rw (after-present mode (some t) q) (relocate g img b r key a t z le i m)))
-      (λ z. same-refused g img b r (addNumber img key bytes mode) _ (roomAsks b (length t)) (placed b key t) (some-number mode t k h q) z)
+      (λ z. same-refused g img b r (addNumber img key bytes mode) _ (roomAsks b (length t)) (placed b key t) some-number z)
+    where
+      some-number : addNumber img key bytes mode ≡ firstNo (roomAsks b (length t))
+      some-number = present-number mode (some t) k h q ∙ room-both g img b r t
 
   -- a step with nothing to place
   same-in-place : (mode : ℕ) (img′ : Bytes) (b′ : Book) → modeKnown mode ≡ true → eqb mode 1 ≡ false
@@ -106,7 +85,7 @@ module _ (g : Layout) (img : Bytes) (b : Book) (r : Reflects g img b) (key : Byt
       → Same g (add img key bytes mode) (stepOf b [] b′)
   unfolding add
   same-in-place mode img′ b′ k h q w s =
-      same-accepted g img b r (addNumber img key bytes mode) _ [] b′ (none-number mode k h q) firstNo-none
+      same-accepted g img b r (addNumber img key bytes mode) _ [] b′ (present-number mode none k h q ∙ room-none g img) firstNo-none
       (rw (after-present mode none q ∙ w) s)
 
   -- ---- mode 1
@@ -118,10 +97,7 @@ module _ (g : Layout) (img : Bytes) (b : Book) (r : Reflects g img b) (key : Byt
     where
       nine : addNumber img key bytes 1 ≡ 9
       nine =
-          unfold pointAsks newInMode1 isMet modeKnown in
-          (add-point g img b r key bytes 1 a refl
-          ∙ ap (λ (s : Probe). firstNo (pointAsks g img s bytes 1)) m
-          ∙ firstNo-no 9 _ _ refl)
+          add-9 img key (open₀ g img b r key) bytes 1 (rw (r .file .layout) a) (unfold modeKnown in refl) i (rw (r .file .layout) m) refl
 
   -- ---- mode 2
   retired : Reflects g (retire img o) (entered b key [] (held g img o) 0)
@@ -142,12 +118,11 @@ module _ (g : Layout) (img : Bytes) (b : Book) (r : Reflects g img b) (key : Byt
 
   -- a message lies in the image, which is shorter than the longest length
   held-small : (o ≡ 0 → ⊥) → length bytes ≤ held g img o → length bytes < 256 ^ g .W
-  unfolding held layoutOf
+  unfolding layoutOf
   held-small z hi =
       let l = sound-lies g img o (met-sound g img b r key a i m) z in
-      let is : held g img o ≡ lengthAt g img o = ap (λ (t : Bool). cond t 0 (lengthAt g img o)) (ne-eqb o 0 z) in
       subst (λ (w : ℕ). length bytes < 256 ^ w) (ap (λ (y : Layout). y .W) (r .file .layout))
-      (omega (arith, is, hi, l .low, l .end, file-above (r .file), r .file .opened .free-high, r .file .opened .size-high))
+      (omega (arith, held-length g img o z, hi, l .low, l .end, file-above (r .file), r .file .opened .free-high, r .file .opened .size-high))
 
   held-zero : o ≡ 0 → held g img o ≡ 0
   unfolding held

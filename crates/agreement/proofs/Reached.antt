@@ -2,9 +2,6 @@
 --     Reached img b       img is the file, and b the book, after some list of calls from an accepted create
 --     no-point-twice      no point stands in two slots
 --     reached-sound       the check says sound
---     delete-others       deleting one point changes no other point's message
---     added-found, deleted-gone       after an accepted add the point is found with its text; after an accepted delete it is not
---     stays-found, stays-gone         and so it stays until a call names it
 -- Assumes nothing.
 use mathlib.Core.Path.{_≡_, refl, sym, ap, _∙_, subst}
 use Prim.Native.Nat.{ℕ, zero, suc, _+_, _<_}

@@ -6,6 +6,7 @@ use mathlib.Core.Path.{_≡_, sym, ap, _∙_}
 use Prim.Native.Nat.{ℕ, _+_, _-_}
 use native.Mathlib.Omega.{arith}
 use mathlib.Core.Bool.{false}
+use mathlib.Core.List.{List}
 use mathlib.Core.Option.{none, some}
 use lib.ListN.{length}
 use Rattle.bhtf.specs.Bytes.{Bytes}
@@ -15,7 +16,8 @@ use Rattle.bhtf.specs.Messages.{headSize}
 use Rattle.bhtf.specs.Questions.{nameAllowed}
 use Rattle.bhtf.specs.Book.{Entry, Terms, Book, find, without, withEntry, entered}
 use Rattle.bhtf.proofs.Tests.{not-both}
-use Rattle.agreement.proofs.File.{Allowed, by-name, pointOf, File, Change, file-change, point-other}
+use Rattle.bhtf.proofs.Bytes.{by-same}
+use Rattle.agreement.proofs.File.{Allowed, pointOf, File, Change, file-change, point-other}
 use Rattle.agreement.proofs.Entries.{Distinct, find-without-other, find-without-same, distinct-without, find-withEntry, find-withEntry-other, distinct-withEntry}
 
 -- the book's terms of a file of L bytes
@@ -36,8 +38,25 @@ pub other-name : (g : Layout) (key name : Bytes) → Allowed g key → nameAllow
 other-name g key name a h q = not-both (nameAllowed (g .K) name) (rw q a) h
 
 module _ (g : Layout) (img img′ key : Bytes) (b : Book) (r : Reflects g img b) (a : Allowed g key) (c : Change g img img′ key) where
-  terms₁ : b .terms ≡ termsFor g (length img′)
-  terms₁ = rw (c .kept .size) (r .terms)
+  -- the book with other entries and another amount used, which tell the point as the file does and every other as before
+  reflect-change : (es : List Entry) (u : ℕ) → pointOf g img′ key ≡ find key es
+      → ((name : Bytes) → (name ≡ key → ⊥) → find name es ≡ find name (b .entries)) → Distinct es
+      → field img′ freeField ≡ g .D + u → length es ≡ field img′ pointsField
+      → Reflects g img′ (record { terms = b .terms; entries = es; used = u })
+  reflect-change es u p old d x n =
+      record {
+        file = file-change g img img′ key (r .file) c;
+        terms = rw (c .kept .size) (r .terms);
+        used = x;
+        number = n;
+        points =
+            λ name a′.
+            by-same name key
+            (λ q. ap (pointOf g img′) q ∙ p ∙ sym (ap (λ (k : Bytes). find k es) q))
+            (λ q. point-other g img img′ key (r .file) c name a′ q ∙ r .points name a′ ∙ sym (old name q));
+        others = λ name h. old name (other-name g key name a h) ∙ r .others name h;
+        distinct = d;
+      }
 
   -- the point has a text and a length held
   pub reflect-entered : (text : Bytes) (held more : ℕ)
@@ -47,38 +66,14 @@ module _ (g : Layout) (img img′ key : Bytes) (b : Book) (r : Reflects g img b)
       → Reflects g img′ (entered b key text held more)
   unfolding entered
   reflect-entered text held more p x n =
-      record {
-        file = file-change g img img′ key (r .file) c;
-        terms = terms₁;
-        used = omega (arith, x, r .used);
-        number = n;
-        points =
-            λ name a′.
-            by-name name key
-            (λ q. ap (pointOf g img′) q ∙ p ∙ sym (ap (λ (k : Bytes). find k (withEntry new (b .entries))) q ∙ find-withEntry new (b .entries)))
-            (λ q. point-other g img img′ key (r .file) c name a′ q ∙ r .points name a′ ∙ sym (find-withEntry-other new (b .entries) name q));
-        others = λ name h. find-withEntry-other new (b .entries) name (other-name g key name a h) ∙ r .others name h;
-        distinct = distinct-withEntry new (b .entries) (r .distinct);
-      }
-    where
-      new : Entry
-      new = record { name = key; text = text; held = held }
+      let new : Entry = record { name = key; text = text; held = held } in
+      reflect-change (withEntry new (b .entries)) (b .used + more) (p ∙ sym (find-withEntry new (b .entries)))
+      (find-withEntry-other new (b .entries)) (distinct-withEntry new (b .entries) (r .distinct)) (omega (arith, x, r .used)) n
 
   -- the point is gone
   pub reflect-without : pointOf g img′ key ≡ none → field img′ freeField ≡ field img freeField
       → length (without key (b .entries)) ≡ field img′ pointsField
       → Reflects g img′ (record { terms = b .terms; entries = without key (b .entries); used = b .used })
   reflect-without p x n =
-      record {
-        file = file-change g img img′ key (r .file) c;
-        terms = terms₁;
-        used = x ∙ r .used;
-        number = n;
-        points =
-            λ name a′.
-            by-name name key
-            (λ q. ap (pointOf g img′) q ∙ p ∙ sym (ap (λ (k : Bytes). find k (without key (b .entries))) q ∙ find-without-same key (b .entries) (r .distinct)))
-            (λ q. point-other g img img′ key (r .file) c name a′ q ∙ r .points name a′ ∙ sym (find-without-other key name (b .entries) q));
-        others = λ name h. find-without-other key name (b .entries) (other-name g key name a h) ∙ r .others name h;
-        distinct = distinct-without key (b .entries) (r .distinct);
-      }
+      reflect-change (without key (b .entries)) (b .used) (p ∙ sym (find-without-same key (b .entries) (r .distinct)))
+      (λ name q. find-without-other key name (b .entries) q) (distinct-without key (b .entries) (r .distinct)) (x ∙ r .used) n

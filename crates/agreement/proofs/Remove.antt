@@ -2,27 +2,26 @@
 --     remove-change, remove-point, remove-points, remove-free      the change, and what is read afterwards
 -- Assumes nothing.
 use mathlib.Core.Path.{_≡_, sym, ap, _∙_}
-use Prim.Native.Nat.{ℕ, _-_, _^_, _≤_, _<_}
+use Prim.Native.Nat.{ℕ, _-_, _≤_, _<_}
 use native.Mathlib.Omega.{arith}
-use mathlib.Core.Logic.{_↔_}
-use mathlib.Core.Option.{Option, none, some}
+use mathlib.Core.Logic.{_↔_, inr}
+use mathlib.Core.Option.{none, Option·none-ne-some}
 use lib.ListN.{length}
 use Rattle.bhtf.specs.Bytes.{Bytes}
-use Rattle.bhtf.specs.Limits.{pointsField, freeField}
+use Rattle.bhtf.specs.Limits.{slotsField, pointsField, freeField}
 use Rattle.bhtf.specs.Image.{field, setField, Layout, slot, keyOf, vacant}
 use Rattle.bhtf.specs.Messages.{closed}
 use Rattle.bhtf.specs.Search.{search, met}
-use Rattle.bhtf.proofs.Slots.{Room, length-setField}
-use Rattle.bhtf.proofs.Kept.{Kept, kept-trans, kept-points}
+use Rattle.bhtf.proofs.Slots.{Room, slot-setField}
+use Rattle.bhtf.proofs.Kept.{Kept, kept-trans}
+use Rattle.bhtf.proofs.Effects.{points-kept, points-is, points-free, points-behind}
 use Rattle.bhtf.proofs.Table.{Sound, Taken, keyAt, entryOf, weight}
 use Rattle.bhtf.proofs.Probe.{search-met, met-taken}
-use Rattle.bhtf.proofs.Insert.{Stands, weight-frame, delete-entry, delete-other}
-use Rattle.bhtf.proofs.Frames.{part-closed-header, part-closed-data, field-closed, weight-closed, stands-closed}
-use Rattle.bhtf.proofs.Walk.{length-closed}
+use Rattle.bhtf.proofs.Insert.{Stands, entry-absent, same-entries, weight-frame}
+use Rattle.bhtf.proofs.Frames.{part-closed, kept-closed, field-closed, weight-closed, stands-closed}
 use Rattle.bhtf.proofs.Delete.{sound-closed, gone-closed}
-use Rattle.bhtf.proofs.Stretch.{size, sound-lies, SameOn, same-on-trans}
+use Rattle.bhtf.proofs.Stretch.{sound-lies, SameOn}
 use Rattle.agreement.proofs.Data.{frame-entry, frame-sound, file-above}
-use Rattle.agreement.proofs.Slots.{points-slot, points-same, points-free, points-is}
 use Rattle.agreement.proofs.File.{Allowed, allowed-zero, pointOf, pointOf-none, File, file-slots, file-room, file-some, Change}
 
 -- ---- a point gone
@@ -38,22 +37,19 @@ module _ (g : Layout) (img : Bytes) (f : File g img) (key : Bytes) (a : Allowed 
   lt₁ : i < g .N
   lt₁ = search-met g img key (file-some f) i m .0
 
-  long₁ : 60 ≤ length img
-  long₁ = omega (arith, f .opened .size-low)
+  few : field img pointsField - 1 ≤ field img slotsField
+  few = omega (arith, f .opened .points)
 
-  few₁ : field img pointsField - 1 < 2 ^ 32
-  few₁ = omega (arith, f .opened .points, f .opened .slots-high)
-
-  length-fewer : length fewer ≡ length img
+  fewer-kept : Kept img fewer
   unfolding fewer
-  length-fewer = length-setField img pointsField (field img pointsField - 1) (omega (arith, long₁))
+  fewer-kept = points-kept img (f .opened) (field img pointsField - 1) few
 
   room-fewer : Room g (length fewer)
-  room-fewer = rw length-fewer (file-room f)
+  room-fewer = rw (fewer-kept .size) (file-room f)
 
   fewer-slot : (k : ℕ) → k < g .N → slot g fewer k ≡ slot g img k
   unfolding fewer
-  fewer-slot = points-slot g img (file-room f) (file-above f) long₁ (field img pointsField - 1)
+  fewer-slot k h = slot-setField g img (file-room f) pointsField (field img pointsField - 1) k (omega arith) h
 
   sound-fewer : Sound g fewer
   sound-fewer = frame-sound g img fewer (file-some f) fewer-slot (f .table)
@@ -77,44 +73,38 @@ module _ (g : Layout) (img : Bytes) (f : File g img) (key : Bytes) (a : Allowed 
   gone-others s n = stands-closed g fewer room-fewer i lt₁ s (λ e. n (e ∙ key₁))
 
   remove-entry : entryOf g gone key ≡ none
-  remove-entry = delete-entry g fewer gone key (file-some f) sound-fewer sound-gone gone-key gone-others (allowed-zero g key a)
+  remove-entry = entry-absent g gone key (file-some f) gone-key (allowed-zero g key a)
 
   remove-other : (key′ : Bytes) → Allowed g key′ → (key′ ≡ key → ⊥) → entryOf g gone key′ ≡ entryOf g img key′
   remove-other key′ a′ n =
-      delete-other g fewer gone key (file-some f) sound-fewer sound-gone gone-key gone-others key′ n (allowed-zero g key′ a′)
+      same-entries g fewer gone key′ (file-some f) sound-fewer sound-gone (allowed-zero g key′ a′)
+      (λ s k. gone-others s (λ q. n (sym k ∙ q)))
       ∙ frame-entry g img fewer (file-some f) fewer-slot key′
 
-  gone-kept : Kept fewer gone
-  unfolding gone
-  gone-kept =
-      record {
-        size = length-closed g fewer room-fewer i lt₁;
-        front = part-closed-header g fewer room-fewer i lt₁ 0 20 (omega arith);
-        middle = part-closed-header g fewer room-fewer i lt₁ 24 28 (omega arith);
-        rest = part-closed-header g fewer room-fewer i lt₁ 60 1988 (omega arith);
-      }
-
   remove-kept : Kept img gone
-  unfolding fewer
-  remove-kept = kept-trans (kept-points img (field img pointsField - 1) long₁) gone-kept
+  unfolding gone
+  remove-kept = kept-trans fewer-kept (kept-closed g fewer room-fewer i lt₁)
 
   remove-same : (p n : ℕ) → g .D ≤ p → SameOn img gone p n
   unfolding gone fewer
   remove-same p n h =
-      same-on-trans (points-same g img (file-room f) (file-above f) long₁ (field img pointsField - 1) p n h)
-      (record { on = λ q k lo hi. part-closed-data g fewer room-fewer i lt₁ q k (omega arith) })
+      record {
+        on = λ q k lo hi.
+            part-closed g fewer room-fewer i lt₁ q k (inr (omega arith))
+            ∙ points-behind img (f .opened) (field img pointsField - 1) few q k (omega (arith, h, file-above f));
+      }
 
   gone-points : field gone pointsField ≡ field img pointsField - 1
   unfolding gone fewer
   gone-points =
       field-closed g fewer room-fewer i lt₁ pointsField (omega arith)
-      ∙ points-is g img (file-room f) (file-above f) long₁ (field img pointsField - 1) few₁
+      ∙ points-is img (f .opened) (field img pointsField - 1) few
 
   gone-free : field gone freeField ≡ field img freeField
   unfolding gone fewer
   gone-free =
       field-closed g fewer room-fewer i lt₁ freeField (omega arith)
-      ∙ points-free g img (file-room f) (file-above f) long₁ (field img pointsField - 1)
+      ∙ points-free img (f .opened) (field img pointsField - 1) few
 
   gone-counted : field gone pointsField ≡ weight g gone (λ s. 1)
   unfolding gone
@@ -133,12 +123,9 @@ module _ (g : Layout) (img : Bytes) (f : File g img) (key : Bytes) (a : Allowed 
         counted = gone-counted;
         others = remove-other;
         still = λ key′ s a′ n e′ z. remove-same _ _ (sound-lies g img _ (f .messages key′ s a′ e′) z .low);
-        here = λ s a₁ e₁. absurd (none-some s (sym remove-entry ∙ e₁));
-        here-apart = λ s key′ s′ a₁ a′ n e₁ e′ z z′. absurd (none-some s (sym remove-entry ∙ e₁));
+        here = λ s a₁ e₁. absurd (Option·none-ne-some s (sym remove-entry ∙ e₁));
+        here-apart = λ s key′ s′ a₁ a′ n e₁ e′ z z′. absurd (Option·none-ne-some s (sym remove-entry ∙ e₁));
       }
-    where
-      none-some : (s : Bytes) → _≡_ {A = Option Bytes} none (some s) → ⊥
-      none-some s e = let z : _≡_ {A = ℕ} 0 1 = cc in omega arith
 
   pub remove-change : Change g img (closed g (setField img pointsField (field img pointsField - 1)) i) key
   unfolding gone fewer

@@ -2,31 +2,29 @@
 --     Same g o p      an outcome of the file and one of the book: equal answers, and states that reflect one another
 -- Assumes nothing.
 use mathlib.Core.Path.{_≡_, refl, sym, ap, _∙_, subst}
-use Prim.Native.Nat.{ℕ, suc, _+_, _-_, _≤_}
+use Prim.Native.Nat.{ℕ, suc, _-_, _≤_}
 use native.Mathlib.Omega.{arith}
-use mathlib.Core.Bool.{Bool, true, false, cond}
+use mathlib.Core.Bool.{true, false}
 use mathlib.Core.List.{List, [], _∷_}
 use mathlib.Core.Option.{none, some}
 use lib.ListN.{length}
 use borrow.Author.Tests.{ne-eqb, le-leb}
-use Rattle.bhtf.specs.Bytes.{Bytes, part}
+use Rattle.bhtf.specs.Bytes.{Bytes}
 use Rattle.bhtf.specs.Limits.{pointsField, freeField}
-use Rattle.bhtf.specs.Image.{field, setField, Layout, layoutOf, slot, offsetOf}
-use Rattle.bhtf.specs.Search.{met, search, isMet, slotOf}
-use Rattle.bhtf.specs.Messages.{headSize, isActive, textAt, lengthAt, shown, held, retire, closed, deleted, deletedAt}
-use Rattle.bhtf.specs.Questions.{Question, ask, firstNo, nameAllowed, messageSound, metMessageSound, somePoint, opened, openNumber, lookupAsks, deleteAsks, lookupNumber, deleteNumber}
-use Rattle.bhtf.specs.Calls.{Outcome, plain, settled, delete, lookup, lookupOffset, lookupStart, lookupLength, count, countOf}
+use Rattle.bhtf.specs.Image.{field, setField, Layout, slot, offsetOf}
+use Rattle.bhtf.specs.Search.{met, search, isMet}
+use Rattle.bhtf.specs.Messages.{shown, retire, closed, deleted, deletedAt}
+use Rattle.bhtf.specs.Questions.{Question, ask, firstNo, nameAllowed, messageSound, somePoint, openNumber, lookupNumber, deleteNumber}
+use Rattle.bhtf.specs.Calls.{Outcome, plain, settled, delete, lookup, count, countOf}
 use Rattle.bhtf.specs.Book.{Book, find, without, stepOf, guarded, bookDelete, deleteFound, bookLookup, lookupFound, bookCount}
-use Rattle.bhtf.proofs.Tests.{by-bool, not-both, and-true}
-use Rattle.bhtf.proofs.Bytes.{part-length}
-use Rattle.bhtf.proofs.Opened.{firstNo-none, firstNo-yes, firstNo-no, facts-opened, firstNo-opened}
-use Rattle.bhtf.proofs.Outcomes.{settled-yes, settled-no}
+use Rattle.bhtf.proofs.Tests.{by-bool, not-both}
+use Rattle.bhtf.proofs.Opened.{firstNo-none, firstNo-yes, firstNo-no, facts-opened}
+use Rattle.bhtf.proofs.Outcomes.{settled-yes, settled-no, lookup-7, lookup-14, lookup-shows, lookup-refused, delete-7, delete-14, delete-0}
 use Rattle.bhtf.proofs.Table.{entryOf}
 use Rattle.bhtf.proofs.Probe.{by-search, search-frame}
 use Rattle.bhtf.proofs.Insert.{entry-met, entry-empty, entry-exhausted}
 use Rattle.agreement.proofs.File.{Allowed, valueOf, pointOf-some, pointOf-none, File, file-some, Change, file-change, change-trans}
-use Rattle.agreement.proofs.Data.{point-end}
-use Rattle.agreement.proofs.Retire.{active-offset, shown-active, shown-inactive, retire-change, retire-slot, retire-field}
+use Rattle.agreement.proofs.Retire.{retire-change, retire-slot, retire-field}
 use Rattle.agreement.proofs.Remove.{remove-change, remove-point, remove-points, remove-free}
 use Rattle.agreement.proofs.Entries.{length-without}
 use Rattle.agreement.proofs.Reflect.{Reflects, reflect-without}
@@ -107,64 +105,12 @@ same-count g img b r =
 -- ---- lookup
 
 module _ (g : Layout) (img : Bytes) (b : Book) (r : Reflects g img b) (key : Bytes) where
-  lookup-number : lookupNumber img key ≡ firstNo (lookupAsks g img (search g img key) key)
-  unfolding lookupNumber
-  lookup-number =
-      firstNo-opened img (lookupAsks (layoutOf img) img (search (layoutOf img) img key) key) (open₀ g img b r key)
-      ∙ ap (λ (l : Layout). firstNo (lookupAsks l img (search l img key) key)) (r .file .layout)
-
-  lookup-name : nameAllowed (g .K) key ≡ false → lookupNumber img key ≡ 7
-  unfolding lookupAsks
-  lookup-name h = lookup-number ∙ firstNo-no 7 _ _ h
-
-  lookup-absent : Allowed g key → isMet (search g img key) ≡ false → lookupNumber img key ≡ 14
-  unfolding lookupAsks
-  lookup-absent a h = lookup-number ∙ firstNo-yes 7 _ _ a ∙ firstNo-no 14 _ _ h
-
-  lookup-met : Allowed g key → (i : ℕ) → search g img key ≡ met i → lookupNumber img key ≡ 0
-  unfolding lookupAsks isMet metMessageSound
-  lookup-met a i m =
-      lookup-number
-      ∙ firstNo-yes 7 _ _ a
-      ∙ firstNo-yes 14 _ _ (ap isMet m)
-      ∙ firstNo-yes 11 _ _ (ap (metMessageSound g img) m ∙ met-sound g img b r key a i m)
-      ∙ firstNo-none
-
-  -- refused: the image's first 0 bytes
-  lookup-refused : (lookupNumber img key ≡ 0 → ⊥) → lookup img key .answer ≡ plain (lookupNumber img key)
-  unfolding lookup lookupLength lookupStart lookupOffset plain held part
-  lookup-refused z = rw (ne-eqb (lookupNumber img key) 0 z) refl
-
-  -- accepted: the point's active message
-  module _ (a : Allowed g key) (i : ℕ) (m : search g img key ≡ met i) where
-    abbrev at : ℕ
-    at = offsetOf g (slot g img i)
-
-    offset-is : lookupOffset img key ≡ cond (isActive img at) at 0
-    unfolding lookupOffset slotOf
-    offset-is = rw (lookup-met a i m, r .file .layout, m) refl
-
-    active-text : isActive img at ≡ true
-        → lookup img key .answer ≡ record { number = 0; amount = length (shown g img at); text = shown g img at }
-    unfolding lookup lookupLength lookupStart held textAt
-    active-text h =
-        let z : at ≡ 0 → ⊥ = active-offset img at h in
-        let o : lookupOffset img key ≡ at = offset-is ∙ ap (λ (t : Bool). cond t at 0) h in
-        let end = point-end g img (r .file) key (slot g img i) a (entry-met g img key i m) z in
-        let len : length (part img (at + headSize g) (lengthAt g img at)) ≡ lengthAt g img at =
-        part-length img (at + headSize g) (lengthAt g img at) (omega (arith, end)) in
-        rw (lookup-met a i m, o, r .file .layout, ne-eqb at 0 z, shown-active g img at h, len) refl
-
-    inactive-text : isActive img at ≡ false
-        → lookup img key .answer ≡ record { number = 0; amount = length (shown g img at); text = shown g img at }
-    unfolding lookup lookupLength lookupStart held part
-    inactive-text h =
-        let o : lookupOffset img key ≡ 0 = offset-is ∙ ap (λ (t : Bool). cond t at 0) h in
-        rw (lookup-met a i m, o, shown-inactive g img at h) refl
-
-    pub lookup-shows : lookup img key .answer
-        ≡ record { number = 0; amount = length (shown g img (offsetOf g (slot g img i))); text = shown g img (offsetOf g (slot g img i)) }
-    lookup-shows = by-bool (isActive img at) active-text inactive-text
+  pub lookup-is : (a : Allowed g key) (i : ℕ) → search g img key ≡ met i → lookup img key .answer
+      ≡ record { number = 0; amount = length (shown g img (offsetOf g (slot g img i))); text = shown g img (offsetOf g (slot g img i)) }
+  lookup-is a i m =
+      rw (r .file .layout) at
+      (lookup-shows img key (open₀ g img b r key) (rw (r .file .layout) a) i (rw (r .file .layout) m)
+      (rw (r .file .layout) (met-sound g img b r key a i m)))
 
   -- the book's side
   book-name : nameAllowed (g .K) key ≡ false → firstNo (ask 7 (nameAllowed (b .terms .K) key) ∷ []) ≡ 7
@@ -179,7 +125,7 @@ module _ (g : Layout) (img : Bytes) (b : Book) (r : Reflects g img b) (key : Byt
   unfolding stepOf lookup
   lookup-both asks y e z =
       record {
-        answer = lookup-refused (λ q. z (sym e ∙ q)) ∙ ap plain e;
+        answer = lookup-refused img key (λ q. z (sym e ∙ q)) ∙ ap plain e;
         after = rw (ne-eqb (firstNo asks) 0 z) r;
       }
 
@@ -196,31 +142,17 @@ module _ (g : Layout) (img : Bytes) (b : Book) (r : Reflects g img b) (key : Byt
       (λ a. rw (guarded-yes b _ (lookupFound b (find key (b .entries))) (book-named a)) (by-met g img b r key
       (λ i m.
       rw (found-met g img b r key a i m)
-      (record { answer = unfold lookupFound in lookup-shows a i m; after = unfold lookup lookupFound in r }))
+      (record { answer = unfold lookupFound in lookup-is a i m; after = unfold lookup lookupFound in r }))
       (λ h.
       rw (found-none g img b r key a h)
-      (unfold lookupFound in lookup-both (ask 14 false ∷ []) b (lookup-absent a h ∙ sym absent-number) (λ z. omega (arith, z, absent-number))))))
+      (unfold lookupFound in lookup-both (ask 14 false ∷ []) b (lookup-14 img key (open₀ g img b r key) (rw (r .file .layout) a) (rw (r .file .layout) h) ∙ sym absent-number) (λ z. omega (arith, z, absent-number))))))
       (λ h.
       rw (guarded-no b _ (lookupFound b (find key (b .entries))) (seven _ (book-name h)))
-      (lookup-both _ b (lookup-name h ∙ sym (book-name h)) (seven _ (book-name h))))
+      (lookup-both _ b (lookup-7 img key (open₀ g img b r key) (rw (r .file .layout) h) ∙ sym (book-name h)) (seven _ (book-name h))))
 
 -- ---- delete
 
 module _ (g : Layout) (img : Bytes) (b : Book) (r : Reflects g img b) (key : Bytes) where
-  delete-number : deleteNumber img key ≡ firstNo (deleteAsks g img (search g img key) key)
-  unfolding deleteNumber
-  delete-number =
-      firstNo-opened img (deleteAsks (layoutOf img) img (search (layoutOf img) img key) key) (open₀ g img b r key)
-      ∙ ap (λ (l : Layout). firstNo (deleteAsks l img (search l img key) key)) (r .file .layout)
-
-  delete-name : nameAllowed (g .K) key ≡ false → deleteNumber img key ≡ 7
-  unfolding deleteAsks
-  delete-name h = delete-number ∙ firstNo-no 7 _ _ h
-
-  delete-absent : Allowed g key → isMet (search g img key) ≡ false → deleteNumber img key ≡ 14
-  unfolding deleteAsks
-  delete-absent a h = delete-number ∙ firstNo-yes 7 _ _ a ∙ firstNo-no 14 _ _ h
-
   -- a point that is met is one of C
   module _ (a : Allowed g key) (i : ℕ) (m : search g img key ≡ met i) where
     abbrev o : ℕ
@@ -236,16 +168,10 @@ module _ (g : Layout) (img : Bytes) (b : Book) (r : Reflects g img b) (key : Byt
     one-less = length-without key (b .entries) _ (found-met g img b r key a i m) ∙ r .number
 
     delete-met : deleteNumber img key ≡ 0
-    unfolding deleteAsks isMet metMessageSound somePoint
     delete-met =
-        delete-number
-        ∙ firstNo-yes 7 _ _ a
-        ∙ firstNo-yes 14 _ _ (ap isMet m)
-        ∙ firstNo-yes 11 _ _
-        (and-true (metMessageSound g img (search g img key)) _
-        (ap (metMessageSound g img) m ∙ met-sound g img b r key a i m)
-        (le-leb 1 (field img pointsField) (omega (arith, one-less))))
-        ∙ firstNo-none
+        delete-0 img key (open₀ g img b r key) (rw (r .file .layout) a) i (rw (r .file .layout) m)
+        (rw (r .file .layout) (met-sound g img b r key a i m))
+        (unfold somePoint in le-leb 1 (field img pointsField) (omega (arith, one-less)))
 
     off-change : Change g img off key
     off-change = retire-change g img (r .file) key (slot g img i) a e₁
@@ -288,7 +214,7 @@ module _ (g : Layout) (img : Bytes) (b : Book) (r : Reflects g img b) (key : Byt
       (λ h.
       rw (found-none g img b r key a h)
       (unfold deleteFound in
-      same-refused g img b r (deleteNumber img key) _ (ask 14 false ∷ []) b (delete-absent a h ∙ sym (absent-number g img b r key)) (λ z. omega (arith, z, absent-number g img b r key))))))
+      same-refused g img b r (deleteNumber img key) _ (ask 14 false ∷ []) b (delete-14 img key (open₀ g img b r key) (rw (r .file .layout) a) (rw (r .file .layout) h) ∙ sym (absent-number g img b r key)) (λ z. omega (arith, z, absent-number g img b r key))))))
       (λ h.
       rw (guarded-no b _ (deleteFound b key (find key (b .entries))) (seven g img b r key _ (book-name g img b r key h)))
-      (same-refused g img b r (deleteNumber img key) _ _ b (delete-name h ∙ sym (book-name g img b r key h)) (seven g img b r key _ (book-name g img b r key h))))
+      (same-refused g img b r (deleteNumber img key) _ _ b (delete-7 img key (open₀ g img b r key) (rw (r .file .layout) h) ∙ sym (book-name g img b r key h)) (seven g img b r key _ (book-name g img b r key h))))

@@ -2,29 +2,30 @@
 --     set-change, set-point          an offset written into the point's slot
 --     enter-change, enter-point      a new point
 -- Assumes nothing.
-use mathlib.Core.Path.{_≡_, refl, sym, ap, ap₂, _∙_}
+use mathlib.Core.Path.{_≡_, refl, sym, ap, _∙_}
 use Prim.Native.Nat.{ℕ, _+_, _^_, _≤_, _<_}
 use native.Mathlib.Omega.{arith}
 use mathlib.Core.Logic.{inr}
 use mathlib.Core.Bool.{true}
-use mathlib.Core.Option.{some}
+use mathlib.Core.Option.{some, Option·some-injective}
 use lib.ListN.{length}
-use Rattle.bhtf.specs.Bytes.{Bytes, digits}
-use Rattle.bhtf.specs.Limits.{pointsField, freeField, tableStart}
+use Rattle.bhtf.specs.Bytes.{Bytes}
+use Rattle.bhtf.specs.Limits.{slotsField, pointsField, freeField, tableStart}
 use Rattle.bhtf.specs.Image.{field, setField, Layout, slotSize, offsetOf, slot, putSlot, keyOf, entry}
-use Rattle.bhtf.specs.Messages.{headSize, enter}
+use Rattle.bhtf.specs.Messages.{enter}
 use Rattle.bhtf.specs.Search.{search, met, empty}
 use Rattle.bhtf.specs.Questions.{messageSound}
-use Rattle.bhtf.proofs.Tests.{by-eq}
-use Rattle.bhtf.proofs.Bytes.{Apart, length-digits}
-use Rattle.bhtf.proofs.Slots.{Room, slot-above, slot-end, slot-setField, part-putSlot-data, field-putSlot, length-putSlot, length-entry, keyOf-entry, offsetOf-entry, field-setField-other, field-setField-same}
-use Rattle.bhtf.proofs.Kept.{Kept, kept-trans, kept-store, kept-points}
+use Rattle.bhtf.proofs.Bytes.{Apart}
+use Rattle.bhtf.proofs.Slots.{Room, slot-above, slot-end, slot-setField, part-putSlot-outside, field-putSlot, length-putSlot, length-entry, keyOf-entry, offsetOf-entry}
+use Rattle.bhtf.proofs.Opened.{Opened}
+use Rattle.bhtf.proofs.Kept.{Kept, kept-trans, kept-store, kept-slots, opened-kept}
+use Rattle.bhtf.proofs.Effects.{points-kept, points-is, points-free, points-behind}
 use Rattle.bhtf.proofs.Table.{Sound, entryOf, weight}
 use Rattle.bhtf.proofs.Probe.{search-met, search-empty}
 use Rattle.bhtf.proofs.Insert.{weight-frame, insert-sound, insert-entry, insert-other, insert-weight, replace-sound, replace-entry, replace-other, replace-weight}
-use Rattle.bhtf.proofs.Stretch.{size, Lies, sound-lies, lies-sound, none-sound, SameOn, same-on-trans, same-on-store, lengthAt-same, shown-same, held-same, lies-same}
-use Rattle.agreement.proofs.Data.{frame-entry, frame-sound, file-above, some-same}
-use Rattle.agreement.proofs.File.{Allowed, allowed-length, allowed-zero, valueOf, pointOf, pointOf-some, none-value, File, file-slots, file-room, file-some, Change}
+use Rattle.bhtf.proofs.Stretch.{size, sound-lies, none-sound, SameOn, same-on-trans, size-same, sound-same}
+use Rattle.agreement.proofs.Data.{frame-entry, frame-sound, file-above}
+use Rattle.agreement.proofs.File.{Allowed, allowed-length, allowed-zero, valueOf, pointOf, pointOf-some, value-same, File, file-slots, file-room, file-some, Change}
 
 -- ---- a step that leaves the data area alone and writes the offset x into the point's slot
 
@@ -46,31 +47,15 @@ module _ (g : Layout) (img : Bytes) (f : File g img) (key : Bytes) (a : Allowed 
   offset-is : offsetOf g (entry key x) ≡ x
   offset-is = offsetOf-entry g key x (allowed-length g key a) (fr .small)
 
-  x-lies : (x ≡ 0 → ⊥) → Lies g img x
-  x-lies z = sound-lies g img x (fr .sound) z
-
-  x-sound : messageSound g img′ x ≡ true
-  x-sound =
-      by-eq x 0
-      (λ z. rw z (none-sound g img′))
-      (λ z. lies-sound g img′ x (lies-same g img img′ x (same-on x _ (x-lies z .low)) (rw free (omega arith)) (x-lies z)))
-
-  x-size : (x ≡ 0 → ⊥) → size g img′ x ≡ size g img x
-  x-size z = ap (λ (m : ℕ). headSize g + m) (lengthAt-same g img img′ x (same-on x _ (x-lies z .low)))
-
-  x-value : valueOf g img′ key x ≡ valueOf g img key x
-  x-value =
-      by-eq x 0
-      (λ z. rw z (none-value g img img′ key))
-      (λ z.
-      ap₂ (λ (t : Bytes) (h : ℕ). record { name = key; text = t; held = h })
-      (shown-same g img img′ x (same-on x _ (x-lies z .low))) (held-same g img img′ x (same-on x _ (x-lies z .low))))
+  -- x's message is as it was
+  x-same : (x ≡ 0 → ⊥) → SameOn img img′ x (size g img x)
+  x-same z = same-on x _ (sound-lies g img x (fr .sound) z .low)
 
   pub slot-point : pointOf g img′ key ≡ some (valueOf g img key x)
   slot-point =
       pointOf-some g img′ key (entry key x) e
       ∙ ap (λ (o : ℕ). some (valueOf g img′ key o)) offset-is
-      ∙ ap some x-value
+      ∙ ap some (value-same g img img′ key x x-same)
 
   pub slot-change : field img′ pointsField ≤ g .N → Sound g img′ → field img′ pointsField ≡ weight g img′ (λ s. 1)
       → ((key′ : Bytes) → Allowed g key′ → (key′ ≡ key → ⊥) → entryOf g img′ key′ ≡ entryOf g img key′) → Change g img img′ key
@@ -84,22 +69,19 @@ module _ (g : Layout) (img : Bytes) (f : File g img) (key : Bytes) (a : Allowed 
         counted = counted;
         others = others;
         still = λ key′ s a′ n e′ z. same-on _ _ (sound-lies g img _ (f .messages key′ s a′ e′) z .low);
-        here = λ s a₁ e₁. offset-of s e₁ x-sound;
+        here = λ s a₁ e₁. rw (is-x s e₁) (sound-same g img img′ x x-same (rw free (omega arith)) (fr .sound));
         here-apart = λ s key′ s′ a₁ a′ n e₁ e′ z z′. apart₁ s key′ s′ a′ n e₁ e′ z z′;
       }
     where
       is-x : (s : Bytes) → entryOf g img′ key ≡ some s → offsetOf g s ≡ x
-      is-x s e₁ = ap (offsetOf g) (some-same (sym e₁ ∙ e)) ∙ offset-is
-
-      offset-of : (s : Bytes) → entryOf g img′ key ≡ some s → messageSound g img′ x ≡ true → messageSound g img′ (offsetOf g s) ≡ true
-      offset-of s e₁ h = rw (is-x s e₁) h
+      is-x s e₁ = ap (offsetOf g) (Option·some-injective s (entry key x) (sym e₁ ∙ e)) ∙ offset-is
 
       apart₁ : (s key′ s′ : Bytes) → Allowed g key′ → (key′ ≡ key → ⊥)
           → entryOf g img′ key ≡ some s → entryOf g img key′ ≡ some s′ → (offsetOf g s ≡ 0 → ⊥) → (offsetOf g s′ ≡ 0 → ⊥)
           → Apart (offsetOf g s) (size g img′ (offsetOf g s)) (offsetOf g s′) (size g img (offsetOf g s′))
       apart₁ s key′ s′ a′ n e₁ e′ z z′ =
           let z₁ : x ≡ 0 → ⊥ = λ q. z (is-x s e₁ ∙ q) in
-          rw (is-x s e₁, x-size z₁) (fr .away z₁ key′ s′ a′ n e′ z′)
+          rw (is-x s e₁, size-same g img img′ x (x-same z₁)) (fr .away z₁ key′ s′ a′ n e′ z′)
 
 -- ---- a slot's write
 
@@ -112,28 +94,10 @@ module _ (g : Layout) (img : Bytes) (f : File g img) (i : ℕ) (s : Bytes) (l : 
 
   put-same : (p n : ℕ) → g .D ≤ p → SameOn img (putSlot g img i s) p n
   put-same p n lo =
-      record { on = λ q m a b. part-putSlot-data g img (file-room f) i s q m l len (omega arith) }
+      record { on = λ q m a b. part-putSlot-outside g img (file-room f) i s q m l len (inr (omega arith)) }
 
   put-field : (at : ℕ) → at + 4 ≤ tableStart → field (putSlot g img i s) at ≡ field img at
   put-field at h = field-putSlot g img (file-room f) i s at l len h
-
--- ---- C's write
-
-module _ (g : Layout) (img : Bytes) (r : Room g (length img)) (lo : tableStart ≤ g .D) (long : 60 ≤ length img) (n : ℕ) where
-  pub points-slot : (k : ℕ) → k < g .N → slot g (setField img pointsField n) k ≡ slot g img k
-  points-slot k h = slot-setField g img r pointsField n k (omega arith) h
-
-  pub points-same : (p m : ℕ) → g .D ≤ p → SameOn img (setField img pointsField n) p m
-  unfolding setField
-  points-same p m h =
-      same-on-store img pointsField (digits 4 n) p m (rw (length-digits 4 n) (omega (arith, long)))
-      (inr (rw (length-digits 4 n) (omega (arith, lo))))
-
-  pub points-free : field (setField img pointsField n) freeField ≡ field img freeField
-  points-free = field-setField-other img pointsField n freeField (omega (arith, long)) (inr (omega arith))
-
-  pub points-is : n < 2 ^ 32 → field (setField img pointsField n) pointsField ≡ n
-  points-is h = field-setField-same img pointsField n (omega (arith, long)) h
 
 -- ---- the offset x written into the slot where the point was met
 
@@ -202,18 +166,24 @@ module _ (g : Layout) (img : Bytes) (f : File g img) (key : Bytes) (a : Allowed 
   room-put : Room g (length put)
   room-put = rw length-put (file-room f)
 
-  long : 60 ≤ length put
-  long = rw length-put (omega (arith, f .opened .size-low))
+  put-opened : Opened put
+  unfolding put
+  put-opened =
+      opened-kept (put-kept g img f i (entry key x) lt len) (f .opened)
+      (rw (put-field g img f i (entry key x) lt len pointsField (omega arith)) (f .opened .points))
+      (rw (put-field g img f i (entry key x) lt len freeField (omega arith)) (f .opened .free-low))
+      (rw (put-field g img f i (entry key x) lt len freeField (omega arith)) (f .opened .free-high))
+
+  more : field img pointsField + 1 ≤ field put slotsField
+  unfolding put
+  more = omega (arith, room, file-slots f, kept-slots (put-kept g img f i (entry key x) lt len))
 
   is-enter : enter g img i key x ≡ setField put pointsField (field img pointsField + 1)
   unfolding enter put
   is-enter = refl
 
-  few : field img pointsField + 1 < 2 ^ 32
-  few = omega (arith, room, f .opened .slots-high, file-slots f)
-
   enter-slot : (k : ℕ) → k < g .N → slot g (enter g img i key x) k ≡ slot g put k
-  enter-slot k h = ap (λ (j : Bytes). slot g j k) is-enter ∙ points-slot g put room-put (file-above f) long (field img pointsField + 1) k h
+  enter-slot k h = ap (λ (j : Bytes). slot g j k) is-enter ∙ slot-setField g put room-put pointsField (field img pointsField + 1) k (omega arith) h
 
   enter-entry : (k : Bytes) → entryOf g (enter g img i key x) k ≡ entryOf g put k
   enter-entry = frame-entry g put (enter g img i key x) (file-some f) enter-slot
@@ -226,24 +196,25 @@ module _ (g : Layout) (img : Bytes) (f : File g img) (key : Bytes) (a : Allowed 
 
   pub enter-points : field (enter g img i key x) pointsField ≡ field img pointsField + 1
   enter-points =
-      ap (λ (j : Bytes). field j pointsField) is-enter ∙ points-is g put room-put (file-above f) long (field img pointsField + 1) few
+      ap (λ (j : Bytes). field j pointsField) is-enter ∙ points-is put put-opened (field img pointsField + 1) more
 
   pub enter-free : field (enter g img i key x) freeField ≡ field img freeField
   unfolding put
   enter-free =
       ap (λ (j : Bytes). field j freeField) is-enter
-      ∙ points-free g put room-put (file-above f) long (field img pointsField + 1)
+      ∙ points-free put put-opened (field img pointsField + 1) more
       ∙ put-field g img f i (entry key x) lt len freeField (omega arith)
 
   enter-kept : Kept img (enter g img i key x)
   unfolding put
-  enter-kept = rw is-enter (kept-trans (put-kept g img f i (entry key x) lt len) (kept-points put (field img pointsField + 1) long))
+  enter-kept = rw is-enter (kept-trans (put-kept g img f i (entry key x) lt len) (points-kept put put-opened (field img pointsField + 1) more))
 
   enter-same : (p n : ℕ) → g .D ≤ p → SameOn img (enter g img i key x) p n
   unfolding put
   enter-same p n h =
       rw is-enter
-      (same-on-trans (put-same g img f i (entry key x) lt len p n h) (points-same g put room-put (file-above f) long (field img pointsField + 1) p n h))
+      (same-on-trans (put-same g img f i (entry key x) lt len p n h)
+      (record { on = λ q m lo hi. points-behind put put-opened (field img pointsField + 1) more q m (omega (arith, h, file-above f)) }))
 
   pub enter-change : Change g img (enter g img i key x) key
   unfolding put

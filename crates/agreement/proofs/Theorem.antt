@@ -24,7 +24,7 @@ use Rattle.bhtf.proofs.Tests.{by-bool}
 use Rattle.bhtf.proofs.Accepted.{accepted-facts}
 use Rattle.bhtf.proofs.Outcomes.{settled-yes}
 use Rattle.agreement.proofs.Reflect.{Reflects}
-use Rattle.agreement.proofs.Simple.{Same, same-count, same-lookup, same-delete, lookup-shows, found-met, found-none, by-met}
+use Rattle.agreement.proofs.Simple.{Same, same-count, same-lookup, same-delete, lookup-is, found-met, found-none, by-met}
 use Rattle.agreement.proofs.Add.{same-add}
 use Rattle.agreement.proofs.Fresh.{slotsAsked-some, fresh-reflects}
 
@@ -59,7 +59,7 @@ points-agree g img b r name =
     ap (λ (l : Layout). cond (nameAllowed (l .K) name && isMet (search l img name)) (some (lookup img name .answer .text)) none) (r .file .layout)
     ∙ by-bool (nameAllowed (g .K) name)
     (λ a. by-met g img b r name
-    (λ i m. rw (a, m, found-met g img b r name a i m) (ap some (ap (λ (x : Answer). x .text) (lookup-shows g img b r name a i m))))
+    (λ i m. rw (a, m, found-met g img b r name a i m) (ap some (ap (λ (x : Answer). x .text) (lookup-is g img b r name a i m))))
     (λ h. rw (a, h, found-none g img b r name a h) refl))
     (λ h. rw (h, r .others name h) refl)
 

@@ -1,6 +1,6 @@
 -- Corollaries in the words of a user: what was added and not deleted is found, what was deleted is not, and a delete changes no
 -- other point. Each is read off the book, which the file agrees with.
---     delete-others       deleting one point changes no other point's message
+--     delete-others, add-others      deleting, or adding, one point changes no other point's message
 --     added-found         after an accepted add in mode 1 the point is found with its text
 --     deleted-gone        after an accepted delete it is not found
 --     stays-found         a point that is found stays so until it is deleted
@@ -11,7 +11,7 @@ use native.Mathlib.Omega.{arith}
 use mathlib.Core.Logic.{_⊎_, inl, inr}
 use mathlib.Core.Bool.{false}
 use mathlib.Core.List.{List, [], _∷_, _++_}
-use mathlib.Core.Option.{Option, none, some}
+use mathlib.Core.Option.{Option, none, some, Option·none-ne-some}
 use lib.ListN.{length}
 use lib.Dec.{eqb, leb}
 use borrow.Author.Tests.{eqb-false, eq-eqb, ne-eqb}
@@ -22,8 +22,8 @@ use Rattle.bhtf.specs.Calls.{Outcome, plain, Call, adding, deleting, looking, c
 use Rattle.bhtf.specs.Book.{Entry, Book, find, withEntry, stepOf, guarded, entered, placed, addAbsent, replace, append, addPresent, addFound, bookAdd, deleteFound, bookDelete, lookupFound, bookLookup, bookCount, bookStep}
 use Rattle.bhtf.specs.Demand.{fileText, bookText, textOf}
 use Rattle.bhtf.proofs.Tests.{by-bool, by-eq}
+use Rattle.bhtf.proofs.Bytes.{by-same}
 use Rattle.bhtf.proofs.Opened.{firstNo-no}
-use Rattle.agreement.proofs.File.{by-name}
 use Rattle.agreement.proofs.Entries.{Distinct, find-same, find-without-other, find-without-same, find-withEntry, find-withEntry-other}
 use Rattle.agreement.proofs.Reflect.{Reflects}
 use Rattle.agreement.proofs.Simple.{same-delete}
@@ -222,10 +222,7 @@ module _ (img : Bytes) (b : Book) (r : Reached img b) where
 by-found : (text key : Bytes) (es : List Entry) (f : Option Entry) → find key es ≡ f → textOf f ≡ some text
     → (e : Entry) × (find key es ≡ some e)
 unfolding textOf
-by-found text key es none q h = absurd (none-some h)
-  where
-    none-some : {x : Bytes} → _≡_ {A = Option Bytes} none (some x) → ⊥
-    none-some e = let z : _≡_ {A = ℕ} 0 1 = cc in omega arith
+by-found text key es none q h = absurd (Option·none-ne-some text h)
 by-found text key es (some e) q h = (e, q)
 
 -- no call of the list deletes the name
@@ -254,7 +251,7 @@ unfolding stateAfter bookStep bookCount
 stays key [] b e n h = (e, h)
 stays key (adding k bytes mode ∷ cs) b e n h =
     let one : (e₁ : Entry) × (find key (bookAdd b k bytes mode .after .entries) ≡ some e₁) =
-    by-name key k
+    by-same key k
     (λ q. put-found key (b .entries) _ e (subst (λ (x : Bytes). Put x (b .entries) (bookAdd b k bytes mode .after .entries)) (sym q) (add-put b k bytes mode)) h)
     (λ q. (e, put-other k key (b .entries) _ (add-put b k bytes mode) q ∙ h)) in
     stays key cs (bookAdd b k bytes mode .after) (one .0) n (one .1)

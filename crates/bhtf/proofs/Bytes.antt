@@ -8,12 +8,12 @@ use native.Mathlib.Omega.{arith}
 use mathlib.Core.Bool.{true, false, true≢false, false≢true}
 use mathlib.Core.Logic.{_⊎_, inl, inr}
 use mathlib.Core.List.{List, [], _∷_, _++_}
-use lib.ListN.{length, take, drop, getD, length-append, length-drop, length-replicate, take-append-drop}
+use lib.ListN.{length, take, drop, getD, length-append, length-drop, length-replicate}
 use lib.Seq.{take-at, drop-at, take-append-le, drop-append-le, drop-append-add, drop-drop, take-take, length-take-le}
 use lib.Dec.{eqb, lit<}
 use lib.Pow.{pow-add, mod-pow-add}
 use borrow.Author.Tests.{eqb-true, eq-eqb}
-use Rattle.bhtf.proofs.Tests.{and-left, and-right}
+use Rattle.bhtf.proofs.Tests.{by-bool, and-left, and-right}
 use Rattle.bhtf.specs.Bytes.{Bytes, part, store, number, digits, zeros, allZero, same}
 
 -- ---- part
@@ -100,17 +100,6 @@ pub part-store-other : (b : Bytes) (p : ℕ) (v : Bytes) (q m : ℕ) → p + len
 part-store-other b p v q m h (inl f) = part-store-below b p v q m (omega arith) f
 part-store-other b p v q m h (inr f) = part-store-above b p v q m h f
 
--- a store of what is there changes nothing
-pub store-part : (b : Bytes) (p m : ℕ) → p + m ≤ length b → store b p (part b p m) ≡ b
-unfolding store part
-store-part b p m h =
-    ap (λ (n : ℕ). take p b ++ (part b p m ++ drop n (drop p b))) (part-length b p m h)
-    ∙ ap (λ (l : Bytes). take p b ++ l) (whole m (drop p b))
-    ∙ take-append-drop p b
-  where
-    whole : (m : ℕ) (l : Bytes) → take m l ++ drop m l ≡ l
-    whole m l = take-append-drop m l
-
 -- ---- numbers of any width
 
 pub length-digits : (w n : ℕ) → length (digits w n) ≡ w
@@ -184,3 +173,7 @@ same-true (x ∷ a) (y ∷ b) h = ap₂ _∷_ (eqb-true x y (and-left (eqb x y) 
 
 pub same-false : (a b : Bytes) → same a b ≡ false → a ≡ b → ⊥
 same-false a b h e = true≢false (sym (same-refl a) ∙ ap (same a) e ∙ h)
+
+-- two strings are equal or not
+pub by-same {ℓ} : {A : Type ℓ} (a b : Bytes) → (a ≡ b → A) → ((a ≡ b → ⊥) → A) → A
+by-same a b yes′ no′ = by-bool (same a b) (λ h. yes′ (same-true a b h)) (λ h. no′ (same-false a b h))

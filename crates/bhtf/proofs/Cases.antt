@@ -6,9 +6,7 @@
 use mathlib.Core.Path.{_≡_, refl}
 use Prim.Native.Nat.{ℕ, zero, suc, _+_, _-_}
 use mathlib.Core.List.{List, [], _∷_}
-use mathlib.Core.Bool.{Bool, true, false}
-use mathlib.Core.Option.{Option, none, some}
-use lib.ListN.{length}
+use mathlib.Core.Bool.{false}
 use Rattle.bhtf.specs.Limits.{minusOne, freeField, pointsField}
 use Rattle.bhtf.specs.Bytes.{Bytes, part, store, number, digits, zeros, allZero, same}
 use Rattle.bhtf.specs.Image.{Layout, field, setField, roundUp, dataStart, lastPage, hashStep, hashFrom, scramble, hash, layoutOf, home, slotSize, slotStart, slot, putSlot, keyOf, offsetOf, entry, blank, vacant}
@@ -16,7 +14,7 @@ use Rattle.bhtf.specs.Create.{step, state, drawn, drawnBytes, slotsAsked
 use Rattle.bhtf.specs.Search.{next, dist, probe, search, isMet, isEmpty, slotOf}
 use Rattle.bhtf.specs.Messages.{headSize, letterAt, lengthAt, textAt, isActive, shown, held, message, setFree, takeSpace, retire, overwrite, freshText, renewedText, placedText, enter, inserted, relocated, renewed, renewedAt, addedAt, added, among, moved, walk, closed, deletedAt, deleted}
 use Rattle.bhtf.specs.Questions.{ask, firstNo, sizeAllowed, keyAllowed, slotsAllowed, tableFits, versionKnown, headerSound, nameAllowed, modeKnown, newInMode1, slotToTake, messageSound, metMessageSound, somePoint, lengthAllowed, spaceLeft, createAsks, opened, named, pointAsks, addAsks, lookupAsks, deleteAsks, createNumber, openNumber, addNumber, deleteNumber, lookupNumber}
-use Rattle.bhtf.specs.Calls.{Call, adding, deleting, looking, counting, Answer, plain, settled, create, add, delete, lookupOffset, lookupStart, lookupLength, lookup, countOf, count, perform, answers, stateAfter}
+use Rattle.bhtf.specs.Calls.{Call, adding, deleting, looking, Answer, plain, settled, create, add, delete, lookupOffset, lookupStart, lookupLength, lookup, countOf, count, perform, answers, stateAfter}
 use Rattle.bhtf.specs.Book.{newBook, find, without, withEntry, stepOf, roomAsks, entered, placed, addAbsent, replace, append, addPresent, addFound, guarded, bookAdd, deleteFound, bookDelete, lookupFound, bookLookup, bookCount, bookStep}
 use Rattle.bhtf.specs.Demand.{fileText, textOf, bookText, termsOf}
 

@@ -84,12 +84,6 @@ dist-next N a b ha hb h =
     (λ v f. by-dist N a 0 (λ w g. omega arith) (λ w g. omega arith))
     (λ v f. by-dist N a 0 (λ w g. omega arith) (λ w g. omega arith))))
 
-pub next-round : (N a b : ℕ) → a < N → b < N → dist N a b + 1 ≡ N → next N b ≡ a
-next-round N a b ha hb h =
-    by-next N b
-    (λ u e. by-dist N a b (λ v f. omega arith) (λ v f. omega arith))
-    (λ u e. by-dist N a b (λ v f. omega arith) (λ v f. omega arith))
-
 -- one step nearer
 pub dist-from-next : (N a b : ℕ) → a < N → b < N → (a ≡ b → ⊥) → dist N a b ≡ dist N (next N a) b + 1
 dist-from-next N a b ha hb n =
@@ -126,11 +120,6 @@ dist-ahead N a (suc d) h k =
     dist-from-next N a (ahead N (next N a) d) h (ahead-lt N (next N a) d (next-lt N a h))
     (λ e. absurd (omega (arith, dist-next-self N a h, ap (dist N (next N a)) e)))
     ∙ omega arith
-
-pub ahead-dist : (N a b : ℕ) → a < N → b < N → ahead N a (dist N a b) ≡ b
-ahead-dist N a b ha hb =
-    dist-same N a (ahead N a (dist N a b)) b ha (ahead-lt N a (dist N a b) ha) hb
-    (dist-ahead N a (dist N a b) ha (dist-lt N a b ha hb))
 
 -- ---- among: the slots from the one after the hole up to j
 pub among-dist : (N hole j k : ℕ) → hole < N → j < N → k < N → (hole ≡ j → ⊥)

@@ -1,24 +1,25 @@
--- The effects of a call on any image whose header is accepted: what they keep of header and table, so that the next step may
--- rely on it.
+-- The effects of a call on any image whose header is accepted: what they leave as it was, so that the next step may rely on it.
 --     retire, takeSpace, setField C      each keeps what no call changes, and the header is accepted again
+--     by-retire          what an image with its message retired is
+--     Spaced, spaced     what new space leaves, and what stands in it
 -- Assumes nothing.
-use mathlib.Core.Path.{_≡_, refl, ap, _∙_}
+use mathlib.Core.Path.{_≡_, refl, sym, ap, _∙_}
 use Prim.Native.Nat.{ℕ, _+_, _≤_, _<_}
 use native.Mathlib.Omega.{arith}
 use mathlib.Core.Logic.{inl, inr}
-use mathlib.Core.Bool.{true, not}
+use mathlib.Core.Bool.{true, false, not}
 use mathlib.Core.List.{[], _∷_}
 use lib.ListN.{length, length-append}
 use lib.Dec.{eqb}
 use borrow.Author.Tests.{eq-eqb, not-true}
 use Rattle.bhtf.specs.Bytes.{Bytes, part, store, digits}
 use Rattle.bhtf.specs.Limits.{active, inactive, pointsField, freeField, pageField, slotsField, dataField, tableStart}
-use Rattle.bhtf.specs.Image.{field, setField, lastPage, Layout, layoutOf, slot}
+use Rattle.bhtf.specs.Image.{field, setField, lastPage, Layout, layoutOf, slotSize, slotStart, slot}
 use Rattle.bhtf.specs.Messages.{headSize, isActive, message, setFree, takeSpace, retire}
 use Rattle.bhtf.specs.Questions.{messageSound}
 use Rattle.bhtf.proofs.Tests.{by-bool, and-left, not-both}
-use Rattle.bhtf.proofs.Bytes.{length-store, part-store-above, length-digits}
-use Rattle.bhtf.proofs.Slots.{slot-store-data, field-store-other, field-setField-other, field-setField-same, length-setField}
+use Rattle.bhtf.proofs.Bytes.{length-store, part-store-same, part-store-below, part-store-above, length-digits}
+use Rattle.bhtf.proofs.Slots.{slot-above, slot-store-data, part-setField-other, field-store-other, field-setField-other, field-setField-same, length-setField}
 use Rattle.bhtf.proofs.Opened.{Opened, opened-room}
 use Rattle.bhtf.proofs.Kept.{Kept, kept-refl, kept-trans, kept-store, kept-points, kept-free, kept-page, kept-layout, opened-kept}
 use Rattle.bhtf.proofs.Stretch.{size, sound-lies}
@@ -47,45 +48,46 @@ message-head img o at s =
 
 -- ---- retire
 
-active-some : (img : Bytes) (at : ℕ) → isActive img at ≡ true → at ≡ 0 → ⊥
+pub active-some : (img : Bytes) (at : ℕ) → isActive img at ≡ true → at ≡ 0 → ⊥
 unfolding isActive
 active-some img at h z = not-both (eqb at 0) (eq-eqb at 0 z) (not-true (eqb at 0) (and-left (not (eqb at 0)) _ h))
 
 module _ (img : Bytes) (o : Opened img) (at : ℕ) (s : messageSound (layoutOf img) img at ≡ true) where
   -- by cases on the letter
-  by-retire : (P : Bytes → Type 0)
-      → ((field img dataField ≤ at) → (at + 1 ≤ length img) → P (store img at (inactive ∷ []))) → P img → P (retire img at)
+  pub by-retire : (P : Bytes → Type 0)
+      → (isActive img at ≡ true → (field img dataField ≤ at) → (at + 1 ≤ length img) → P (store img at (inactive ∷ [])))
+      → (isActive img at ≡ false → P img) → P (retire img at)
   unfolding retire
   by-retire P yes′ no′ =
       by-bool (isActive img at)
       (λ h. rw h
-      (yes′ (message-low img o at s (active-some img at h)) (omega (arith, message-head img o at s))))
-      (λ h. rw h no′)
+      (yes′ h (message-low img o at s (active-some img at h)) (omega (arith, message-head img o at s))))
+      (λ h. rw h (no′ h))
 
   pub retire-kept : Kept img (retire img at)
   retire-kept =
       by-retire (λ (i : Bytes). Kept img i)
-      (λ lo hi. kept-store img at (inactive ∷ []) hi (omega (arith, area-above img o)))
-      (kept-refl img)
+      (λ h lo hi. kept-store img at (inactive ∷ []) hi (omega (arith, area-above img o)))
+      (λ h. kept-refl img)
 
   pub retire-field : (f : ℕ) → f + 4 ≤ tableStart → field (retire img at) f ≡ field img f
   retire-field f l =
       by-retire (λ (i : Bytes). field i f ≡ field img f)
-      (λ lo hi. field-store-other img at (inactive ∷ []) f hi (inl (omega (arith, area-above img o))))
-      refl
+      (λ h lo hi. field-store-other img at (inactive ∷ []) f hi (inl (omega (arith, area-above img o))))
+      (λ h. refl)
 
   pub retire-slot : (k : ℕ) → k < layoutOf img .N → slot (layoutOf img) (retire img at) k ≡ slot (layoutOf img) img k
   retire-slot k l =
       by-retire (λ (i : Bytes). slot (layoutOf img) i k ≡ slot (layoutOf img) img k)
-      (λ lo hi. slot-store-data (layoutOf img) img (opened-room img o) at (inactive ∷ []) k l (unfold layoutOf in lo) hi)
-      refl
+      (λ h lo hi. slot-store-data (layoutOf img) img (opened-room img o) at (inactive ∷ []) k l (unfold layoutOf in lo) hi)
+      (λ h. refl)
 
   -- what stands behind the letter is as it was
   pub retire-behind : (p m : ℕ) → at + 1 ≤ p → part (retire img at) p m ≡ part img p m
   retire-behind p m l =
       by-retire (λ (i : Bytes). part i p m ≡ part img p m)
-      (λ lo hi. part-store-above img at (inactive ∷ []) p m hi l)
-      refl
+      (λ h lo hi. part-store-above img at (inactive ∷ []) p m hi l)
+      (λ h. refl)
 
   pub retire-opened : Opened (retire img at)
   retire-opened =
@@ -106,20 +108,38 @@ module _ (img : Bytes) (o : Opened img) (n : ℕ) (l : n ≤ field img slotsFiel
   pub points-kept : Kept img (setField img pointsField n)
   points-kept = kept-points img n long
 
+  pub points-is : field (setField img pointsField n) pointsField ≡ n
+  points-is = field-setField-same img pointsField n (omega (arith, long)) (omega (arith, l, o .slots-high))
+
+  pub points-free : field (setField img pointsField n) freeField ≡ field img freeField
+  points-free = field-setField-other img pointsField n freeField (omega (arith, long)) (inr (omega arith))
+
+  -- what stands behind the header is as it was
+  pub points-behind : (p m : ℕ) → tableStart ≤ p → part (setField img pointsField n) p m ≡ part img p m
+  points-behind p m h = part-setField-other img pointsField n p m (omega (arith, long)) (inr (omega arith))
+
   pub points-opened : Opened (setField img pointsField n)
   points-opened =
-      opened-kept points-kept o
-      (rw (field-setField-same img pointsField n (omega (arith, long)) (omega (arith, l, o .slots-high))) l)
-      (rw free (o .free-low))
-      (rw free (o .free-high))
-    where
-      free : field (setField img pointsField n) freeField ≡ field img freeField
-      free = field-setField-other img pointsField n freeField (omega (arith, long)) (inr (omega arith))
+      opened-kept points-kept o (rw points-is l) (rw points-free (o .free-low)) (rw points-free (o .free-high))
 
   pub points-layout : layoutOf (setField img pointsField n) ≡ layoutOf img
   points-layout = kept-layout points-kept (o .last)
 
 -- ---- new space
+
+pub length-message : (g : Layout) (t : Bytes) → length (message g t) ≡ headSize g + length t
+unfolding message headSize
+length-message g t =
+    length-append (active ∷ digits (g .W) (length t)) t ∙ omega (arith, length-digits (g .W) (length t))
+
+pub record Spaced (g : Layout) (img t : Bytes) : Type 0 where
+  pub kept : Kept img (takeSpace g img t)
+  pub free : field (takeSpace g img t) freeField ≡ field img freeField + headSize g + length t
+  pub points : field (takeSpace g img t) pointsField ≡ field img pointsField
+  pub slots : (k : ℕ) → k < g .N → slot g (takeSpace g img t) k ≡ slot g img k
+  -- other messages end at or below X, and the new one stands there
+  pub below : (p m : ℕ) → g .D ≤ p → p + m ≤ field img freeField → part (takeSpace g img t) p m ≡ part img p m
+  pub there : part (takeSpace g img t) (field img freeField) (headSize g + length t) ≡ message g t
 
 module _ (img : Bytes) (o : Opened img) (t : Bytes)
     (fits : field img freeField + headSize (layoutOf img) + length t ≤ length img) where
@@ -135,50 +155,79 @@ module _ (img : Bytes) (o : Opened img) (t : Bytes)
   abbrev ends : ℕ
   ends = x + headSize g + length t
 
+  abbrev first : Bytes
+  first = setField placed freeField ends
+
   in-image : x + length (message g t) ≤ length img
-  unfolding message headSize
-  in-image =
-      omega (arith, fits, length-append (active ∷ digits (g .W) (length t)) t, length-digits (g .W) (length t))
+  in-image = rw (length-message g t) (omega (arith, fits))
 
-  length-placed : length placed ≡ length img
-  length-placed = length-store img x (message g t) in-image
+  low : g .D ≤ x
+  unfolding layoutOf
+  low = o .free-low
 
-  long′ : 60 ≤ length placed
-  long′ = rw length-placed (omega (arith, o .size-low))
+  above : tableStart ≤ g .D
+  above = omega (arith, opened-room img o .table)
 
-  length-first : length (setField placed freeField ends) ≡ length img
-  length-first = length-setField placed freeField ends (omega (arith, long′)) ∙ length-placed
+  long-placed : 60 ≤ length placed
+  long-placed = rw (length-store img x (message g t) in-image) (omega (arith, o .size-low))
 
-  is-space : takeSpace g img t ≡ setField (setField placed freeField ends) pageField (lastPage (g .D) ends)
+  long-first : 60 ≤ length first
+  long-first = rw (length-setField placed freeField ends (omega (arith, long-placed))) long-placed
+
+  is-space : takeSpace g img t ≡ setField first pageField (lastPage (g .D) ends)
   unfolding takeSpace setFree
   is-space = refl
 
+  -- X and M stand in the header
+  behind : (p m : ℕ) → tableStart ≤ p → part (takeSpace g img t) p m ≡ part placed p m
+  behind p m h =
+      ap (λ (i : Bytes). part i p m) is-space
+      ∙ part-setField-other first pageField (lastPage (g .D) ends) p m (omega (arith, long-first)) (inr (omega arith))
+      ∙ part-setField-other placed freeField ends p m (omega (arith, long-placed)) (inr (omega arith))
+
+  not-page : (at : ℕ) → at + 4 ≤ pageField → field (takeSpace g img t) at ≡ field first at
+  not-page at h =
+      ap (λ (i : Bytes). field i at) is-space
+      ∙ field-setField-other first pageField (lastPage (g .D) ends) at (omega (arith, long-first)) (inl h)
+
+  slots₁ : (k : ℕ) → k < g .N → slot g (takeSpace g img t) k ≡ slot g img k
+  unfolding slot
+  slots₁ k l =
+      behind (slotStart g k) (slotSize g) (slot-above g k)
+      ∙ slot-store-data g img (opened-room img o) x (message g t) k l low in-image
+
+  pub spaced : Spaced g img t
+  spaced =
+      record {
+        kept =
+            rw is-space
+            (kept-trans (kept-store img x (message g t) in-image (omega (arith, low, above)))
+            (kept-trans (kept-free placed ends long-placed) (kept-page first (lastPage (g .D) ends) long-first)));
+        free =
+            not-page freeField (omega arith)
+            ∙ field-setField-same placed freeField ends (omega (arith, long-placed)) (omega (arith, fits, o .size-high));
+        points =
+            not-page pointsField (omega arith)
+            ∙ field-setField-other placed freeField ends pointsField (omega (arith, long-placed)) (inl (omega arith))
+            ∙ field-store-other img x (message g t) pointsField in-image (inl (omega (arith, low, above)));
+        slots = slots₁;
+        below =
+            λ p m lo hi. behind p m (omega (arith, above)) ∙ part-store-below img x (message g t) p m (o .free-high) hi;
+        there =
+            behind x (headSize g + length t) (omega (arith, low, above))
+            ∙ ap (part placed x) (sym (length-message g t))
+            ∙ part-store-same img x (message g t) (o .free-high);
+      }
+
   pub space-kept : Kept img (takeSpace g img t)
-  space-kept =
-      rw is-space
-      (kept-trans (kept-store img x (message g t) in-image (omega (arith, area-above img o, o .free-low)))
-      (kept-trans (kept-free placed ends long′)
-      (kept-page (setField placed freeField ends) (lastPage (g .D) ends) (rw length-first (omega (arith, o .size-low))))))
-
-  pub space-free : field (takeSpace g img t) freeField ≡ ends
-  space-free =
-      ap (λ (i : Bytes). field i freeField) is-space
-      ∙ field-setField-other (setField placed freeField ends) pageField (lastPage (g .D) ends) freeField (rw length-first (omega (arith, o .size-low))) (inl (omega arith))
-      ∙ field-setField-same placed freeField ends (omega (arith, long′)) (omega (arith, fits, o .size-high))
-
-  pub space-points : field (takeSpace g img t) pointsField ≡ field img pointsField
-  space-points =
-      ap (λ (i : Bytes). field i pointsField) is-space
-      ∙ field-setField-other (setField placed freeField ends) pageField (lastPage (g .D) ends) pointsField (rw length-first (omega (arith, o .size-low))) (inl (omega arith))
-      ∙ field-setField-other placed freeField ends pointsField (omega (arith, long′)) (inl (omega arith))
-      ∙ field-store-other img x (message g t) pointsField in-image (inl (omega (arith, area-above img o, o .free-low)))
+  space-kept = spaced .kept
 
   pub space-opened : Opened (takeSpace g img t)
   space-opened =
       opened-kept space-kept o
-      (rw space-points (o .points))
-      (rw space-free (omega (arith, o .free-low)))
-      (rw space-free fits)
+      (rw (spaced .points) (o .points))
+      (rw (spaced .free) (omega (arith, o .free-low)))
+      (rw (spaced .free) fits)
 
   pub space-layout : layoutOf (takeSpace g img t) ≡ layoutOf img
   space-layout = kept-layout space-kept (o .last)

@@ -1,5 +1,5 @@
 -- What delete's walk leaves as it was: the bytes outside the table, and, as a bag, the entries of the table.
---     part-closed-header, part-closed-data, field-closed     the header and the data area
+--     part-closed, kept-closed, field-closed     the header and the data area
 --     weight-closed        every sum over the entries falls by the deleted entry's term
 --     Stands g img s       some taken slot holds the bytes s
 --     stands-closed        what stands, but for the deleted entry, is what stood
@@ -7,59 +7,52 @@
 use mathlib.Core.Path.{_≡_, refl, sym, ap, _∙_}
 use Prim.Native.Nat.{ℕ, _+_, _≤_, _<_}
 use native.Mathlib.Omega.{arith}
-use mathlib.Core.Logic.{_↔_}
+use mathlib.Core.Logic.{_↔_, inl}
 use lib.ListN.{length}
 use Rattle.bhtf.specs.Bytes.{Bytes, part, number}
 use Rattle.bhtf.specs.Limits.{tableStart}
 use Rattle.bhtf.specs.Image.{field, Layout, slot, putSlot, keyOf, blank, vacant}
 use Rattle.bhtf.specs.Messages.{moved, closed}
 use Rattle.bhtf.proofs.Tests.{by-eq, not-both}
-use Rattle.bhtf.proofs.Slots.{Room, length-slot, slot-putSlot-same, slot-putSlot-other, part-putSlot-header, part-putSlot-data, length-blank, vacant-blank}
+use Rattle.bhtf.proofs.Slots.{Room, length-slot, slot-putSlot-same, slot-putSlot-other, Outside, part-putSlot-outside, length-blank, vacant-blank}
+use Rattle.bhtf.proofs.Kept.{Kept}
 use Rattle.bhtf.proofs.Table.{Taken, keyAt, weigh, weight}
 use Rattle.bhtf.proofs.Spread.{over, over-moved, room-half, slot-moved-from, slot-moved-hole, slot-moved-other}
-use Rattle.bhtf.proofs.Walk.{Going, hole-other, closed-induct}
+use Rattle.bhtf.proofs.Walk.{Going, hole-other, closed-induct, length-closed}
 use Rattle.bhtf.proofs.Insert.{Stands, weigh-taken, weigh-vacant, weight-putSlot}
 
 -- ---- the bytes outside the table
-module _ (g : Layout) (img : Bytes) (r : Room g (length img)) (h j : ℕ) (lh : h < g .N) (lj : j < g .N) (p m : ℕ) where
-  pub part-moved-header : p + m ≤ tableStart → part (moved g img h j) p m ≡ part img p m
-  unfolding moved
-  part-moved-header f =
-      part-putSlot-header g (putSlot g img h (slot g img j)) (room-half g img r h j lh lj) j (blank g) p m lj (length-blank g) f
-      ∙ part-putSlot-header g img r h (slot g img j) p m lh (length-slot g img r j lj) f
-
-  pub part-moved-data : g .D ≤ p → part (moved g img h j) p m ≡ part img p m
-  unfolding moved
-  part-moved-data f =
-      part-putSlot-data g (putSlot g img h (slot g img j)) (room-half g img r h j lh lj) j (blank g) p m lj (length-blank g) f
-      ∙ part-putSlot-data g img r h (slot g img j) p m lh (length-slot g img r j lj) f
+pub part-moved : (g : Layout) (img : Bytes) (r : Room g (length img)) (h j : ℕ) (lh : h < g .N) (lj : j < g .N) (p m : ℕ)
+    → Outside g p m → part (moved g img h j) p m ≡ part img p m
+unfolding moved
+part-moved g img r h j lh lj p m f =
+    part-putSlot-outside g (putSlot g img h (slot g img j)) (room-half g img r h j lh lj) j (blank g) p m lj (length-blank g) f
+    ∙ part-putSlot-outside g img r h (slot g img j) p m lh (length-slot g img r j lj) f
 
 module _ (g : Layout) (img : Bytes) (r : Room g (length img)) (i : ℕ) (l : i < g .N) where
-  pub part-closed-header : (p m : ℕ) → p + m ≤ tableStart → part (closed g img i) p m ≡ part img p m
+  pub part-closed : (p m : ℕ) → Outside g p m → part (closed g img i) p m ≡ part img p m
   unfolding closed
-  part-closed-header p m f =
+  part-closed p m f =
       closed-induct g img r i l (λ img′ h j w. part (w .image) p m ≡ part img′ p m)
       (record {
         stop = λ img′ h j s v. refl;
         skip = λ img′ h j w s t a e. e;
-        move = λ img′ h j w s t a e. e ∙ part-moved-header g img′ (s .room) h j (s .hole-lt) (s .slot-lt) p m f;
+        move = λ img′ h j w s t a e. e ∙ part-moved g img′ (s .room) h j (s .hole-lt) (s .slot-lt) p m f;
       })
-      ∙ part-putSlot-header g img r i (blank g) p m l (length-blank g) f
+      ∙ part-putSlot-outside g img r i (blank g) p m l (length-blank g) f
 
-  pub part-closed-data : (p m : ℕ) → g .D ≤ p → part (closed g img i) p m ≡ part img p m
-  unfolding closed
-  part-closed-data p m f =
-      closed-induct g img r i l (λ img′ h j w. part (w .image) p m ≡ part img′ p m)
-      (record {
-        stop = λ img′ h j s v. refl;
-        skip = λ img′ h j w s t a e. e;
-        move = λ img′ h j w s t a e. e ∙ part-moved-data g img′ (s .room) h j (s .hole-lt) (s .slot-lt) p m f;
-      })
-      ∙ part-putSlot-data g img r i (blank g) p m l (length-blank g) f
+  pub kept-closed : Kept img (closed g img i)
+  kept-closed =
+      record {
+        size = length-closed g img r i l;
+        front = part-closed 0 20 (inl (omega arith));
+        middle = part-closed 24 28 (inl (omega arith));
+        rest = part-closed 60 1988 (inl (omega arith));
+      }
 
   pub field-closed : (at : ℕ) → at + 4 ≤ tableStart → field (closed g img i) at ≡ field img at
   unfolding field
-  field-closed at f = ap number (part-closed-header at 4 f)
+  field-closed at f = ap number (part-closed at 4 (inl f))
 
 -- ---- sums over the entries
 -- the sum is one over the slots

@@ -1,7 +1,7 @@
 -- Edits by key: what a slot put where a search ended does to the table.
 --     Stands g img s      some taken slot holds the bytes s
---     entry-slot, entry-taken, entry-stands, entry-absent      what a key's slot holds, and what stands in the table
---     same-entries, delete-entry, delete-other      two tables in which the same stands answer a key alike
+--     entry-taken, entry-stands, entry-absent      what a key's slot holds, and what stands in the table
+--     same-entries      two tables in which the same stands answer a key alike
 --     insert-..      a slot put where the search met a vacant slot
 --     replace-..     a slot put where the search met the key
 --     count-taken    the number of taken slots, as a weight
@@ -20,7 +20,8 @@ use Rattle.bhtf.specs.Search.{met, empty, exhausted, dist, search}
 use Rattle.bhtf.specs.Inspect.{taken, takenFrom}
 use Rattle.bhtf.proofs.Tests.{by-eq, not-both}
 use Rattle.bhtf.proofs.Slots.{Room, slot-putSlot-same, slot-putSlot-other}
-use Rattle.bhtf.proofs.Total.{total, total-same, total-change}
+use Rattle.bhtf.proofs.Total.{total, total-same}
+use Rattle.bhtf.proofs.Spread.{over, over-putSlot}
 use Rattle.bhtf.proofs.Table.{Taken, keyAt, Sound, slotMet, entryOf, weigh, weight}
 use Rattle.bhtf.proofs.Probe.{vacant-key, search-met, search-empty, by-search, met-taken, search-finds, search-keys}
 
@@ -48,15 +49,6 @@ module _ (g : Layout) (img key : Bytes) (pos : 0 < g .N) where
   by-entry {ℓ} : {A : Type ℓ} → ((i : ℕ) → search g img key ≡ met i → A) → (entryOf g img key ≡ none → A) → A
   by-entry yes′ no′ =
       by-search g img key pos yes′ (λ i e. no′ (entry-empty g img key i e)) (λ e. no′ (entry-exhausted g img key e))
-
-  pub entry-slot : (s : Bytes) → entryOf g img key ≡ some s
-      → (i : ℕ) × (i < g .N) × (search g img key ≡ met i) × (slot g img i ≡ s)
-  entry-slot s e =
-      by-entry
-      (λ i f.
-      let q : some (slot g img i) ≡ some s = sym (entry-met g img key i f) ∙ e in
-      (i, search-met g img key pos i f .0, f, cc))
-      (λ n. let z : _≡_ {A = ℕ} 0 1 = cc in absurd (omega arith))
 
   -- where a key that is not all zero is met, its slot stands in the table
   pub met-stands : (i : ℕ) → allZero key ≡ false → search g img key ≡ met i → Stands g img (slot g img i)
@@ -102,16 +94,6 @@ same-entries g img img′ key pos sound sound′ z both =
 
 -- ---- a table without one key, in which the slots of every other key stand as before
 
-module _ (g : Layout) (img img′ k₀ : Bytes) (pos : 0 < g .N) (sound : Sound g img) (sound′ : Sound g img′)
-    (gone : (k : ℕ) → k < g .N → Taken g img′ k → keyAt g img′ k ≡ k₀ → ⊥)
-    (others : (s : Bytes) → (keyOf g s ≡ k₀ → ⊥) → Stands g img s ↔ Stands g img′ s) where
-  pub delete-entry : allZero k₀ ≡ false → entryOf g img′ k₀ ≡ none
-  delete-entry z = entry-absent g img′ k₀ pos gone z
-
-  pub delete-other : (key : Bytes) → (key ≡ k₀ → ⊥) → allZero key ≡ false → entryOf g img′ key ≡ entryOf g img key
-  delete-other key n z =
-      same-entries g img img′ key pos sound sound′ z (λ s k. others s (λ q. n (sym k ∙ q)))
-
 -- ---- weights
 
 module _ (g : Layout) (w : Bytes → ℕ) (s : Bytes) where
@@ -133,12 +115,8 @@ weight-frame g img img′ w f =
 -- one slot put: the weight changes by what that slot weighs
 pub weight-putSlot : (g : Layout) (img : Bytes) (i : ℕ) (s : Bytes) (w : Bytes → ℕ) → Room g (length img) → i < g .N
     → length s ≡ slotSize g → weight g (putSlot g img i s) w + weigh g w (slot g img i) ≡ weight g img w + weigh g w s
-unfolding weight
-weight-putSlot g img i s w room l fits =
-    total-change (λ j. weigh g w (slot g (putSlot g img i s) j)) (λ j. weigh g w (slot g img j)) (g .N) i l
-    (λ j jl n. ap (weigh g w) (slot-putSlot-other g img room i s j l fits n))
-    ∙ ap (λ (x : Bytes). total (λ j. weigh g w (slot g img j)) (g .N) + weigh g w x)
-    (slot-putSlot-same g img room i s l fits)
+unfolding weight over
+weight-putSlot g img i s w room l fits = over-putSlot g img room (λ j b. weigh g w b) i s l fits
 
 -- ---- a table whose slots' keys are those of a sound one is sound
 

@@ -1,7 +1,7 @@
 -- What no call changes: the header but for C, X and M, the scramble, and the image's length.
 --     Kept img img′      img′ keeps them
 --     kept-layout        then the layout is the same; opened-kept: and questions 1, 5 and 6 are passed again
---     kept-store, kept-field        a write above the header, and a write of C, X or M, keep them
+--     kept-store; kept-points, kept-free, kept-page      a write above the header, and a write of C, X or M, keep them
 -- Assumes nothing.
 use mathlib.Core.Path.{_≡_, refl, sym, ap, ap₂, _∙_, fun-ext}
 use Prim.Native.Nat.{ℕ, _+_, _-_, _*_, _≤_, _<_}
@@ -49,23 +49,22 @@ kept-apart img p v h a b c =
 pub kept-store : (img : Bytes) (p : ℕ) (v : Bytes) → p + length v ≤ length img → tableStart ≤ p → Kept img (store img p v)
 kept-store img p v h f = kept-apart img p v h (inl (omega arith)) (inl (omega arith)) (inl (omega arith))
 
-pub kept-points : (img : Bytes) (n : ℕ) → 60 ≤ length img → Kept img (setField img pointsField n)
+-- a field that meets none of the three
+kept-field : (img : Bytes) (at n : ℕ) → at + 4 ≤ length img → Apart 0 20 at 4 → Apart 24 28 at 4 → Apart 60 1988 at 4
+    → Kept img (setField img at n)
 unfolding setField
-kept-points img n h =
+kept-field img at n h a b c =
     let e = length-digits 4 n in
-    kept-apart img pointsField (digits 4 n) (omega arith) (inl (omega arith)) (inr (omega arith)) (inr (omega arith))
+    kept-apart img at (digits 4 n) (rw e h) (rw e a) (rw e b) (rw e c)
+
+pub kept-points : (img : Bytes) (n : ℕ) → 60 ≤ length img → Kept img (setField img pointsField n)
+kept-points img n h = kept-field img pointsField n (omega arith) (inl (omega arith)) (inr (omega arith)) (inr (omega arith))
 
 pub kept-free : (img : Bytes) (n : ℕ) → 60 ≤ length img → Kept img (setField img freeField n)
-unfolding setField
-kept-free img n h =
-    let e = length-digits 4 n in
-    kept-apart img freeField (digits 4 n) (omega arith) (inl (omega arith)) (inl (omega arith)) (inr (omega arith))
+kept-free img n h = kept-field img freeField n (omega arith) (inl (omega arith)) (inl (omega arith)) (inr (omega arith))
 
 pub kept-page : (img : Bytes) (n : ℕ) → 60 ≤ length img → Kept img (setField img pageField n)
-unfolding setField
-kept-page img n h =
-    let e = length-digits 4 n in
-    kept-apart img pageField (digits 4 n) (omega arith) (inl (omega arith)) (inl (omega arith)) (inr (omega arith))
+kept-page img n h = kept-field img pageField n (omega arith) (inl (omega arith)) (inl (omega arith)) (inr (omega arith))
 
 -- ---- what follows
 
@@ -77,44 +76,40 @@ module _ {img img′ : Bytes} (k : Kept img img′) where
   kept-part-front : (q m : ℕ) → q + m ≤ 20 → part img′ (0 + q) m ≡ part img (0 + q) m
   kept-part-front q m h = inside img′ img 0 20 q m (k .front) h
 
-  kept-part-middle : (q m : ℕ) → q + m ≤ 28 → part img′ (24 + q) m ≡ part img (24 + q) m
-  kept-part-middle q m h = inside img′ img 24 28 q m (k .middle) h
+  front-field : (q : ℕ) → q + 4 ≤ 20 → field img′ (0 + q) ≡ field img (0 + q)
+  unfolding field
+  front-field q h = ap number (kept-part-front q 4 h)
+
+  middle-field : (q : ℕ) → q + 4 ≤ 28 → field img′ (24 + q) ≡ field img (24 + q)
+  unfolding field
+  middle-field q h = ap number (inside img′ img 24 28 q 4 (k .middle) h)
 
   pub kept-key : field img′ keyField ≡ field img keyField
-  unfolding field
-  kept-key = ap number (kept-part-front 12 4 (omega arith))
+  kept-key = front-field 12 (omega arith)
 
   pub kept-slots : field img′ slotsField ≡ field img slotsField
-  unfolding field
-  kept-slots = ap number (kept-part-front 16 4 (omega arith))
+  kept-slots = front-field 16 (omega arith)
 
   kept-multiplier : field img′ multiplierField ≡ field img multiplierField
-  unfolding field
-  kept-multiplier = ap number (kept-part-middle 0 4 (omega arith))
+  kept-multiplier = middle-field 0 (omega arith)
 
   kept-start : field img′ startField ≡ field img startField
-  unfolding field
-  kept-start = ap number (kept-part-middle 4 4 (omega arith))
+  kept-start = middle-field 4 (omega arith)
 
   pub kept-first : field img′ firstField ≡ field img firstField
-  unfolding field
-  kept-first = ap number (kept-part-middle 8 4 (omega arith))
+  kept-first = middle-field 8 (omega arith)
 
   pub kept-last : field img′ lastField ≡ field img lastField
-  unfolding field
-  kept-last = ap number (kept-part-middle 12 4 (omega arith))
+  kept-last = middle-field 12 (omega arith)
 
   kept-scramble-at : field img′ scrambleField ≡ field img scrambleField
-  unfolding field
-  kept-scramble-at = ap number (kept-part-middle 16 4 (omega arith))
+  kept-scramble-at = middle-field 16 (omega arith)
 
   kept-table-at : field img′ tableField ≡ field img tableField
-  unfolding field
-  kept-table-at = ap number (kept-part-middle 20 4 (omega arith))
+  kept-table-at = middle-field 20 (omega arith)
 
   pub kept-data : field img′ dataField ≡ field img dataField
-  unfolding field
-  kept-data = ap number (kept-part-middle 24 4 (omega arith))
+  kept-data = middle-field 24 (omega arith)
 
   kept-byte : (i : ℕ) → i < 20 → getD img′ i 0 ≡ getD img i 0
   unfolding part

@@ -47,10 +47,6 @@ pub roundUp-least : (n : ℕ) → n ≤ roundUp n
 unfolding roundUp
 roundUp-least n = omega arith
 
-pub roundUp-below : (n : ℕ) → roundUp n < n + pageSize
-unfolding roundUp
-roundUp-below n = omega arith
-
 -- ---- the facts
 
 pub record Opened (img : Bytes) : Type 0 where
@@ -70,10 +66,6 @@ pub record Opened (img : Bytes) : Type 0 where
   pub data-at : field img dataField ≡ dataStart (field img keyField) (field img slotsField)
   pub free-low : field img dataField ≤ field img freeField
   pub free-high : field img freeField ≤ length img
-
--- three conjuncts, the first two in brackets on the left
-and3 {ℓ} : {A : Type ℓ} (a b c : Bool) → (a && b && c) ≡ true → (a ≡ true → b ≡ true → c ≡ true → A) → A
-and3 a b c h f = f (and-left a b (and-left (a && b) c h)) (and-right a b (and-left (a && b) c h)) (and-right (a && b) c h)
 
 pub opened-facts : (img : Bytes) → openNumber img ≡ 0 → Opened img
 unfolding openNumber opened sizeAllowed headerSound keyAllowed slotsAllowed

@@ -1,24 +1,29 @@
 -- What a call answers, case by case, on any image whose header is accepted; and the image that it leaves.
---     lookup-7, lookup-14, lookup-11, lookup-0, and so for delete; add-7 to add-11, and add-placed, where 12 and 13 decide
---     add-refused, add-accepted, delete-refused, delete-accepted      the image afterwards
+--     lookup-7, lookup-14, lookup-11, lookup-0, and so for delete; add-7 to add-11, and add-renewed, add-fresh, where 12 and 13 decide
+--     roomOf       the number of 12 and 13
+--     lookup-shows, lookup-refused      lookup's answer
+--     add-refused, delete-refused, delete-accepted      the image afterwards
 -- Assumes nothing.
 use mathlib.Core.Path.{_≡_, refl, ap, _∙_}
-use Prim.Native.Nat.{ℕ}
-use mathlib.Core.Bool.{Bool, true, false, not, _&&_}
+use Prim.Native.Nat.{ℕ, _+_}
+use native.Mathlib.Omega.{arith}
+use mathlib.Core.Bool.{Bool, true, false, cond, not, _&&_}
 use mathlib.Core.List.{[], _∷_}
-use mathlib.Core.Option.{Option}
+use mathlib.Core.Option.{Option, none}
 use lib.ListN.{length}
 use lib.Dec.{eqb, ltb}
 use borrow.Author.Tests.{ne-eqb}
-use Rattle.bhtf.specs.Bytes.{Bytes}
+use Rattle.bhtf.specs.Bytes.{Bytes, part}
 use Rattle.bhtf.specs.Limits.{pointsField, freeField}
 use Rattle.bhtf.specs.Image.{field, Layout, layoutOf, slot, offsetOf}
-use Rattle.bhtf.specs.Search.{Probe, met, empty, exhausted, search, isMet, isEmpty}
-use Rattle.bhtf.specs.Messages.{freshText, renewedText, placedText, renewedAt, inserted, addedAt, added, deleted, deletedAt}
+use Rattle.bhtf.specs.Search.{Probe, met, empty, exhausted, search, isMet, isEmpty, slotOf}
+use Rattle.bhtf.specs.Messages.{headSize, lengthAt, textAt, isActive, shown, held, freshText, renewedText, placedText, deleted, deletedAt}
 use Rattle.bhtf.specs.Questions.{ask, firstNo, nameAllowed, modeKnown, newInMode1, slotToTake, messageSound, metMessageSound, somePoint, lengthAllowed, spaceLeft, named, pointAsks, addAsks, lookupAsks, deleteAsks, openNumber, addNumber, deleteNumber, lookupNumber}
-use Rattle.bhtf.specs.Calls.{settled, add, delete}
+use Rattle.bhtf.specs.Calls.{plain, settled, add, delete, lookup, lookupOffset, lookupStart, lookupLength}
 use Rattle.bhtf.proofs.Tests.{by-bool, and-true}
-use Rattle.bhtf.proofs.Opened.{firstNo-none, firstNo-yes, firstNo-no, firstNo-opened, firstNo-refused}
+use Rattle.bhtf.proofs.Bytes.{part-length}
+use Rattle.bhtf.proofs.Opened.{firstNo-none, firstNo-yes, firstNo-no, firstNo-opened, firstNo-refused, opened-facts}
+use Rattle.bhtf.proofs.Effects.{message-end, active-some}
 
 -- ---- the image by the number
 
@@ -29,6 +34,15 @@ settled-yes n img x h = rw h refl
 pub settled-no : (n : ℕ) (img x : Bytes) → (n ≡ 0 → ⊥) → settled n img x ≡ img
 unfolding settled
 settled-no n img x h = rw (ne-eqb n 0 h) refl
+
+-- ---- 12 and 13, of the text to be placed
+
+abbrev pub roomOf : Layout → Bytes → Option Bytes → ℕ
+roomOf g img p = firstNo (ask 12 (lengthAllowed g p) ∷ ask 13 (spaceLeft g (field img freeField) (length img) p) ∷ [])
+
+pub room-none : (g : Layout) (img : Bytes) → roomOf g img none ≡ 0
+unfolding lengthAllowed spaceLeft
+room-none g img = firstNo-yes 12 true _ refl ∙ firstNo-yes 13 true [] refl ∙ firstNo-none
 
 -- ---- questions 1, 5 and 6 come first
 
@@ -78,6 +92,31 @@ module _ (img key : Bytes) (open₀ : openNumber img ≡ 0) where
 
     pub lookup-0 : messageSound g img (offsetOf g (slot g img i)) ≡ true → lookupNumber img key ≡ 0
     lookup-0 h = lookup-11-asks ∙ firstNo-yes 11 _ [] h ∙ firstNo-none
+
+    -- the answer: the text of the point's active message
+    module _ (s : messageSound g img (offsetOf g (slot g img i)) ≡ true) where
+      abbrev at : ℕ
+      at = offsetOf g (slot g img i)
+
+      offset-is : lookupOffset img key ≡ cond (isActive img at) at 0
+      unfolding lookupOffset slotOf
+      offset-is = rw (lookup-0 s, m) refl
+
+      pub lookup-shows : lookup img key .answer
+          ≡ record { number = 0; amount = length (shown g img at); text = shown g img at }
+      unfolding lookup lookupLength lookupStart held shown textAt part
+      lookup-shows =
+          by-bool (isActive img at)
+          (λ h.
+          let z : at ≡ 0 → ⊥ = active-some img at h in
+          let o = opened-facts img open₀ in
+          let q : lookupOffset img key ≡ at = offset-is ∙ ap (λ (t : Bool). cond t at 0) h in
+          let len : length (part img (at + headSize g) (lengthAt g img at)) ≡ lengthAt g img at =
+          part-length img (at + headSize g) (lengthAt g img at) (omega (arith, message-end img o at s z, o .free-high)) in
+          rw (lookup-0 s, q, ne-eqb at 0 z, h, len) refl)
+          (λ h.
+          let q : lookupOffset img key ≡ 0 = offset-is ∙ ap (λ (t : Bool). cond t at 0) h in
+          rw (lookup-0 s, q, h) refl)
 
   -- ---- delete
 
@@ -131,10 +170,6 @@ module _ (img key : Bytes) (open₀ : openNumber img ≡ 0) where
       unfolding addAsks named
       add-point = add-asks ∙ firstNo-yes 7 _ _ a ∙ firstNo-yes 8 _ _ k
 
-      -- 12 and 13, of the text to be placed
-      abbrev room : Option Bytes → ℕ
-      room p = firstNo (ask 12 (lengthAllowed g p) ∷ ask 13 (spaceLeft g (field img freeField) (length img) p) ∷ [])
-
       -- a point that is present
       module _ (i : ℕ) (m : found ≡ met i) where
         pub add-9 : eqb mode 1 ≡ true → addNumber img key bytes mode ≡ 9
@@ -157,7 +192,7 @@ module _ (img key : Bytes) (open₀ : openNumber img ≡ 0) where
         add-11 h s = present h ∙ firstNo-no 11 _ _ s
 
         pub add-renewed : eqb mode 1 ≡ false → messageSound g img (offsetOf g (slot g img i)) ≡ true
-            → addNumber img key bytes mode ≡ room (renewedText g img (offsetOf g (slot g img i)) bytes mode)
+            → addNumber img key bytes mode ≡ roomOf g img (renewedText g img (offsetOf g (slot g img i)) bytes mode)
         add-renewed h s = present h ∙ firstNo-yes 11 _ _ s
 
       -- a point that is absent
@@ -178,7 +213,7 @@ module _ (img key : Bytes) (open₀ : openNumber img ≡ 0) where
         unfolding isMet isEmpty slotToTake
         add-10-full h = add-10 (ap isMet m) (ap (slotToTake (field img pointsField) (g .N)) m ∙ h)
 
-        pub add-fresh : ltb (field img pointsField) (g .N) ≡ true → addNumber img key bytes mode ≡ room (freshText bytes mode)
+        pub add-fresh : ltb (field img pointsField) (g .N) ≡ true → addNumber img key bytes mode ≡ roomOf g img (freshText bytes mode)
         unfolding pointAsks isMet isEmpty slotToTake metMessageSound placedText
         add-fresh h =
             add-point
@@ -189,18 +224,10 @@ module _ (img key : Bytes) (open₀ : openNumber img ≡ 0) where
             ∙ firstNo-yes 10 _ _ h
             ∙ firstNo-yes 11 true _ refl
 
-    -- the image afterwards
-    pub add-renewed-image : addNumber img key bytes mode ≡ 0 → (i : ℕ) → found ≡ met i
-        → add img key bytes mode .after ≡ renewedAt g img i (offsetOf g (slot g img i)) key bytes mode
-    unfolding add added addedAt
-    add-renewed-image z i m =
-        settled-yes (addNumber img key bytes mode) img _ z ∙ ap (λ (s : Probe). addedAt g img s key bytes mode) m
-
-    pub add-fresh-image : addNumber img key bytes mode ≡ 0 → (i : ℕ) → found ≡ empty i
-        → add img key bytes mode .after ≡ inserted g img i key (freshText bytes mode)
-    unfolding add added addedAt
-    add-fresh-image z i m =
-        settled-yes (addNumber img key bytes mode) img _ z ∙ ap (λ (s : Probe). addedAt g img s key bytes mode) m
+-- a refused lookup shows the image's first 0 bytes
+pub lookup-refused : (img key : Bytes) → (lookupNumber img key ≡ 0 → ⊥) → lookup img key .answer ≡ plain (lookupNumber img key)
+unfolding lookup lookupLength lookupStart lookupOffset plain held part
+lookup-refused img key z = rw (ne-eqb (lookupNumber img key) 0 z) refl
 
 -- a refused call leaves the image
 pub add-refused : (img key bytes : Bytes) (mode : ℕ) → (addNumber img key bytes mode ≡ 0 → ⊥) → add img key bytes mode .after ≡ img

@@ -2,7 +2,7 @@
 --     Passed g img key d      the slots less than d steps above the key's home are taken, by other keys
 --     turn-met, turn-empty, turn-on      one slot read: the three cases of `probe`
 --     search-met, search-empty, search-exhausted      what is so where a search ended thus
---     search-finds, search-absent      a sound image's taken slots are found; a key that stands nowhere is not
+--     search-finds      a sound image's taken slots are found
 --     search-keys, search-frame, entryOf-frame      a search depends on the slots' keys alone
 -- Assumes nothing.
 use mathlib.Core.Path.{_≡_, refl, sym, ap, _∙_, subst}
@@ -13,7 +13,7 @@ use mathlib.Core.Bool.{true, false}
 use mathlib.Core.Option.{some}
 use Rattle.bhtf.specs.Bytes.{Bytes, allZero, same}
 use Rattle.bhtf.specs.Image.{Layout, slot, keyOf, vacant, home}
-use Rattle.bhtf.specs.Search.{Probe, met, empty, exhausted, next, dist, probe, search, isMet}
+use Rattle.bhtf.specs.Search.{Probe, met, empty, exhausted, next, dist, probe, search}
 use Rattle.bhtf.proofs.Tests.{by-bool, by-le, by-eq, not-both}
 use Rattle.bhtf.proofs.Bytes.{same-true, same-false}
 use Rattle.bhtf.proofs.Cyclic.{next-lt, dist-lt, dist-self, dist-same, dist-next}
@@ -157,14 +157,6 @@ module _ (g : Layout) (img key : Bytes) (pos : 0 < g .N) where
           (s .paths i j l (f .0) t
           (subst (λ (b : Bytes). dist (g .N) (home g b) j < dist (g .N) (home g b) i) (sym k) (omega arith)))))
           (λ lt. f .2 i l lt .1 k)
-
-  pub search-absent : ((k : ℕ) → k < g .N → Taken g img k → keyAt g img k ≡ key → ⊥) → allZero key ≡ false
-      → isMet (search g img key) ≡ false
-  search-absent n z =
-      by-search
-      (λ i e. absurd (n i (search-met i e .0) (met-taken i z e) (search-met i e .1)))
-      (λ i e. unfold isMet in ap isMet e)
-      (λ e. unfold isMet in ap isMet e)
 
 -- ---- a search depends on the slots' keys alone
 

@@ -6,7 +6,7 @@ use Prim.Native.Nat.{ℕ, suc, _+_, _*_, _^_, _≤_, _<_}
 use native.Mathlib.Nat.{mul-le-mul-right, suc-mul}
 use native.Mathlib.Omega.{arith}
 use mathlib.Core.Bool.{true}
-use mathlib.Core.Logic.{inl, inr}
+use mathlib.Core.Logic.{_⊎_, inl, inr}
 use lib.ListN.{length, take, replicate, length-append, length-replicate, replicate-append-replicate}
 use lib.Seq.{take-at, drop-at, length-take-le}
 use Rattle.bhtf.specs.Bytes.{Bytes, part, store, number, digits, zeros, allZero}
@@ -63,6 +63,10 @@ pub slot-above : (g : Layout) (i : ℕ) → tableStart ≤ slotStart g i
 unfolding slotStart
 slot-above g i = omega arith
 
+-- the m bytes from p on are the header's or the data area's
+abbrev pub Outside : Layout → ℕ → ℕ → Type 0
+Outside g p m = (p + m ≤ tableStart) ⊎ (g .D ≤ p)
+
 -- two slots have no byte in common
 pub slots-apart : (g : Layout) (i j : ℕ) → (i ≡ j → ⊥) → Apart (slotStart g i) (slotSize g) (slotStart g j) (slotSize g)
 unfolding slotStart
@@ -103,23 +107,18 @@ module _ (g : Layout) (img : Bytes) (r : Room g (length img)) where
       (rw e (slots-apart g j i n))
 
   -- the header and the data area are not the table's
+  pub part-putSlot-outside : (i : ℕ) (s : Bytes) (p m : ℕ) → i < g .N → length s ≡ slotSize g → Outside g p m
+      → part (putSlot g img i s) p m ≡ part img p m
+  unfolding putSlot
+  part-putSlot-outside i s p m h e (inl f) =
+      part-store-other img (slotStart g i) s p m (slot-in i s h e) (inl (omega (arith, slot-above g i)))
+  part-putSlot-outside i s p m h e (inr f) =
+      part-store-other img (slotStart g i) s p m (slot-in i s h e) (inr (omega (arith, slot-end g r i h)))
+
   pub field-putSlot : (i : ℕ) (s : Bytes) (at : ℕ) → i < g .N → length s ≡ slotSize g → at + 4 ≤ tableStart
       → field (putSlot g img i s) at ≡ field img at
-  unfolding putSlot
-  field-putSlot i s at h e f =
-      field-store-other img (slotStart g i) s at (slot-in i s h e) (inl (unfold slotStart in omega arith))
-
-  pub part-putSlot-header : (i : ℕ) (s : Bytes) (p m : ℕ) → i < g .N → length s ≡ slotSize g → p + m ≤ tableStart
-      → part (putSlot g img i s) p m ≡ part img p m
-  unfolding putSlot
-  part-putSlot-header i s p m h e f =
-      part-store-other img (slotStart g i) s p m (slot-in i s h e) (inl (unfold slotStart in omega arith))
-
-  pub part-putSlot-data : (i : ℕ) (s : Bytes) (p m : ℕ) → i < g .N → length s ≡ slotSize g → g .D ≤ p
-      → part (putSlot g img i s) p m ≡ part img p m
-  unfolding putSlot
-  part-putSlot-data i s p m h e f =
-      part-store-other img (slotStart g i) s p m (slot-in i s h e) (inr (omega (arith, slot-end g r i h)))
+  unfolding field
+  field-putSlot i s at h e f = ap number (part-putSlot-outside i s at 4 h e (inl f))
 
   -- a write to the header or to the data area changes no slot
   pub slot-store-data : (p : ℕ) (v : Bytes) (i : ℕ) → i < g .N → g .D ≤ p → p + length v ≤ length img

@@ -16,7 +16,7 @@ use Rattle.bhtf.specs.Limits.{active, inactive, leastLength, freeField}
 use Rattle.bhtf.specs.Image.{field, Layout}
 use Rattle.bhtf.specs.Messages.{headSize, letterAt, lengthAt, textAt, isActive, shown, held}
 use Rattle.bhtf.specs.Questions.{messageSound}
-use Rattle.bhtf.proofs.Tests.{by-or, and-left, and-right, and-true, or-right}
+use Rattle.bhtf.proofs.Tests.{by-eq, by-or, and-left, and-right, and-true, or-right}
 use Rattle.bhtf.proofs.Bytes.{Apart, part-store-other}
 
 abbrev pub size : Layout → Bytes → ℕ → ℕ
@@ -92,6 +92,9 @@ module _ (g : Layout) (img img′ : Bytes) (o : ℕ) (same : SameOn img img′ o
   unfolding lengthAt headSize
   lengthAt-same = ap number (same .on (o + 1) (g .W) (omega arith) (omega arith))
 
+  pub size-same : size g img′ o ≡ size g img o
+  size-same = ap (λ (m : ℕ). headSize g + m) lengthAt-same
+
   pub textAt-same : textAt g img′ o ≡ textAt g img o
   unfolding textAt
   textAt-same =
@@ -115,3 +118,11 @@ module _ (g : Layout) (img img′ : Bytes) (o : ℕ) (same : SameOn img img′ o
         least = rw lengthAt-same (l .least);
         end = rw lengthAt-same (omega (arith, l .end));
       }
+
+-- question 11 is answered yes again where X has not fallen
+pub sound-same : (g : Layout) (img img′ : Bytes) (o : ℕ) → ((o ≡ 0 → ⊥) → SameOn img img′ o (size g img o))
+    → field img freeField ≤ field img′ freeField → messageSound g img o ≡ true → messageSound g img′ o ≡ true
+sound-same g img img′ o same up s =
+    by-eq o 0
+    (λ z. rw z (none-sound g img′))
+    (λ z. lies-sound g img′ o (lies-same g img img′ o (same z) up (sound-lies g img o s z)))

@@ -30,10 +30,10 @@ total-change f h (suc n) i l e =
     omega (arith, ap f q, ap h q))
     (λ q. omega (arith, ih (omega arith), e n (omega arith) (λ z. q (sym z))))
 
-pub total-zero : (n : ℕ) → total (λ i. 0) n ≡ 0
+pub total-const : (c n : ℕ) → total (λ i. c) n ≡ n * c
 unfolding total
-total-zero zero = refl
-total-zero (suc n) = omega (arith, total-zero n)
+total-const c zero = omega arith
+total-const c (suc n) = omega (arith, total-const c n, suc-mul n c)
 
 pub total-bound : (f : ℕ → ℕ) (n b : ℕ) → ((i : ℕ) → i < n → f i ≤ b) → total f n ≤ n * b
 unfolding total

@@ -36,10 +36,6 @@ stays g img h j = among (g .N) (next (g .N) h) j (homeAt g img j)
 unfoldable pub left : Layout → Bytes → ℕ → ℕ → ℕ
 left g img h j = spread g img + dist (g .N) j h
 
-pub left-is : (g : Layout) (img : Bytes) (h j : ℕ) → left g img h j ≡ spread g img + dist (g .N) j h
-unfolding left
-left-is g img h j = refl
-
 abbrev pub looks : Layout → Bytes → ℕ → ℕ → ℕ
 looks g img h j = suc (left g img h j)
 
@@ -254,6 +250,3 @@ module _ (g : Layout) (img : Bytes) (r : Room g (length img)) (i : ℕ) (l : i <
   length-closed =
       length-walk g (g .N * g .N) (putSlot g img i (blank g)) i (next (g .N) i) going-closed enough
       ∙ length-putSlot g img r i (blank g) l (length-blank g)
-
-  pub room-closed : Room g (length (closed g img i))
-  room-closed = subst (Room g) (sym length-closed) r
