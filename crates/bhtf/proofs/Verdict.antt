@@ -1,7 +1,8 @@
 -- The lowest number for which a test holds, and what a check that says sound has seen.
 --     lowest-some, lowest-none      what the answer of `lowest` says
 --     lowest-yes, lowest-no, lowest-end      one number looked at, as a loop from i up to n has it
---     check-open, check-searches, check-messages      of an image that the check calls sound
+--     searches-sound      a table where each taken slot's key, searched, ends there is sound
+--     check-open, check-searches, check-messages, check-count, check-weight, check-sound      of an image that the check calls sound
 -- Assumes nothing.
 use mathlib.Core.Path.{_≡_, refl, sym, ap, _∙_}
 use Prim.Native.Nat.{ℕ, zero, suc, _+_, _-_, _≤_, _<_}
@@ -11,12 +12,15 @@ use mathlib.Core.Option.{Option, none, some}
 use lib.Dec.{eqb}
 use borrow.Author.Tests.{eqb-true, not-false}
 use Rattle.bhtf.specs.Bytes.{Bytes}
-use Rattle.bhtf.specs.Image.{Layout, layoutOf, slot, offsetOf}
+use Rattle.bhtf.specs.Limits.{pointsField}
+use Rattle.bhtf.specs.Image.{field, Layout, layoutOf, slot, offsetOf}
 use Rattle.bhtf.specs.Search.{Probe, met, empty, exhausted, search}
 use Rattle.bhtf.specs.Questions.{messageSound, openNumber}
-use Rattle.bhtf.specs.Inspect.{lowest, taken, endsAt, slotSound, slotFails, Verdict, sound, countSound, verdictOf, check}
+use Rattle.bhtf.specs.Inspect.{lowest, taken, takenFrom, endsAt, slotSound, slotFails, Verdict, sound, countSound, verdictOf, check}
 use Rattle.bhtf.proofs.Tests.{by-bool, by-eq, and-left, and-right}
-use Rattle.bhtf.proofs.Table.{Taken, keyAt}
+use Rattle.bhtf.proofs.Table.{Taken, keyAt, Sound, weight}
+use Rattle.bhtf.proofs.Probe.{search-met}
+use Rattle.bhtf.proofs.Insert.{count-taken}
 
 -- ---- the lowest number for which a test holds
 
@@ -88,6 +92,18 @@ endsAt-met (met j) i e = ap met (eqb-true j i e)
 endsAt-met (empty j) i e = let z : _≡_ {A = ℕ} 0 1 = cc in absurd (omega arith)
 endsAt-met exhausted i e = let z : _≡_ {A = ℕ} 0 1 = cc in absurd (omega arith)
 
+pub searches-sound : (g : Layout) (img : Bytes)
+    → ((i : ℕ) → i < g .N → Taken g img i → search g img (keyAt g img i) ≡ met i) → Sound g img
+searches-sound g img f =
+    record {
+      paths = λ i k il kl t d. search-met g img (keyAt g img i) (omega arith) i (f i il t) .2 k kl d .0;
+      distinct = λ i j il jl ti tj e.
+          let a : search g img (keyAt g img i) ≡ met i = f i il ti in
+          let b : search g img (keyAt g img j) ≡ met j = f j jl tj in
+          let m : met i ≡ met j = sym a ∙ ap (search g img) e ∙ b in
+          cc;
+    }
+
 -- a taken slot that does not fail
 pub fails-not : (g : Layout) (img : Bytes) (i : ℕ) → slotFails g img i ≡ false → Taken g img i → slotSound g img i ≡ true
 unfolding slotFails taken
@@ -101,6 +117,12 @@ verdict-none true none e = refl
 verdict-none false none e = refl
 verdict-none true (some i) e = let z : _≡_ {A = ℕ} 0 1 = cc in absurd (omega arith)
 verdict-none false (some i) e = let z : _≡_ {A = ℕ} 0 1 = cc in absurd (omega arith)
+
+verdict-count : (c : Bool) (o : Option ℕ) → verdictOf c o ≡ sound → c ≡ true
+unfolding verdictOf
+verdict-count true o e = refl
+verdict-count false none e = let z : _≡_ {A = ℕ} 0 1 = cc in absurd (omega arith)
+verdict-count false (some i) e = let z : _≡_ {A = ℕ} 0 1 = cc in absurd (omega arith)
 
 verdict-open : (b : Bool) (v : Verdict) (n : ℕ) → cond b v (Verdict.refused n) ≡ sound → (b ≡ true) × (v ≡ sound)
 verdict-open true v n e = (refl, e)
@@ -141,3 +163,15 @@ module _ (img : Bytes) (ok : check img ≡ sound) where
       and-right (endsAt (search (layoutOf img) img (keyAt (layoutOf img) img i)) i)
       (messageSound (layoutOf img) img (offsetOf (layoutOf img) (slot (layoutOf img) img i)))
       (unfold slotSound in check-slot i l t)
+
+  pub check-count : field img pointsField ≡ takenFrom (layoutOf img) img (layoutOf img .N) 0
+  check-count =
+      eqb-true (field img pointsField) (takenFrom (layoutOf img) img (layoutOf img .N) 0)
+      (unfold countSound in
+      verdict-count (countSound (layoutOf img) img) (lowest (slotFails (layoutOf img) img) (layoutOf img .N) 0) (parts .1))
+
+  pub check-weight : field img pointsField ≡ weight (layoutOf img) img (λ s. 1)
+  check-weight = check-count ∙ count-taken (layoutOf img) img
+
+  pub check-sound : Sound (layoutOf img) img
+  check-sound = searches-sound (layoutOf img) img check-searches
