@@ -3,6 +3,8 @@ use questions::data_start;
 use runs::zero;
 use scramble::numbers::write_numbers;
 use scramble::write_scramble;
+use words::limits::MAGIC;
+use words::limits::VERSION;
 ghost use mathlib.Core.Path.{_≡_};
 ghost use Prim.Native.Nat.{_≤_};
 ghost use lib.ListN.{length};
@@ -10,11 +12,6 @@ ghost use Rattle.bhtf.specs.Bytes.{store};
 ghost use Rattle.bhtf.specs.Image.{dataStart};
 ghost use Rattle.bhtf.specs.Create.{freshHeader, freshImage};
 ghost use Rattle.bhtf.specs.Questions.{createNumber};
-
-// "BHTF", and the letter v with the version bytes 1, 0, 1, as numbers.
-const MAGIC: u32 = 0x42485446;
-
-const VERSION: u32 = 0x76010001;
 
 // Writes the header of an empty table; start is D. In the header's order: "BHTF", v and version, serial, K, N, C,
 // multiplier, start value, F, E, scramble and table offsets, D, X = D, M = -1.

@@ -1,17 +1,19 @@
 // Questions 1 to 8 on numbers, headers and names, in constant time but for the name's bytes. What a question cannot go
 // on with is asked first: D's formula is worked out only where K and N are in range.
 use runs::all_zero;
-use runs::same_bytes;
 use words::fields::read_u32;
 use words::limits::DATA_FIELD;
 use words::limits::FIRST_FIELD;
 use words::limits::FREE_FIELD;
 use words::limits::KEY_FIELD;
 use words::limits::LAST_FIELD;
+use words::limits::MAGIC;
+use words::limits::MAGIC_FIELD;
 use words::limits::MOST_CHARACTER;
 use words::limits::MOST_IMAGE;
 use words::limits::MOST_KEY;
 use words::limits::MOST_SLOTS;
+use words::limits::OLDEST_VERSION;
 use words::limits::PAGE;
 use words::limits::PAGE_ROUND;
 use words::limits::POINTS_FIELD;
@@ -21,6 +23,8 @@ use words::limits::SLOTS_FIELD;
 use words::limits::TABLE_FIELD;
 use words::limits::TABLE_OFFSET;
 use words::limits::TABLE_START;
+use words::limits::VERSION;
+use words::limits::VERSION_FIELD;
 ghost use mathlib.Core.Path.{_≡_};
 ghost use Prim.Native.Nat.{_≤_};
 ghost use lib.ListN.{length};
@@ -58,12 +62,13 @@ pub fn data_start(key: usize, slots: usize) -> usize
     (TABLE_START + slots * (key + 4) + PAGE_ROUND) / PAGE * PAGE
 }
 
-// Question 5.
+// Question 5, of eight bytes as two numbers: the last of them may differ in its lowest bit alone.
 pub fn version_known(image: &[u8]) -> bool
     requires { ⌜ 8 ≤ length (now image) ⌝ }
     ensures { λ r. ⌜ r ≡ versionKnown (now (image .entry)) ⌝ }
 {
-    same_bytes(&image[..5], b"BHTFv") & (image[5] == 1) & (image[6] == 0) & (image[7] <= 1)
+    let version = read_u32(image, VERSION_FIELD);
+    (read_u32(image, MAGIC_FIELD) == MAGIC) & ((OLDEST_VERSION <= version) & (version <= VERSION))
 }
 
 // Question 6 up to the offsets: the fields that are compared with each other or with a fixed number.

@@ -1,43 +1,21 @@
--- Question 5: the first five bytes compared, and the three after them. Assumes nothing.
+-- Question 5, by two numbers. Assumes nothing.
 use borrow.Author.Needs.{needs}
-use lib.Seq.{length-take-le}
 use native.Mathlib.Omega.{arith}
-use mathlib.Core.Path.{sym}
-use Rattle.bhtf.specs.Bytes.{part}
-use Rattle.bhtf.specs.Questions.{versionKnown}
+use Rattle.questions.proofs.Version.{version-words}
 use Rattle.questions.proofs.version_known.Statement.{statement}
 use Rattle.questions.proofs.version_known.Tie as tie
 
-slice-aggregate-same-bytes : tie.Need-slice-aggregate-same-bytes
-slice-aggregate-same-bytes c = sym (length-take-le 5 (c .before .before .args .image .now) (omega arith))
+read-u32-requires : tie.Need-read-u32-requires
+read-u32-requires c κs = omega arith
 
-slice-aggregate-same-bytes-2 : tie.Need-slice-aggregate-same-bytes-2
-slice-aggregate-same-bytes-2 c = search needs
-
-same-bytes-requires : tie.Need-same-bytes-requires
-same-bytes-requires c κs = search needs
-
-shared-slice-read-result : tie.Need-shared-slice-read-result
-shared-slice-read-result c = search needs
-
-shared-slice-read-result-2 : tie.Need-shared-slice-read-result-2
-shared-slice-read-result-2 c = search needs
-
-shared-slice-read-result-3 : tie.Need-shared-slice-read-result-3
-shared-slice-read-result-3 c = search needs
+read-u32-requires-2 : tie.Need-read-u32-requires-2
+read-u32-requires-2 c κs = omega arith
 
 returns : tie.Need-returns
-unfolding versionKnown part
-returns c = rw (c .before .before .before .same-bytes .ensures)
+returns c =
+    let S = c .before .before .before in
+    rw (c .read-u322 .ensures, c .before .read-u32 .ensures)
+    (version-words (S .args .image .now) (λ i. omega (arith, c .before .before .shared-slice-known .given i)) (S .pre))
 
 pub version-known-spec : {M : Type 1} → statement M
-version-known-spec =
-    tie.close
-    (tie.spec
-    slice-aggregate-same-bytes
-    slice-aggregate-same-bytes-2
-    same-bytes-requires
-    shared-slice-read-result
-    shared-slice-read-result-2
-    shared-slice-read-result-3
-    returns)
+version-known-spec = tie.close (tie.spec read-u32-requires read-u32-requires-2 returns)
