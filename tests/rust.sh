@@ -3,7 +3,7 @@
 #   LIB=path    the library, from the repository's root; target/staticlib/libstation.a unless given
 #   ARGS=".."   for the program, e.g. "--seed 1 --lists 100000"
 # Then the test's own test: plain C in the library's place, right, and with the fault of the firm's second version, which must be
-# found. The last line is 'N passed, M failed', a list each and two for the test's own test.
+# found. The last line is 'N passed, M failed'.
 set -u
 cd "$(dirname "$0")/.." || exit 2
 lib=$(realpath "${LIB:-target/staticlib/libstation.a}") || exit 2
@@ -25,12 +25,8 @@ plain() {
   gcc -std=c99 -O2 -Itests/reference $names -c "$2" -o "$work/$1.o" && ar rcs "$work/$1.a" "$work/$1.o" && links "$1" "$work/$1.a"
 }
 
-links library "$lib" || exit 2
-# shellcheck disable=SC2086
-"$work/library" ${ARGS:-} | tee "$work/said"
-last=$(tail -n 1 "$work/said")
-passed=${last%% *} failed=${last##*, }
-failed=${failed%% *}
+passed=0
+failed=0
 
 # test_that WHAT COMMAND..
 test_that() {
@@ -45,6 +41,9 @@ test_that() {
 }
 finds() { ! "$work/$1" --seed 1 --lists 100 >"$work/said" && grep -q '^FAILED: list' "$work/said"; }
 
+links library "$lib" || exit 2
+# shellcheck disable=SC2086
+test_that "file and book agree" "$work/library" ${ARGS:-}
 plain right tests/reference/plain.c || exit 2
 test_that "plain C passes" "$work/right" --seed 1 --lists 100 >/dev/null
 # version two: the slot is emptied, and no entry behind it moves
@@ -53,4 +52,4 @@ plain two "$work/two.c" || exit 2
 test_that "the fault of version two is found" finds two
 
 echo "$passed passed, $failed failed"
-[ "$failed" -eq 0 ] && [ "$passed" -gt 2 ]
+[ "$failed" -eq 0 ]
