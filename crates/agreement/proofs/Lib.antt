@@ -17,3 +17,4 @@ pub mod Theorem
 pub mod Reached
 pub mod Steps
 pub mod Users
+pub mod Area
