@@ -15,4 +15,6 @@ pub mod Add
 pub mod Fresh
 pub mod Theorem
 pub mod Reached
+pub mod Steps
 pub mod Users
+pub mod Area

@@ -1,5 +1,6 @@
 -- What holds of every file that calls have reached from an accepted create, in words that a user thinks in.
 --     Reached img b       img is the file, and b the book, after some list of calls from an accepted create
+--     reached-after       more calls reach on
 --     no-point-twice      no point stands in two slots
 --     reached-sound       the check says sound
 -- Assumes nothing.
@@ -7,7 +8,7 @@ use mathlib.Core.Path.{_≡_, refl, sym, ap, _∙_, subst}
 use Prim.Native.Nat.{ℕ, zero, suc, _+_, _<_}
 use native.Mathlib.Omega.{arith}
 use mathlib.Core.Bool.{Bool, false, not}
-use mathlib.Core.List.{List}
+use mathlib.Core.List.{List, [], _∷_, _++_}
 use mathlib.Core.Option.{none}
 use lib.ListN.{length}
 use lib.Dec.{eqb}
@@ -17,7 +18,7 @@ use Rattle.bhtf.specs.Image.{Layout, layoutOf, slot, vacant}
 use Rattle.bhtf.specs.Search.{search, met}
 use Rattle.bhtf.specs.Questions.{nameAllowed}
 use Rattle.bhtf.specs.Create.{slotsAsked}
-use Rattle.bhtf.specs.Calls.{create, perform, Call, stateAfter}
+use Rattle.bhtf.specs.Calls.{Outcome, create, perform, Call, stateAfter}
 use Rattle.bhtf.specs.Book.{Book, newBook, bookStep}
 use Rattle.bhtf.specs.Demand.{termsOf}
 use Rattle.bhtf.specs.Inspect.{lowest, taken, endsAt, slotSound, slotFails, countSound, verdictOf, check, sound}
@@ -50,6 +51,29 @@ reached-reflects img b r =
           (subst (λ (i : Bytes). Reflects (c .0) i (stateAfter bookStep (r .calls) (newBook (termsOf (length (r .slice)) (r .K) (slotsAsked (r .N))))))
           (sym (r .file-is)) (reflects-after (c .0) (r .calls) _ _ (c .1))),
     )
+
+-- ---- more calls reach on
+
+-- one list of calls after another
+after-append : {S : Type 0} (do′ : Call → S → Outcome S) (cs ds : List Call) (s : S)
+    → stateAfter do′ (cs ++ ds) s ≡ stateAfter do′ ds (stateAfter do′ cs s)
+unfolding stateAfter
+after-append do′ [] ds s = refl
+after-append do′ (c ∷ cs) ds s = after-append do′ cs ds (do′ c s .after)
+
+pub reached-after : (img : Bytes) (b : Book) → Reached img b → (calls : List Call)
+    → Reached (stateAfter perform calls img) (stateAfter bookStep calls b)
+reached-after img b r calls =
+    record {
+      slice = r .slice;
+      K = r .K;
+      N = r .N;
+      seed = r .seed;
+      accepted = r .accepted;
+      calls = r .calls ++ calls;
+      file-is = ap (stateAfter perform calls) (r .file-is) ∙ sym (after-append perform (r .calls) calls _);
+      book-is = ap (stateAfter bookStep calls) (r .book-is) ∙ sym (after-append bookStep (r .calls) calls _);
+    }
 
 -- ---- no point stands twice
 

@@ -1,280 +1,322 @@
--- Corollaries in the words of a user: what was added and not deleted is found, what was deleted is not, and a delete changes no
--- other point. Each is read off the book, which the file agrees with.
+-- Corollaries in the words of a user: what was added and not deleted is found, what was deleted is not, a call changes no other
+-- point, and C counts. Each is read off the book, which the file agrees with.
 --     delete-others, add-others      deleting, or adding, one point changes no other point's message
---     added-found         after an accepted add in mode 1 the point is found with its text
+--     added-found, replaced-found    after an accepted add in mode 1 or 2 the point is found with the data as its text
+--     appended-found, appended-new   in mode 3 with the data behind its text; with the data alone where it was absent
 --     deleted-gone        after an accepted delete it is not found
+--     count-added, count-replaced, count-deleted      C grows by 1, stays, falls by 1
 --     stays-found         a point that is found stays so until it is deleted
+--     stays-gone          a point that is not found stays so until it is added; deleted-stays-gone: so of one that was deleted
+--     free-grows          X never falls
 -- Assumes nothing.
 use mathlib.Core.Path.{_≡_, refl, sym, ap, _∙_, subst}
-use Prim.Native.Nat.{ℕ}
+use Prim.Native.Nat.{ℕ, suc, _+_, _≤_}
 use native.Mathlib.Omega.{arith}
-use mathlib.Core.Logic.{_⊎_, inl, inr}
-use mathlib.Core.Bool.{false}
-use mathlib.Core.List.{List, [], _∷_, _++_}
-use mathlib.Core.Option.{Option, none, some, Option·none-ne-some}
+use mathlib.Core.List.{List, [], _∷_, _++_, append-nil}
+use mathlib.Core.Option.{Option, none, some, Option·none-ne-some, Option·some-injective}
 use lib.ListN.{length}
-use lib.Dec.{eqb, leb}
-use borrow.Author.Tests.{eqb-false, eq-eqb, ne-eqb}
 use Rattle.bhtf.specs.Bytes.{Bytes}
-use Rattle.bhtf.specs.Image.{Layout}
-use Rattle.bhtf.specs.Questions.{Question, ask, firstNo, nameAllowed}
-use Rattle.bhtf.specs.Calls.{Outcome, plain, Call, adding, deleting, looking, counting, perform, stateAfter, add, delete}
-use Rattle.bhtf.specs.Book.{Entry, Book, find, withEntry, stepOf, guarded, entered, placed, addAbsent, replace, append, addPresent, addFound, bookAdd, deleteFound, bookDelete, lookupFound, bookLookup, bookCount, bookStep}
+use Rattle.bhtf.specs.Limits.{freeField}
+use Rattle.bhtf.specs.Image.{field, Layout}
+use Rattle.bhtf.specs.Calls.{Answer, Outcome, Call, adding, deleting, looking, counting, perform, stateAfter, add, delete, count}
+use Rattle.bhtf.specs.Book.{Entry, Book, find, bookAdd, bookDelete, bookCount, bookStep}
 use Rattle.bhtf.specs.Demand.{fileText, bookText, textOf}
-use Rattle.bhtf.proofs.Tests.{by-bool, by-eq}
 use Rattle.bhtf.proofs.Bytes.{by-same}
-use Rattle.bhtf.proofs.Opened.{firstNo-no}
-use Rattle.agreement.proofs.Entries.{Distinct, find-same, find-without-other, find-without-same, find-withEntry, find-withEntry-other}
+use Rattle.agreement.proofs.Entries.{Distinct, find-without-other, find-without-same, length-without}
 use Rattle.agreement.proofs.Reflect.{Reflects}
-use Rattle.agreement.proofs.Simple.{same-delete}
+use Rattle.agreement.proofs.Simple.{Same, same-count, same-delete}
 use Rattle.agreement.proofs.Add.{same-add}
 use Rattle.agreement.proofs.Theorem.{points-agree, reflects-after}
-use Rattle.agreement.proofs.Reached.{Reached, reached-reflects}
+use Rattle.agreement.proofs.Reached.{Reached, reached-reflects, reached-after}
+use Rattle.agreement.proofs.Steps.{given-text, given-new, given-old, given-used, Added, refused, fresh, replaced, appended, unchanged, book-add, by-put, add-other, add-keeps, Deleted, gone, book-delete, book-lookup, delete-other}
 
--- ---- what a step does to the book's entries: nothing, or one entry is put in or taken out
+-- ---- the book's texts
 
--- the entries es′ are es, or es with an entry of that name
-Put : Bytes → List Entry → List Entry → Type 0
-Put name es es′ = (es′ ≡ es) ⊎ ((e : Entry) × (e .name ≡ name) × (es′ ≡ withEntry e es))
+text-some : (f : Option Entry) (text : Bytes) → textOf f ≡ some text → (e : Entry) × (f ≡ some e)
+unfolding textOf
+text-some none text h = absurd (Option·none-ne-some text h)
+text-some (some e) text h = (e, refl)
 
--- the entries of either branch
-step-put : (name : Bytes) (b : Book) (asks : List Question) (y : Book) → Put name (b .entries) (y .entries)
-    → Put name (b .entries) (stepOf b asks y .after .entries)
-unfolding stepOf Put
-step-put name b asks y p =
-    by-bool (eqb (firstNo asks) 0) (λ h. rw h p) (λ h. rw h (inl refl))
+text-none : (f : Option Entry) → textOf f ≡ none → f ≡ none
+unfolding textOf
+text-none none h = refl
+text-none (some e) h = absurd (Option·none-ne-some (e .text) (sym h))
 
-entered-put : (name : Bytes) (b : Book) (k text : Bytes) (h more : ℕ) → k ≡ name → Put name (b .entries) (entered b k text h more .entries)
-unfolding entered Put
-entered-put name b k text h more q = inr (record { 0 = record { name = k; text = text; held = h }; 1 = q; 2 = refl })
+module _ (b : Book) (name : Bytes) where
+  found-entry : (text : Bytes) → bookText b name ≡ some text → (e : Entry) × (find name (b .entries) ≡ some e)
+  unfolding bookText
+  found-entry text h = text-some _ text h
 
-same-put : (name : Bytes) (b : Book) → Put name (b .entries) (b .entries)
-unfolding Put
-same-put name b = inl refl
+  found-no : bookText b name ≡ none → find name (b .entries) ≡ none
+  unfolding bookText
+  found-no h = text-none _ h
 
-absent-put : (b : Book) (name bytes : Bytes) → Put name (b .entries) (addAbsent b name bytes .after .entries)
-unfolding addAbsent placed
-absent-put b name bytes =
-    by-bool (eqb (length bytes) 0)
-    (λ h. rw h (step-put name b _ _ (entered-put name b name [] 0 0 refl)))
-    (λ h. rw h (step-put name b _ _ (entered-put name b name bytes _ _ refl)))
+  no-text : find name (b .entries) ≡ none → bookText b name ≡ none
+  unfolding bookText textOf
+  no-text h = ap textOf h
 
-present-put : (b : Book) (name : Bytes) (e : Entry) (bytes : Bytes) (mode : ℕ) → e .name ≡ name
-    → Put name (b .entries) (addPresent b e bytes mode .after .entries)
-unfolding addPresent replace append placed
-present-put b name e bytes mode q =
-    by-bool (eqb mode 1)
-    (λ h. rw h (step-put name b _ b (same-put name b)))
-    (λ h. rw h (by-bool (eqb mode 2)
-    (λ h₂. rw h₂ (by-bool (eqb (length bytes) 0)
-    (λ z. rw z (step-put name b _ _ (entered-put name b (e .name) [] _ 0 q)))
-    (λ z. rw z (by-bool (leb (length bytes) (e .held))
-    (λ l. rw l (step-put name b _ _ (entered-put name b (e .name) bytes _ 0 q)))
-    (λ l. rw l (step-put name b _ _ (entered-put name b (e .name) bytes _ _ q)))))))
-    (λ h₂. rw h₂ (by-bool (eqb (length bytes) 0)
-    (λ z. rw z (step-put name b _ b (same-put name b)))
-    (λ z. rw z (step-put name b _ _ (entered-put name b (e .name) (e .text ++ bytes) _ _ q)))))))
+  the-text : (e : Entry) → find name (b .entries) ≡ some e → bookText b name ≡ some (e .text)
+  unfolding bookText textOf
+  the-text e h = ap textOf h
 
-guarded-put : (name : Bytes) (b : Book) (asks : List Question) (s : Outcome Book) → Put name (b .entries) (s .after .entries)
-    → Put name (b .entries) (guarded b asks s .after .entries)
-unfolding guarded
-guarded-put name b asks s p =
-    by-bool (eqb (firstNo asks) 0) (λ h. rw h p) (λ h. rw h (step-put name b asks b (same-put name b)))
+-- ---- an accepted add, by its mode
 
-found-put : (b : Book) (name bytes : Bytes) (mode : ℕ) (f : Option Entry) → find name (b .entries) ≡ f
-    → Put name (b .entries) (addFound b name bytes mode f .after .entries)
-unfolding addFound
-found-put b name bytes mode none q = absent-put b name bytes
-found-put b name bytes mode (some e) q = present-put b name e bytes mode (find-same name (b .entries) e q)
+module _ {b : Book} {name bytes : Bytes} {o : Outcome Book} where
+  book-added : Added b name bytes 1 o → o .answer .number ≡ 0 → bookText (o .after) name ≡ some bytes
+  book-added (refused z q) k = absurd (z k)
+  book-added (fresh n w) k = given-text w
+  book-added (replaced e f m w) k = given-text w
+  book-added (appended e f n₁ n₂ w) k = absurd (n₁ refl)
+  book-added (unchanged e f n₁ n₂ z q) k = absurd (n₁ refl)
 
-add-put : (b : Book) (name bytes : Bytes) (mode : ℕ) → Put name (b .entries) (bookAdd b name bytes mode .after .entries)
-unfolding bookAdd
-add-put b name bytes mode =
-    guarded-put name b _ _ (found-put b name bytes mode (find name (b .entries)) refl)
+  book-replaced : Added b name bytes 2 o → o .answer .number ≡ 0 → bookText (o .after) name ≡ some bytes
+  book-replaced (refused z q) k = absurd (z k)
+  book-replaced (fresh n w) k = given-text w
+  book-replaced (replaced e f m w) k = given-text w
+  book-replaced (appended e f n₁ n₂ w) k = absurd (n₂ refl)
+  book-replaced (unchanged e f n₁ n₂ z q) k = absurd (n₂ refl)
 
--- another point is as it was
-put-other : (name other : Bytes) (es es′ : List Entry) → Put name es es′ → (other ≡ name → ⊥) → find other es′ ≡ find other es
-unfolding Put
-put-other name other es es′ (inl q) n = ap (find other) q
-put-other name other es es′ (inr w) n =
-    ap (find other) (w .2) ∙ find-withEntry-other (w .0) es other (λ q. n (q ∙ w .1))
+  -- of a point with the text old
+  book-appended : (old : Bytes) → bookText b name ≡ some old → Added b name bytes 3 o → o .answer .number ≡ 0
+      → bookText (o .after) name ≡ some (old ++ bytes)
+  book-appended old h (refused z q) k = absurd (z k)
+  book-appended old h (fresh n w) k = absurd (Option·none-ne-some old (sym (no-text b name n) ∙ h))
+  book-appended old h (replaced e f m w) k = absurd (omega arith)
+  book-appended old h (appended e f n₁ n₂ w) k =
+      given-text w
+      ∙ ap (λ (t : Bytes). some (t ++ bytes)) (Option·some-injective (e .text) old (sym (the-text b name e f) ∙ h))
+  book-appended old h (unchanged e f n₁ n₂ z q) k =
+      ap (λ (x : Book). bookText x name) q ∙ h ∙ ap some (sym (ap (λ (t : Bytes). old ++ t) z ∙ append-nil old))
 
--- the point itself does not go
-put-found : (name : Bytes) (es es′ : List Entry) (e : Entry) → Put name es es′ → find name es ≡ some e → (e′ : Entry) × (find name es′ ≡ some e′)
-unfolding Put
-put-found name es es′ e (inl q) h = (e, ap (find name) q ∙ h)
-put-found name es es′ e (inr w) h =
-    (w .0, ap (find name) (w .2) ∙ ap (λ (k : Bytes). find k (withEntry (w .0) es)) (sym (w .1)) ∙ find-withEntry (w .0) es)
+  -- of a point that is absent
+  book-new : (mode : ℕ) → bookText b name ≡ none → Added b name bytes mode o → o .answer .number ≡ 0
+      → (bookText (o .after) name ≡ some bytes) × (length (o .after .entries) ≡ suc (length (b .entries)))
+  book-new mode h (refused z q) k = absurd (z k)
+  book-new mode h (fresh n w) k = (given-text w, given-new w n)
+  book-new mode h (replaced e f m w) k = absurd (Option·none-ne-some (e .text) (sym h ∙ the-text b name e f))
+  book-new mode h (appended e f n₁ n₂ w) k = absurd (Option·none-ne-some (e .text) (sym h ∙ the-text b name e f))
+  book-new mode h (unchanged e f n₁ n₂ z q) k = absurd (Option·none-ne-some (e .text) (sym h ∙ the-text b name e f))
 
--- what a delete does to the entries
-delete-other-entry : (b : Book) (name other : Bytes) → (other ≡ name → ⊥)
-    → find other (bookDelete b name .after .entries) ≡ find other (b .entries)
-unfolding bookDelete guarded stepOf
-delete-other-entry b name other n =
-    by-bool (eqb (firstNo (ask 7 (nameAllowed (b .terms .K) name) ∷ [])) 0)
-    (λ h. rw h (go (find name (b .entries))))
-    (λ h. rw h refl)
-  where
-    go : (f : Option Entry) → find other (deleteFound b name f .after .entries) ≡ find other (b .entries)
-    go none = unfold deleteFound stepOf in rw (firstNo-no 14 false [] refl) refl
-    go (some e) = unfold deleteFound stepOf firstNo in find-without-other name other (b .entries) n
+-- an accepted delete
+book-gone : {b : Book} {name : Bytes} {o : Outcome Book} → Distinct (b .entries) → Deleted b name o → o .answer .number ≡ 0
+    → (bookText (o .after) name ≡ none) × (suc (length (o .after .entries)) ≡ length (b .entries))
+book-gone d (refused z q) k = absurd (z k)
+book-gone {b} {name} {o} d (gone e f q) k = (
+  no-text (o .after) name (ap (λ (x : Book). find name (x .entries)) q ∙ find-without-same name (b .entries) d),
+  ap (λ (x : Book). suc (length (x .entries))) q ∙ length-without name (b .entries) e f,
+)
 
--- an accepted add in mode 1 puts the text in
-step-accepted : (b : Book) (asks : List Question) (y : Book) → stepOf b asks y .answer .number ≡ 0 → stepOf b asks y .after ≡ y
-unfolding stepOf plain
-step-accepted b asks y h = rw h refl
+-- ---- one call on a file that calls have reached
 
-guarded-accepted : (b : Book) (asks : List Question) (s : Outcome Book) → guarded b asks s .answer .number ≡ 0 → guarded b asks s ≡ s
-unfolding guarded stepOf plain
-guarded-accepted b asks s =
-    by-bool (eqb (firstNo asks) 0) (λ h. rw h (λ k. refl)) (λ h. rw h (λ k. absurd (eqb-false (firstNo asks) 0 h k)))
-
-no-bytes : (d : Bytes) → length d ≡ 0 → d ≡ []
-no-bytes [] h = refl
-no-bytes (x ∷ d) h = absurd (omega arith)
-
-entered-text : (b : Book) (name text : Bytes) (h more : ℕ) → bookText (entered b name text h more) name ≡ some text
-unfolding entered bookText textOf
-entered-text b name text h more = rw (find-withEntry (record { name = name; text = text; held = h }) (b .entries)) refl
-
-absent-added : (b : Book) (name bytes : Bytes) → addAbsent b name bytes .answer .number ≡ 0
-    → bookText (addAbsent b name bytes .after) name ≡ some bytes
-unfolding addAbsent placed
-absent-added b name bytes =
-    by-eq (length bytes) 0
-    (λ z. rw (eq-eqb (length bytes) 0 z)
-    (λ k. rw (step-accepted b _ _ k) (entered-text b name [] 0 0 ∙ ap some (sym (no-bytes bytes z)))))
-    (λ z. rw (ne-eqb (length bytes) 0 z)
-    (λ k. rw (step-accepted b _ _ k) (entered-text b name bytes (length bytes) _)))
-
-book-added : (b : Book) (name bytes : Bytes) → bookAdd b name bytes 1 .answer .number ≡ 0
-    → bookText (bookAdd b name bytes 1 .after) name ≡ some bytes
-unfolding bookAdd
-book-added b name bytes k =
-    let e = guarded-accepted b _ (addFound b name bytes 1 (find name (b .entries))) k in
-    ap (λ (s : Outcome Book). bookText (s .after) name) e
-    ∙ go (find name (b .entries)) (sym (ap (λ (s : Outcome Book). s .answer .number) e) ∙ k)
-  where
-    nine : (x : Entry) → firstNo (ask 9 false ∷ []) ≡ 0 → ⊥
-    nine x h = omega (arith, firstNo-no 9 false [] refl)
-
-    go : (f : Option Entry) → addFound b name bytes 1 f .answer .number ≡ 0 → bookText (addFound b name bytes 1 f .after) name ≡ some bytes
-    go none h = unfold addFound in absent-added b name bytes (unfold addFound in h)
-    go (some x) h = absurd (nine x (unfold addFound addPresent stepOf plain in h))
-
--- an accepted delete takes the entry out
-book-deleted : (b : Book) (name : Bytes) → Distinct (b .entries) → bookDelete b name .answer .number ≡ 0
-    → bookText (bookDelete b name .after) name ≡ none
-unfolding bookDelete
-book-deleted b name d k =
-    let e = guarded-accepted b _ (deleteFound b name (find name (b .entries))) k in
-    ap (λ (s : Outcome Book). bookText (s .after) name) e
-    ∙ go (find name (b .entries)) (sym (ap (λ (s : Outcome Book). s .answer .number) e) ∙ k)
-  where
-    fourteen : firstNo (ask 14 false ∷ []) ≡ 0 → ⊥
-    fourteen h = omega (arith, firstNo-no 14 false [] refl)
-
-    go : (f : Option Entry) → deleteFound b name f .answer .number ≡ 0 → bookText (deleteFound b name f .after) name ≡ none
-    go none h = absurd (fourteen (unfold deleteFound stepOf plain in h))
-    go (some x) h = unfold deleteFound stepOf firstNo bookText textOf in ap textOf (find-without-same name (b .entries) d)
-
--- ---- one call
-
--- a name's text after a call that does not name it
 module _ (img : Bytes) (b : Book) (r : Reached img b) where
-  rel : (g : Layout) × Reflects g img b
-  rel = reached-reflects img b r
+  g : Layout
+  g = reached-reflects img b r .0
+
+  rel : Reflects g img b
+  unfolding g
+  rel = reached-reflects img b r .1
+
+  after-add : (key bytes : Bytes) (mode : ℕ) → Same g (add img key bytes mode) (bookAdd b key bytes mode)
+  after-add = same-add g img b rel
+
+  after-delete : (key : Bytes) → Same g (delete img key) (bookDelete b key)
+  after-delete = same-delete g img b rel
+
+  -- the book accepts too
+  number-too : {o : Outcome Bytes} {p : Outcome Book} → Same g o p → o .answer .number ≡ 0 → p .answer .number ≡ 0
+  number-too s ok = sym (ap (λ (x : Answer). x .number) (s .answer)) ∙ ok
+
+  book-has : (key : Bytes) (t : Option Bytes) → fileText img key ≡ t → bookText b key ≡ t
+  book-has key t h = sym (points-agree g img b rel key) ∙ h
+
+  count-is : (i : Bytes) (x : Book) → Reflects g i x → count i .answer .amount ≡ length (x .entries)
+  unfolding bookCount
+  count-is i x s = ap (λ (y : Answer). y .amount) (same-count g i x s .answer)
 
   pub delete-others : (key other : Bytes) → (other ≡ key → ⊥) → fileText (delete img key .after) other ≡ fileText img other
   unfolding bookText
   delete-others key other n =
-      let s = same-delete (rel .0) img b (rel .1) key in
-      points-agree (rel .0) _ _ (s .after) other
-      ∙ ap textOf (delete-other-entry b key other n)
-      ∙ sym (points-agree (rel .0) img b (rel .1) other)
+      points-agree g _ _ (after-delete key .after) other
+      ∙ ap textOf (delete-other (book-delete b key) other n)
+      ∙ sym (points-agree g img b rel other)
 
   pub add-others : (key bytes other : Bytes) (mode : ℕ) → (other ≡ key → ⊥)
       → fileText (add img key bytes mode .after) other ≡ fileText img other
   unfolding bookText
   add-others key bytes other mode n =
-      let s = same-add (rel .0) img b (rel .1) key bytes mode in
-      points-agree (rel .0) _ _ (s .after) other
-      ∙ ap textOf (put-other key other (b .entries) _ (add-put b key bytes mode) n)
-      ∙ sym (points-agree (rel .0) img b (rel .1) other)
+      points-agree g _ _ (after-add key bytes mode .after) other
+      ∙ ap textOf (add-other b key bytes mode other n)
+      ∙ sym (points-agree g img b rel other)
 
-  -- an accepted add in mode 1
+  -- an accepted add, in its three modes
   pub added-found : (key bytes : Bytes) → add img key bytes 1 .answer .number ≡ 0
       → fileText (add img key bytes 1 .after) key ≡ some bytes
   added-found key bytes ok =
-      let s = same-add (rel .0) img b (rel .1) key bytes 1 in
-      points-agree (rel .0) _ _ (s .after) key
-      ∙ book-added b key bytes (sym (ap (λ (x : Rattle.bhtf.specs.Calls.Answer). x .number) (s .answer)) ∙ ok)
+      let s = after-add key bytes 1 in
+      points-agree g _ _ (s .after) key ∙ book-added (book-add b key bytes 1) (number-too s ok)
+
+  pub replaced-found : (key bytes : Bytes) → add img key bytes 2 .answer .number ≡ 0
+      → fileText (add img key bytes 2 .after) key ≡ some bytes
+  replaced-found key bytes ok =
+      let s = after-add key bytes 2 in
+      points-agree g _ _ (s .after) key ∙ book-replaced (book-add b key bytes 2) (number-too s ok)
+
+  pub appended-found : (key bytes old : Bytes) → fileText img key ≡ some old → add img key bytes 3 .answer .number ≡ 0
+      → fileText (add img key bytes 3 .after) key ≡ some (old ++ bytes)
+  appended-found key bytes old h ok =
+      let s = after-add key bytes 3 in
+      points-agree g _ _ (s .after) key ∙ book-appended old (book-has key _ h) (book-add b key bytes 3) (number-too s ok)
+
+  pub appended-new : (key bytes : Bytes) → fileText img key ≡ none → add img key bytes 3 .answer .number ≡ 0
+      → fileText (add img key bytes 3 .after) key ≡ some bytes
+  appended-new key bytes h ok =
+      let s = after-add key bytes 3 in
+      points-agree g _ _ (s .after) key ∙ book-new 3 (book-has key _ h) (book-add b key bytes 3) (number-too s ok) .0
 
   -- an accepted delete
   pub deleted-gone : (key : Bytes) → delete img key .answer .number ≡ 0 → fileText (delete img key .after) key ≡ none
   deleted-gone key ok =
-      let s = same-delete (rel .0) img b (rel .1) key in
-      points-agree (rel .0) _ _ (s .after) key
-      ∙ book-deleted b key (rel .1 .distinct) (sym (ap (λ (x : Rattle.bhtf.specs.Calls.Answer). x .number) (s .answer)) ∙ ok)
+      let s = after-delete key in
+      points-agree g _ _ (s .after) key ∙ book-gone (rel .distinct) (book-delete b key) (number-too s ok) .0
+
+  -- what count answers
+  pub count-added : (key bytes : Bytes) (mode : ℕ) → fileText img key ≡ none → add img key bytes mode .answer .number ≡ 0
+      → count (add img key bytes mode .after) .answer .amount ≡ count img .answer .amount + 1
+  count-added key bytes mode h ok =
+      let s = after-add key bytes mode in
+      omega (
+        arith,
+        count-is _ _ (s .after),
+        count-is img b rel,
+        book-new mode (book-has key _ h) (book-add b key bytes mode) (number-too s ok) .1,
+      )
+
+  -- accepted or refused
+  pub count-replaced : (key bytes old : Bytes) (mode : ℕ) → fileText img key ≡ some old
+      → count (add img key bytes mode .after) .answer .amount ≡ count img .answer .amount
+  count-replaced key bytes old mode h =
+      let e = found-entry b key old (book-has key _ h) in
+      count-is _ _ (after-add key bytes mode .after)
+      ∙ by-put (book-add b key bytes mode) (λ q. ap (λ (x : Book). length (x .entries)) q) (λ t w. given-old w (e .0) (e .1))
+      ∙ sym (count-is img b rel)
+
+  pub count-deleted : (key : Bytes) → delete img key .answer .number ≡ 0
+      → count (delete img key .after) .answer .amount + 1 ≡ count img .answer .amount
+  count-deleted key ok =
+      let s = after-delete key in
+      omega (
+        arith,
+        count-is _ _ (s .after),
+        count-is img b rel,
+        book-gone (rel .distinct) (book-delete b key) (number-too s ok) .1,
+      )
 
 -- ---- lists of calls
 
-by-found : (text key : Bytes) (es : List Entry) (f : Option Entry) → find key es ≡ f → textOf f ≡ some text
-    → (e : Entry) × (find key es ≡ some e)
-unfolding textOf
-by-found text key es none q h = absurd (Option·none-ne-some text h)
-by-found text key es (some e) q h = (e, q)
+-- every call of the list is such a call
+abbrev pub Each : (Call → Type 0) → List Call → Type 0
+Each p [] = Unit {0}
+Each p (c ∷ cs) = p c × Each p cs
 
--- no call of the list deletes the name
-abbrev pub NotDeleted : Bytes → List Call → Type 0
-NotDeleted key [] = Unit {0}
-NotDeleted key (adding k bytes mode ∷ cs) = NotDeleted key cs
-NotDeleted key (deleting k ∷ cs) = (key ≡ k → ⊥) × NotDeleted key cs
-NotDeleted key (looking k ∷ cs) = NotDeleted key cs
-NotDeleted key (counting ∷ cs) = NotDeleted key cs
+-- the call does not delete, or does not add, a point of that name
+abbrev pub NotDeleting : Bytes → Call → Type 0
+NotDeleting key (adding k bytes mode) = Unit {0}
+NotDeleting key (deleting k) = key ≡ k → ⊥
+NotDeleting key (looking k) = Unit {0}
+NotDeleting key counting = Unit {0}
 
--- the book after a call that does not delete the name still has it
-lookup-book : (b : Book) (key : Bytes) → bookLookup b key .after ≡ b
-unfolding bookLookup guarded stepOf
-lookup-book b key =
-    by-bool (eqb (firstNo (ask 7 (nameAllowed (b .terms .K) key) ∷ [])) 0)
-    (λ h. rw h (go (find key (b .entries))))
-    (λ h. rw h refl)
-  where
-    go : (f : Option Entry) → lookupFound b f .after ≡ b
-    go none = unfold lookupFound stepOf in rw (firstNo-no 14 false [] refl) refl
-    go (some e) = unfold lookupFound in refl
+abbrev pub NotAdding : Bytes → Call → Type 0
+NotAdding key (adding k bytes mode) = key ≡ k → ⊥
+NotAdding key (deleting k) = Unit {0}
+NotAdding key (looking k) = Unit {0}
+NotAdding key counting = Unit {0}
 
-stays : (key : Bytes) (calls : List Call) (b : Book) (e : Entry) → NotDeleted key calls → find key (b .entries) ≡ some e
-    → (e′ : Entry) × (find key (stateAfter bookStep calls b .entries) ≡ some e′)
-unfolding stateAfter bookStep bookCount
-stays key [] b e n h = (e, h)
-stays key (adding k bytes mode ∷ cs) b e n h =
-    let one : (e₁ : Entry) × (find key (bookAdd b k bytes mode .after .entries) ≡ some e₁) =
+-- what each such call keeps, the list keeps
+book-keeps : (p : Call → Type 0) (P : Book → Type 0) → ((c : Call) (b : Book) → p c → P b → P (bookStep c b .after))
+    → (calls : List Call) (b : Book) → Each p calls → P b → P (stateAfter bookStep calls b)
+unfolding stateAfter
+book-keeps p P step [] b a h = h
+book-keeps p P step (c ∷ cs) b a h = book-keeps p P step cs (bookStep c b .after) (a .1) (step c b (a .0) h)
+
+-- one call, on the book
+call-keeps : (key : Bytes) (c : Call) (b : Book) → NotDeleting key c → (e : Entry) × (find key (b .entries) ≡ some e)
+    → (e : Entry) × (find key (bookStep c b .after .entries) ≡ some e)
+unfolding bookStep bookCount
+call-keeps key (adding k bytes mode) b n h =
     by-same key k
-    (λ q. put-found key (b .entries) _ e (subst (λ (x : Bytes). Put x (b .entries) (bookAdd b k bytes mode .after .entries)) (sym q) (add-put b k bytes mode)) h)
-    (λ q. (e, put-other k key (b .entries) _ (add-put b k bytes mode) q ∙ h)) in
-    stays key cs (bookAdd b k bytes mode .after) (one .0) n (one .1)
-stays key (deleting k ∷ cs) b e n h =
-    stays key cs (bookDelete b k .after) e (n .1) (delete-other-entry b k key (n .0) ∙ h)
-stays key (looking k ∷ cs) b e n h =
-    stays key cs (bookLookup b k .after) e n (ap (λ (x : Book). find key (x .entries)) (lookup-book b k) ∙ h)
-stays key (counting ∷ cs) b e n h = stays key cs b e n h
+    (λ q. subst (λ (x : Bytes). (e : Entry) × (find x (bookAdd b k bytes mode .after .entries) ≡ some e)) (sym q)
+    (add-keeps b k bytes mode (h .0) (ap (λ (x : Bytes). find x (b .entries)) (sym q) ∙ h .1)))
+    (λ q. (h .0, add-other b k bytes mode key q ∙ h .1))
+call-keeps key (deleting k) b n h = (h .0, delete-other (book-delete b k) key n ∙ h .1)
+call-keeps key (looking k) b n h = (h .0, ap (λ (x : Book). find key (x .entries)) (book-lookup b k) ∙ h .1)
+call-keeps key counting b n h = h
 
--- a point that is found stays found until it is deleted, whatever else is called
-pub stays-found : (img : Bytes) (b : Book) → Reached img b → (key text : Bytes) → fileText img key ≡ some text
-    → (calls : List Call) → NotDeleted key calls
-    → (text′ : Bytes) × (fileText (stateAfter perform calls img) key ≡ some text′)
-stays-found img b r key text h calls n =
-    let s = reached-reflects img b r in
-    let e = entry-of b key text (sym (points-agree (s .0) img b (s .1) key) ∙ h) in
-    let e′ = stays key calls b (e .0) n (e .1) in (
-      e′ .0 .text,
-      points-agree (s .0) _ _ (reflects-after (s .0) calls img b (s .1)) key ∙ text-is (stateAfter bookStep calls b) key (e′ .0) (e′ .1),
-    )
-  where
-    entry-of : (b : Book) (key text : Bytes) → bookText b key ≡ some text → (e : Entry) × (find key (b .entries) ≡ some e)
-    entry-of b key text h = unfold bookText textOf in by-found text key (b .entries) (find key (b .entries)) refl h
+delete-absent : {b : Book} {name : Bytes} {o : Outcome Book} (key : Bytes) → Deleted b name o → find key (b .entries) ≡ none
+    → find key (o .after .entries) ≡ none
+delete-absent key (refused z q) h = ap (λ (x : Book). find key (x .entries)) q ∙ h
+delete-absent {b} {name} {o} key (gone e f q) h =
+    ap (λ (x : Book). find key (x .entries)) q
+    ∙ find-without-other name key (b .entries)
+    (λ s. Option·none-ne-some e (sym h ∙ ap (λ (x : Bytes). find x (b .entries)) s ∙ f))
+    ∙ h
 
-    text-is : (b : Book) (key : Bytes) (e : Entry) → find key (b .entries) ≡ some e → bookText b key ≡ some (e .text)
-    text-is b key e h = unfold bookText textOf in ap textOf h
+call-absent : (key : Bytes) (c : Call) (b : Book) → NotAdding key c → find key (b .entries) ≡ none
+    → find key (bookStep c b .after .entries) ≡ none
+unfolding bookStep bookCount
+call-absent key (adding k bytes mode) b n h = add-other b k bytes mode key n ∙ h
+call-absent key (deleting k) b n h = delete-absent key (book-delete b k) h
+call-absent key (looking k) b n h = ap (λ (x : Book). find key (x .entries)) (book-lookup b k) ∙ h
+call-absent key counting b n h = h
+
+delete-used : {b : Book} {name : Bytes} {o : Outcome Book} → Deleted b name o → o .after .used ≡ b .used
+delete-used (refused z q) = ap (λ (x : Book). x .used) q
+delete-used (gone e f q) = ap (λ (x : Book). x .used) q
+
+call-used : (c : Call) (b : Book) → b .used ≤ bookStep c b .after .used
+unfolding bookStep bookCount
+call-used (adding k bytes mode) b = by-put (book-add b k bytes mode) (λ q. rw q (omega arith)) (λ t w. given-used w)
+call-used (deleting k) b = omega (arith, delete-used (book-delete b k))
+call-used (looking k) b = rw (book-lookup b k) (omega arith)
+call-used counting b = omega arith
+
+used-grows : (calls : List Call) (b : Book) → b .used ≤ stateAfter bookStep calls b .used
+unfolding stateAfter
+used-grows [] b = omega arith
+used-grows (c ∷ cs) b = omega (arith, call-used c b, used-grows cs (bookStep c b .after))
+
+module _ (img : Bytes) (b : Book) (r : Reached img b) where
+  -- a point that is found stays found until it is deleted, whatever else is called
+  pub stays-found : (key text : Bytes) → fileText img key ≡ some text → (calls : List Call) → Each (NotDeleting key) calls
+      → (text′ : Bytes) × (fileText (stateAfter perform calls img) key ≡ some text′)
+  stays-found key text h calls n =
+      let e′ = book-keeps (NotDeleting key) (λ x. (e : Entry) × (find key (x .entries) ≡ some e)) (call-keeps key) calls b n
+      (found-entry b key text (book-has img b r key _ h)) in (
+        e′ .0 .text,
+        points-agree (g img b r) _ _ (reflects-after (g img b r) calls img b (rel img b r)) key
+            ∙ the-text (stateAfter bookStep calls b) key (e′ .0) (e′ .1),
+      )
+
+  -- a point that is not found stays so until it is added
+  pub stays-gone : (key : Bytes) → fileText img key ≡ none → (calls : List Call) → Each (NotAdding key) calls
+      → fileText (stateAfter perform calls img) key ≡ none
+  stays-gone key h calls n =
+      points-agree (g img b r) _ _ (reflects-after (g img b r) calls img b (rel img b r)) key
+      ∙ no-text _ key
+      (book-keeps (NotAdding key) (λ x. find key (x .entries) ≡ none) (call-absent key) calls b n (found-no b key (book-has img b r key _ h)))
+
+  -- "Space once taken is never handed out again": new space is taken at X, and X never falls
+  pub free-grows : (calls : List Call) → field img freeField ≤ field (stateAfter perform calls img) freeField
+  free-grows calls =
+      omega (
+        arith,
+        rel img b r .used,
+        reflects-after (g img b r) calls img b (rel img b r) .used,
+        used-grows calls b,
+      )
+
+-- a point that was deleted stays so until it is added again
+pub deleted-stays-gone : (img : Bytes) (b : Book) → Reached img b → (key : Bytes) → delete img key .answer .number ≡ 0
+    → (calls : List Call) → Each (NotAdding key) calls → fileText (stateAfter perform calls (delete img key .after)) key ≡ none
+deleted-stays-gone img b r key ok calls n =
+    stays-gone (delete img key .after) (bookDelete b key .after)
+    (unfold stateAfter perform bookStep in reached-after img b r (deleting key ∷ [])) key (deleted-gone img b r key ok) calls n

@@ -1,0 +1,261 @@
+-- "Space once taken is never handed out again": of the bytes between D and X an add or a delete changes none but those of the
+-- message of the point that it names. New space begins at X. This holds of any image bytes.
+--     Clear img key p n       the n bytes from p on have none in common with the point's message
+--     add-keeps-bytes, delete-keeps-bytes      such bytes are as they were
+-- Assumes nothing.
+use mathlib.Core.Path.{_≡_, refl, sym, ap, ap₂, _∙_}
+use Prim.Native.Nat.{ℕ, _+_, _-_, _≤_, _<_}
+use native.Mathlib.Omega.{arith}
+use mathlib.Core.Logic.{inl, inr}
+use mathlib.Core.Bool.{true, _&&_}
+use mathlib.Core.List.{[], _∷_, _++_}
+use mathlib.Core.Option.{Option, none, some, Option·none-ne-some}
+use lib.ListN.{length, length-append}
+use lib.Dec.{eqb, leb, ltb}
+use borrow.Author.Tests.{leb-true, lt-leb, eqb-false}
+use Rattle.bhtf.specs.Bytes.{Bytes, part, zeros}
+use Rattle.bhtf.specs.Limits.{inactive, pointsField, freeField}
+use Rattle.bhtf.specs.Image.{field, setField, Layout, layoutOf, slotSize, slot, putSlot, offsetOf, entry}
+use Rattle.bhtf.specs.Search.{met, empty, exhausted, search, isMet}
+use Rattle.bhtf.specs.Messages.{headSize, held, message, takeSpace, retire, overwrite, freshText, renewedText, enter, inserted, relocated, renewed, renewedAt, addedAt, added, deletedAt}
+use Rattle.bhtf.specs.Questions.{nameAllowed, modeKnown, messageSound, somePoint, lengthAllowed, spaceLeft, openNumber, addNumber, deleteNumber}
+use Rattle.bhtf.specs.Calls.{add, delete}
+use Rattle.bhtf.proofs.Tests.{by-bool, by-le, by-eq, and-left}
+use Rattle.bhtf.proofs.Bytes.{Apart, part-store-other, length-zeros}
+use Rattle.bhtf.proofs.Slots.{part-setField-other, part-putSlot-outside, length-putSlot, length-setField, length-entry}
+use Rattle.bhtf.proofs.Opened.{Opened, opened-facts, opened-room, firstNo-head, firstNo-tail}
+use Rattle.bhtf.proofs.Outcomes.{roomOf, settled-yes, delete-closed, delete-7, delete-14, delete-11, delete-accepted, delete-refused, add-closed, add-7, add-8, add-9, add-10-exhausted, add-10-full, add-11, add-renewed, add-fresh, add-refused}
+use Rattle.bhtf.proofs.Probe.{search-met, search-empty, by-search}
+use Rattle.bhtf.proofs.Effects.{area-above, message-end, active-some, by-retire, retire-kept, retire-field, retire-opened, retire-layout, length-message, Spaced, spaced, space-opened, space-layout}
+use Rattle.bhtf.proofs.Frames.{part-closed}
+use Rattle.bhtf.proofs.Stretch.{size}
+use Rattle.agreement.proofs.File.{allowed-length}
+use Rattle.agreement.proofs.Overwrite.{held-length}
+
+-- the n bytes from p on have none in common with the message at the offset
+abbrev Off : Bytes → ℕ → ℕ → ℕ → Type 0
+Off img at p n = (at ≡ 0 → ⊥) → Apart p n at (size (layoutOf img) img at)
+
+-- ---- each effect
+
+module _ (img : Bytes) (o : Opened img) (p n : ℕ) (low : layoutOf img .D ≤ p) where
+  abbrev g : Layout
+  g = layoutOf img
+
+  above : 2048 ≤ p
+  unfolding layoutOf
+  above = omega (arith, area-above img o, low)
+
+  retire-keeps : (at : ℕ) → messageSound g img at ≡ true → Off img at p n → part (retire img at) p n ≡ part img p n
+  retire-keeps at s c =
+      by-retire img o at s (λ (i : Bytes). part i p n ≡ part img p n)
+      (λ h lo hi. part-store-other img at (inactive ∷ []) p n hi (letter (c (active-some img at h))))
+      (λ h. refl)
+    where
+      letter : Apart p n at (size g img at) → Apart p n at 1
+      letter (inl h) = inl h
+      letter (inr h) = inr (unfold headSize in omega arith)
+
+  overwrite-keeps : (at : ℕ) → messageSound g img at ≡ true → Off img at p n → (at ≡ 0 → ⊥) → (t : Bytes) → length t ≤ held g img at
+      → part (overwrite g img at t) p n ≡ part img p n
+  unfolding overwrite
+  overwrite-keeps at s c z t le =
+      let len : length (message g t ++ zeros (held g img at - length t)) ≡ size g img at =
+      length-append (message g t) (zeros (held g img at - length t))
+      ∙ ap₂ _+_ (length-message g t) (length-zeros (held g img at - length t))
+      ∙ omega (arith, held-length g img at z, le) in
+      part-store-other img at _ p n (rw len (omega (arith, message-end img o at s z, o .free-high))) (rw len (c z))
+
+  put-keeps : (i : ℕ) (s : Bytes) → i < g .N → length s ≡ slotSize g → part (putSlot g img i s) p n ≡ part img p n
+  put-keeps i s l len = part-putSlot-outside g img (opened-room img o) i s p n l len (inr low)
+
+  enter-keeps : (i : ℕ) (key : Bytes) (x : ℕ) → i < g .N → length (entry key x) ≡ slotSize g → part (enter g img i key x) p n ≡ part img p n
+  unfolding enter
+  enter-keeps i key x l len =
+      part-setField-other (putSlot g img i (entry key x)) pointsField _ p n
+      (rw (length-putSlot g img (opened-room img o) i (entry key x) l len) (omega (arith, o .size-low)))
+      (inr (omega (arith, above)))
+      ∙ put-keeps i (entry key x) l len
+
+  space-keeps : (t : Bytes) → field img freeField + headSize g + length t ≤ length img → p + n ≤ field img freeField
+      → part (takeSpace g img t) p n ≡ part img p n
+  space-keeps t fits high = spaced img o t fits .below p n low high
+
+-- ---- what an accepted call leaves
+
+module _ (img : Bytes) (o : Opened img) (p n : ℕ) (low : layoutOf img .D ≤ p) (i : ℕ) (l : i < layoutOf img .N) where
+  -- a message made inactive, and its slot closed
+  delete-keeps : messageSound (layoutOf img) img (offsetOf (layoutOf img) (slot (layoutOf img) img i)) ≡ true
+      → Off img (offsetOf (layoutOf img) (slot (layoutOf img) img i)) p n
+      → part (deletedAt (layoutOf img) img i) p n ≡ part img p n
+  unfolding deletedAt
+  delete-keeps s c =
+      let at = offsetOf (layoutOf img) (slot (layoutOf img) img i) in
+      let off = retire img at in
+      let long : pointsField + 4 ≤ length off = omega (arith, retire-kept img o at s .size, o .size-low) in
+      part-closed (layoutOf img) (setField off pointsField (field img pointsField - 1))
+      (rw (length-setField off pointsField (field img pointsField - 1) long, retire-kept img o at s .size) (opened-room img o))
+      i l p n (inr low)
+      ∙ part-setField-other off pointsField (field img pointsField - 1) p n long (inr (omega (arith, above img o p n low)))
+      ∙ retire-keeps img o p n low at s c
+
+  module _ (high : p + n ≤ field img freeField) (key : Bytes) (named : length key ≡ layoutOf img .K) where
+    entry-size : (x : ℕ) → length (entry key x) ≡ slotSize (layoutOf img)
+    entry-size x = length-entry (layoutOf img) key x named
+
+    fits : (t : Bytes) → roomOf (layoutOf img) img (some t) ≡ 0 → field img freeField + headSize (layoutOf img) + length t ≤ length img
+    unfolding spaceLeft
+    fits t h =
+        leb-true _ _
+        (firstNo-head 13 (leb (field img freeField + headSize (layoutOf img) + length t) (length img)) [] (λ z. omega arith)
+        (firstNo-tail 12 (lengthAllowed (layoutOf img) (some t)) _ (λ z. omega arith) h))
+
+    insert-keeps : (t : Option Bytes) → roomOf (layoutOf img) img t ≡ 0 → part (inserted (layoutOf img) img i key t) p n ≡ part img p n
+    unfolding inserted
+    insert-keeps none h = enter-keeps img o p n low i key 0 l (entry-size 0)
+    insert-keeps (some t) h =
+        let same = space-layout img o t (fits t h) in
+        (rw same at
+        (enter-keeps (takeSpace (layoutOf img) img t) (space-opened img o t (fits t h)) p n (rw same low) i key (field img freeField) (rw same l)
+        (rw same (entry-size (field img freeField)))))
+        ∙ space-keeps img o p n low t (fits t h) high
+
+    module _ (at : ℕ) (s : messageSound (layoutOf img) img at ≡ true) (c : Off img at p n) where
+      relocate-keeps : (t : Bytes) → roomOf (layoutOf img) img (some t) ≡ 0
+          → part (relocated (layoutOf img) img i at key t) p n ≡ part img p n
+      unfolding relocated
+      relocate-keeps t h =
+          let off = retire img at in
+          let same = retire-layout img o at s in
+          let x = retire-field img o at s freeField (omega arith) in
+          let is : Spaced (layoutOf img) off t =
+          rw same at (spaced off (retire-opened img o at s) t (rw (same, x, retire-kept img o at s .size) (fits t h))) in
+          part-putSlot-outside (layoutOf img) (takeSpace (layoutOf img) off t)
+          (rw (is .kept .size, retire-kept img o at s .size) (opened-room img o))
+          i (entry key (field img freeField)) p n l (entry-size (field img freeField)) (inr low)
+          ∙ is .below p n low (rw x high)
+          ∙ retire-keeps img o p n low at s c
+
+      renew-keeps : (bytes : Bytes) (mode : ℕ) (t : Option Bytes) → renewedText (layoutOf img) img at bytes mode ≡ t
+          → roomOf (layoutOf img) img t ≡ 0 → part (renewed (layoutOf img) img i at key bytes mode t) p n ≡ part img p n
+      unfolding renewed
+      renew-keeps bytes mode (some t) q h = relocate-keeps t h
+      renew-keeps bytes mode none q h =
+          by-bool (eqb mode 2)
+          (λ two. rw two (by-bool (eqb (length bytes) 0)
+          (λ z. rw z (retire-keeps img o p n low at s c))
+          (λ z. rw z
+          (let le : length bytes ≤ held (layoutOf img) img at = in-place bytes mode two q in
+          overwrite-keeps img o p n low at s c (λ w. eqb-false (length bytes) 0 z (omega (arith, le, held-zero w))) bytes le))))
+          (λ other. rw other refl)
+        where
+          held-zero : at ≡ 0 → held (layoutOf img) img at ≡ 0
+          held-zero w = unfold held in rw w refl
+
+          in-place : (bytes : Bytes) (mode : ℕ) → eqb mode 2 ≡ true → renewedText (layoutOf img) img at bytes mode ≡ none
+              → length bytes ≤ held (layoutOf img) img at
+          in-place bytes mode two q =
+              by-le (length bytes) (held (layoutOf img) img at)
+              (λ le. le)
+              (λ lt. absurd (Option·none-ne-some bytes (sym q ∙ (unfold renewedText in rw (two, lt-leb _ _ lt) refl))))
+
+-- ---- the calls
+
+-- the n bytes from p on have none in common with the message of the point of that name, if it has one
+abbrev pub Clear : Bytes → Bytes → ℕ → ℕ → Type 0
+Clear img key p n =
+    (i : ℕ) → search (layoutOf img) img key ≡ met i → (offsetOf (layoutOf img) (slot (layoutOf img) img i) ≡ 0 → ⊥)
+    → Apart p n (offsetOf (layoutOf img) (slot (layoutOf img) img i))
+    (size (layoutOf img) img (offsetOf (layoutOf img) (slot (layoutOf img) img i)))
+
+module _ (img key : Bytes) (p n : ℕ) (low : layoutOf img .D ≤ p) (c : Clear img key p n) where
+  abbrev G : Layout
+  G = layoutOf img
+
+  some-slot : Opened img → 0 < G .N
+  unfolding layoutOf
+  some-slot o = omega (arith, o .slots-low)
+
+  -- of an accepted delete
+  module _ (z : deleteNumber img key ≡ 0) where
+    delete-open : openNumber img ≡ 0
+    delete-open = by-eq (openNumber img) 0 (λ e. e) (λ e. absurd (e (sym (delete-closed img key e) ∙ z)))
+
+    delete-opened : Opened img
+    delete-opened = opened-facts img delete-open
+
+    not-zero : (k : ℕ) → deleteNumber img key ≡ k → (k ≡ 0 → ⊥) → ⊥
+    not-zero k e w = w (sym e ∙ z)
+
+    delete-bytes : part (delete img key .after) p n ≡ part img p n
+    delete-bytes =
+        by-bool (nameAllowed (G .K) key)
+        (λ a. by-search G img key (some-slot delete-opened)
+        (λ i m.
+        by-bool (messageSound G img (offsetOf G (slot G img i)) && somePoint img)
+        (λ s.
+        ap (λ (x : Bytes). part x p n) (delete-accepted img key delete-open a i m z)
+        ∙ delete-keeps img delete-opened p n low i (search-met G img key (some-slot delete-opened) i m .0)
+        (and-left _ (somePoint img) s) (c i m))
+        (λ s. absurd (not-zero 11 (delete-11 img key delete-open a i m s) (λ w. omega arith))))
+        (λ i m. absurd (not-zero 14 (delete-14 img key delete-open a (unfold isMet in ap isMet m)) (λ w. omega arith)))
+        (λ m. absurd (not-zero 14 (delete-14 img key delete-open a (unfold isMet in ap isMet m)) (λ w. omega arith))))
+        (λ a. absurd (not-zero 7 (delete-7 img key delete-open a) (λ w. omega arith)))
+
+  pub delete-keeps-bytes : part (delete img key .after) p n ≡ part img p n
+  delete-keeps-bytes =
+      by-eq (deleteNumber img key) 0 delete-bytes (λ z. ap (λ (x : Bytes). part x p n) (delete-refused img key z))
+
+  -- of an accepted add
+  module _ (high : p + n ≤ field img freeField) (bytes : Bytes) (mode : ℕ) where
+    module _ (z : addNumber img key bytes mode ≡ 0) where
+      add-open : openNumber img ≡ 0
+      add-open = by-eq (openNumber img) 0 (λ e. e) (λ e. absurd (e (sym (add-closed img key e bytes mode) ∙ z)))
+
+      o : Opened img
+      o = opened-facts img add-open
+
+      add-not : (k : ℕ) → addNumber img key bytes mode ≡ k → (k ≡ 0 → ⊥) → ⊥
+      add-not k e w = w (sym e ∙ z)
+
+      module _ (a : nameAllowed (G .K) key ≡ true) (k : modeKnown mode ≡ true) where
+        of-met : (i : ℕ) → search G img key ≡ met i → part (added G img key bytes mode) p n ≡ part img p n
+        unfolding added addedAt renewedAt
+        of-met i m =
+            rw m
+            (by-bool (eqb mode 1)
+            (λ one. absurd (add-not 9 (add-9 img key add-open bytes mode a k i m one) (λ w. omega arith)))
+            (λ one. by-bool (messageSound G img (offsetOf G (slot G img i)))
+            (λ s.
+            renew-keeps img o p n low i (search-met G img key (some-slot o) i m .0) high key (allowed-length G key a)
+            (offsetOf G (slot G img i)) s (c i m) bytes mode _ refl
+            (sym (add-renewed img key add-open bytes mode a k i m one s) ∙ z))
+            (λ s. absurd (add-not 11 (add-11 img key add-open bytes mode a k i m one s) (λ w. omega arith)))))
+
+        of-empty : (i : ℕ) → search G img key ≡ empty i → part (added G img key bytes mode) p n ≡ part img p n
+        unfolding added addedAt
+        of-empty i m =
+            rw m
+            (by-bool (ltb (field img pointsField) (G .N))
+            (λ lt.
+            insert-keeps img o p n low i (search-empty G img key (some-slot o) i m .0) high key (allowed-length G key a)
+            (freshText bytes mode) (sym (add-fresh img key add-open bytes mode a k i m lt) ∙ z))
+            (λ lt. absurd (add-not 10 (add-10-full img key add-open bytes mode a k i m lt) (λ w. omega arith))))
+
+        of-exhausted : search G img key ≡ exhausted → part (added G img key bytes mode) p n ≡ part img p n
+        of-exhausted m = absurd (add-not 10 (add-10-exhausted img key add-open bytes mode a k m) (λ w. omega arith))
+
+      add-bytes : part (add img key bytes mode .after) p n ≡ part img p n
+      unfolding add
+      add-bytes =
+          ap (λ (x : Bytes). part x p n) (settled-yes (addNumber img key bytes mode) img (added G img key bytes mode) z)
+          ∙ by-bool (nameAllowed (G .K) key)
+          (λ a. by-bool (modeKnown mode)
+          (λ k. by-search G img key (some-slot o) (of-met a k) (of-empty a k) (of-exhausted a k))
+          (λ k. absurd (add-not 8 (add-8 img key add-open bytes mode a k) (λ w. omega arith))))
+          (λ a. absurd (add-not 7 (add-7 img key add-open bytes mode a) (λ w. omega arith)))
+
+    pub add-keeps-bytes : part (add img key bytes mode .after) p n ≡ part img p n
+    add-keeps-bytes =
+        by-eq (addNumber img key bytes mode) 0 add-bytes
+        (λ z. ap (λ (x : Bytes). part x p n) (add-refused img key bytes mode z))

@@ -1,0 +1,213 @@
+-- What a step does to the book: nothing, or one entry is put in, or one is taken out.
+--     Given name text b b′     b′ is b with that text under the name
+--     Added, book-add          what an add does, by cases; by-put, add-other, add-keeps: what they have in common
+--     Deleted, book-delete     what a delete does, by cases
+-- Assumes nothing.
+use mathlib.Core.Path.{_≡_, refl, sym, ap, _∙_}
+use Prim.Native.Nat.{ℕ, suc, _≤_}
+use native.Mathlib.Omega.{arith}
+use mathlib.Core.Bool.{false}
+use mathlib.Core.List.{List, [], _∷_, _++_}
+use mathlib.Core.Option.{Option, none, some}
+use lib.ListN.{length}
+use lib.Dec.{eqb}
+use borrow.Author.Tests.{eq-eqb, ne-eqb, le-leb, lt-leb}
+use Rattle.bhtf.specs.Bytes.{Bytes}
+use Rattle.bhtf.specs.Questions.{Question, ask, firstNo, nameAllowed}
+use Rattle.bhtf.specs.Calls.{Outcome, plain}
+use Rattle.bhtf.specs.Book.{Entry, Book, find, without, stepOf, guarded, entered, placed, addAbsent, replace, append, addPresent, addFound, bookAdd, deleteFound, bookDelete, lookupFound, bookLookup}
+use Rattle.bhtf.specs.Demand.{bookText, textOf}
+use Rattle.bhtf.proofs.Tests.{by-bool, by-eq, by-le}
+use Rattle.bhtf.proofs.Opened.{firstNo-none, firstNo-no}
+use Rattle.agreement.proofs.Entries.{find-same, find-without-other, find-withEntry, find-withEntry-other, length-withEntry-new, length-withEntry-old}
+
+-- ---- a text given to a name
+
+pub record Given (name text : Bytes) (b b′ : Book) : Type 0 where
+  pub held : ℕ
+  pub more : ℕ
+  pub is : b′ ≡ entered b name text held more
+
+module _ {name text : Bytes} {b b′ : Book} (w : Given name text b b′) where
+  abbrev new : Entry
+  new = record { name = name; text = text; held = w .held }
+
+  pub given-find : find name (b′ .entries) ≡ some new
+  unfolding entered
+  given-find = rw (w .is) (find-withEntry new (b .entries))
+
+  pub given-text : bookText b′ name ≡ some text
+  unfolding bookText textOf
+  given-text = ap textOf given-find
+
+  pub given-other : (other : Bytes) → (other ≡ name → ⊥) → find other (b′ .entries) ≡ find other (b .entries)
+  unfolding entered
+  given-other other n = rw (w .is) (find-withEntry-other new (b .entries) other n)
+
+  pub given-used : b .used ≤ b′ .used
+  unfolding entered
+  given-used = rw (w .is) (omega arith)
+
+  pub given-new : find name (b .entries) ≡ none → length (b′ .entries) ≡ suc (length (b .entries))
+  unfolding entered
+  given-new h = rw (w .is) (length-withEntry-new new (b .entries) h)
+
+  pub given-old : (e : Entry) → find name (b .entries) ≡ some e → length (b′ .entries) ≡ length (b .entries)
+  unfolding entered
+  given-old e h = rw (w .is) (length-withEntry-old new (b .entries) e h)
+
+-- ---- add, by cases
+
+pub data Added (b : Book) (name bytes : Bytes) (mode : ℕ) (o : Outcome Book) : Type 0 where
+  refused : (o .answer .number ≡ 0 → ⊥) → o .after ≡ b → Added b name bytes mode o
+  fresh : find name (b .entries) ≡ none → Given name bytes b (o .after) → Added b name bytes mode o
+  replaced : (e : Entry) → find name (b .entries) ≡ some e → mode ≡ 2 → Given name bytes b (o .after) → Added b name bytes mode o
+  appended : (e : Entry) → find name (b .entries) ≡ some e → (mode ≡ 1 → ⊥) → (mode ≡ 2 → ⊥)
+      → Given name (e .text ++ bytes) b (o .after) → Added b name bytes mode o
+  unchanged : (e : Entry) → find name (b .entries) ≡ some e → (mode ≡ 1 → ⊥) → (mode ≡ 2 → ⊥) → bytes ≡ [] → o .after ≡ b
+      → Added b name bytes mode o
+
+no-bytes : (d : Bytes) → length d ≡ 0 → d ≡ []
+no-bytes [] h = refl
+no-bytes (x ∷ d) h = absurd (omega arith)
+
+module _ (b : Book) (name bytes : Bytes) (mode : ℕ) where
+  abbrev Here : Outcome Book → Type 0
+  Here = Added b name bytes mode
+
+  -- a step is refused and leaves the book, or leaves the next one
+  step-cases : (asks : List Question) (y : Book)
+      → (stepOf b asks y .after ≡ y → Here (stepOf b asks y)) → Here (stepOf b asks y)
+  unfolding stepOf plain
+  step-cases asks y f =
+      by-eq (firstNo asks) 0
+      (λ h. f (rw h refl))
+      (λ h. refused h (rw (ne-eqb (firstNo asks) 0 h) refl))
+
+  step-refused : (n : ℕ) (y : Book) → (n ≡ 0 → ⊥) → Here (stepOf b (ask n false ∷ []) y)
+  unfolding stepOf plain
+  step-refused n y z =
+      rw (firstNo-no n false [] refl, ne-eqb n 0 z) (refused z refl)
+
+  gives : (text : Bytes) (h more : ℕ) (k : Bytes) (b′ : Book) → k ≡ name → b′ ≡ entered b k text h more → Given name text b b′
+  gives text h more k b′ q e = record { held = h; more = more; is = e ∙ ap (λ (x : Bytes). entered b x text h more) q }
+
+  add-new : find name (b .entries) ≡ none → Here (addAbsent b name bytes)
+  unfolding addAbsent placed
+  add-new n =
+      by-eq (length bytes) 0
+      (λ z. rw (eq-eqb (length bytes) 0 z)
+      (step-cases _ _ (λ e. fresh n (gives bytes 0 0 name _ refl (e ∙ ap (λ (t : Bytes). entered b name t 0 0) (sym (no-bytes bytes z)))))))
+      (λ z. rw (ne-eqb (length bytes) 0 z) (step-cases _ _ (λ e. fresh n (gives bytes _ _ name _ refl e))))
+
+  module _ (e : Entry) (f : find name (b .entries) ≡ some e) where
+    is-name : e .name ≡ name
+    is-name = find-same name (b .entries) e f
+
+    add-replace : mode ≡ 2 → Here (replace b e bytes)
+    unfolding replace placed
+    add-replace two =
+        by-eq (length bytes) 0
+        (λ z. rw (eq-eqb (length bytes) 0 z)
+        (step-cases _ _ (λ q. replaced e f two
+        (gives bytes _ 0 (e .name) _ is-name (q ∙ ap (λ (t : Bytes). entered b (e .name) t (e .held) 0) (sym (no-bytes bytes z)))))))
+        (λ z. rw (ne-eqb (length bytes) 0 z) (by-le (length bytes) (e .held)
+        (λ l. rw (le-leb _ _ l) (step-cases _ _ (λ q. replaced e f two (gives bytes _ _ (e .name) _ is-name q))))
+        (λ l. rw (lt-leb _ _ l) (step-cases _ _ (λ q. replaced e f two (gives bytes _ _ (e .name) _ is-name q))))))
+
+    add-append : (mode ≡ 1 → ⊥) → (mode ≡ 2 → ⊥) → Here (append b e bytes)
+    unfolding append placed
+    add-append n₁ n₂ =
+        by-eq (length bytes) 0
+        (λ z. rw (eq-eqb (length bytes) 0 z) (step-cases _ _ (λ q. unchanged e f n₁ n₂ (no-bytes bytes z) q)))
+        (λ z. rw (ne-eqb (length bytes) 0 z)
+        (step-cases _ _ (λ q. appended e f n₁ n₂ (gives (e .text ++ bytes) _ _ (e .name) _ is-name q))))
+
+    add-present : Here (addPresent b e bytes mode)
+    unfolding addPresent
+    add-present =
+        by-eq mode 1
+        (λ h. rw (eq-eqb mode 1 h) (step-refused 9 b (λ z. omega arith)))
+        (λ n₁. rw (ne-eqb mode 1 n₁) (by-eq mode 2
+        (λ h. rw (eq-eqb mode 2 h) (add-replace h))
+        (λ n₂. rw (ne-eqb mode 2 n₂) (add-append n₁ n₂))))
+
+  add-found : (f : Option Entry) → find name (b .entries) ≡ f → Here (addFound b name bytes mode f)
+  unfolding addFound
+  add-found none q = add-new q
+  add-found (some e) q = add-present e q
+
+  guarded-cases : (asks : List Question) (s : Outcome Book) → Here s → Here (guarded b asks s)
+  unfolding guarded
+  guarded-cases asks s h =
+      by-eq (firstNo asks) 0
+      (λ z. rw (eq-eqb (firstNo asks) 0 z) h)
+      (λ z. rw (ne-eqb (firstNo asks) 0 z) (unfold stepOf plain in refused z (rw (ne-eqb (firstNo asks) 0 z) refl)))
+
+  pub book-add : Here (bookAdd b name bytes mode)
+  unfolding bookAdd
+  book-add = guarded-cases _ _ (add-found (find name (b .entries)) refl)
+
+-- the book is as it was, or has a text under the name
+pub by-put {ℓ} : {A : Type ℓ} {b : Book} {name bytes : Bytes} {mode : ℕ} {o : Outcome Book} → Added b name bytes mode o
+    → (o .after ≡ b → A) → ((text : Bytes) → Given name text b (o .after) → A) → A
+by-put (refused z q) kept given = kept q
+by-put (fresh n w) kept given = given _ w
+by-put (replaced e f m w) kept given = given _ w
+by-put (appended e f n₁ n₂ w) kept given = given _ w
+by-put (unchanged e f n₁ n₂ z q) kept given = kept q
+
+-- another name's entry is as it was
+pub add-other : (b : Book) (name bytes : Bytes) (mode : ℕ) (other : Bytes) → (other ≡ name → ⊥)
+    → find other (bookAdd b name bytes mode .after .entries) ≡ find other (b .entries)
+add-other b name bytes mode other n =
+    by-put (book-add b name bytes mode)
+    (λ q. ap (λ (x : Book). find other (x .entries)) q)
+    (λ text w. given-other w other n)
+
+-- the name's own entry does not go
+pub add-keeps : (b : Book) (name bytes : Bytes) (mode : ℕ) (e : Entry) → find name (b .entries) ≡ some e
+    → (e′ : Entry) × (find name (bookAdd b name bytes mode .after .entries) ≡ some e′)
+add-keeps b name bytes mode e h =
+    by-put (book-add b name bytes mode)
+    (λ q. (e, ap (λ (x : Book). find name (x .entries)) q ∙ h))
+    (λ text w. (_, given-find w))
+
+-- ---- delete and lookup
+
+pub data Deleted (b : Book) (name : Bytes) (o : Outcome Book) : Type 0 where
+  refused : (o .answer .number ≡ 0 → ⊥) → o .after ≡ b → Deleted b name o
+  gone : (e : Entry) → find name (b .entries) ≡ some e
+      → o .after ≡ record { terms = b .terms; entries = without name (b .entries); used = b .used } → Deleted b name o
+
+module _ (b : Book) (name : Bytes) where
+  delete-found : (f : Option Entry) → find name (b .entries) ≡ f → Deleted b name (deleteFound b name f)
+  unfolding deleteFound stepOf plain
+  delete-found none q = rw (firstNo-no 14 false [] refl) (refused (λ z. omega arith) refl)
+  delete-found (some e) q = rw firstNo-none (gone e q refl)
+
+  pub book-delete : Deleted b name (bookDelete b name)
+  unfolding bookDelete guarded stepOf plain
+  book-delete =
+      by-eq (firstNo (ask 7 (nameAllowed (b .terms .K) name) ∷ [])) 0
+      (λ z. rw (eq-eqb _ 0 z) (delete-found (find name (b .entries)) refl))
+      (λ z. rw (ne-eqb _ 0 z) (refused z refl))
+
+  lookup-found : (f : Option Entry) → lookupFound b f .after ≡ b
+  unfolding lookupFound stepOf
+  lookup-found none = rw (firstNo-no 14 false [] refl) refl
+  lookup-found (some e) = refl
+
+  pub book-lookup : bookLookup b name .after ≡ b
+  unfolding bookLookup guarded stepOf
+  book-lookup =
+      by-bool (eqb (firstNo (ask 7 (nameAllowed (b .terms .K) name) ∷ [])) 0)
+      (λ h. rw h (lookup-found (find name (b .entries))))
+      (λ h. rw h refl)
+
+-- another name's entry is as it was
+pub delete-other : {b : Book} {name : Bytes} {o : Outcome Book} → Deleted b name o → (other : Bytes) → (other ≡ name → ⊥)
+    → find other (o .after .entries) ≡ find other (b .entries)
+delete-other (refused z q) other n = ap (λ (x : Book). find other (x .entries)) q
+delete-other {b} {name} (gone e f q) other n =
+    ap (λ (x : Book). find other (x .entries)) q ∙ find-without-other name other (b .entries) n
