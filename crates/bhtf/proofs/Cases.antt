@@ -232,9 +232,9 @@ two = 2 ∷ []
 
 -- Byte 1 is added with "PQR". "Lookup answers the message length .. and hands back the message bytes"; "count answers C". Replaced
 -- by nothing, "length 0 turns "a" into "d"", and lookup shows no text; by as many bytes as stand there, "written there as active".
--- "V" is appended, "copied with the new bytes behind it into new space, and the old header becomes "d"". The shorter "WX" is written
--- there "with the rest of the old bytes zeroed". (A longer text: `free-4`.) Deleted: 14, and one point less; a second delete gives
--- 14. Added anew with "Y" it shows that; "Space once taken is never handed out again".
+-- "V" is appended, "copied with the new bytes behind it into new space, and the old header becomes "d"". The shorter "WX" is
+-- written there "with the rest of the old bytes zeroed". (A longer text: `free-4`.) Deleted: 14, and one point less; a second delete
+-- gives 14. Added anew with "Y" it shows that; "Space once taken is never handed out again".
 pub life : Both 8192 4
     (adding one (80 ∷ 81 ∷ 82 ∷ []) 1 ∷ looking one ∷ counting ∷ adding one [] 2 ∷ looking one
     ∷ adding one (83 ∷ 84 ∷ 85 ∷ []) 2 ∷ adding one (86 ∷ []) 3 ∷ adding one (87 ∷ 88 ∷ []) 2 ∷ looking one
@@ -347,7 +347,7 @@ book-12 = refl
 
 -- ---- messages of a file, on bytes fewer than an image has
 
--- one slot, at 2,048, of byte 1; its message from D = 2,053 on, so many bytes, X behind "P", and 6 bytes more
+-- one slot, of byte 1, at 2,048; from D = 2,053 on the bytes of its message, then 6 more; X = 2,058
 abbrev pub shortLayout : Layout
 shortLayout = record { K = 1; N = 1; D = 2053; W = 3; most = 3; hashed = λ key. 0 }
 
@@ -397,7 +397,8 @@ unfolding short
 sound-message = (refl, refl, refl, refl, refl, refl)
 
 -- a message all right, but a byte below D
-pub sound-below : messageSound (record { K = 1; N = 1; D = 2054; W = 3; most = 3; hashed = λ key. 0 }) (short (97 ∷ 0 ∷ 0 ∷ 1 ∷ 80 ∷ [])) 2053 ≡ false
+pub sound-below : messageSound (record { K = 1; N = 1; D = 2054; W = 3; most = 3; hashed = λ key. 0 })
+    (short (97 ∷ 0 ∷ 0 ∷ 1 ∷ 80 ∷ [])) 2053 ≡ false
 unfolding short
 sound-below = refl
 
