@@ -232,16 +232,13 @@ two = 2 ∷ []
 
 -- Byte 1 is added with "PQR". "Lookup answers the message length .. and hands back the message bytes"; "count answers C". Replaced
 -- by nothing, "length 0 turns "a" into "d"", and lookup shows no text; by as many bytes as stand there, "written there as active".
--- "V" is appended, "copied with the new bytes behind it into new space, and the old header becomes "d"". The shorter "WX" is
--- written there "with the rest of the old bytes zeroed". (A longer text: `free-4`.) Deleted: 14, and one point less; a second delete
--- gives 14. Added anew with "Y" it shows that; "Space once taken is never handed out again".
+-- "V" is appended, "copied with the new bytes behind it into new space, and the old header becomes "d"". Deleted, "the message
+-- header, if active, becomes "d""; no space comes back.
 pub life : Both 8192 4
-    (adding one (80 ∷ 81 ∷ 82 ∷ []) 1 ∷ looking one ∷ counting ∷ adding one [] 2 ∷ looking one
-    ∷ adding one (83 ∷ 84 ∷ 85 ∷ []) 2 ∷ adding one (86 ∷ []) 3 ∷ adding one (87 ∷ 88 ∷ []) 2 ∷ looking one
-    ∷ deleting one ∷ looking one ∷ counting ∷ deleting one ∷ adding one (89 ∷ []) 1 ∷ looking one ∷ [])
-    (done ∷ shows 3 (80 ∷ 81 ∷ 82 ∷ []) ∷ counts 1 ∷ done ∷ shows 0 [] ∷ done ∷ done ∷ done ∷ shows 2 (87 ∷ 88 ∷ []) ∷ done
-    ∷ refused 14 ∷ counts 0 ∷ refused 14 ∷ done ∷ shows 1 (89 ∷ []) ∷ [])
-    20 (100 ∷ 0 ∷ 0 ∷ 3 ∷ 83 ∷ 84 ∷ 85 ∷ 100 ∷ 0 ∷ 0 ∷ 2 ∷ 87 ∷ 88 ∷ 0 ∷ 0 ∷ 97 ∷ 0 ∷ 0 ∷ 1 ∷ 89 ∷ [])
+    (adding one (80 ∷ 81 ∷ 82 ∷ []) 1 ∷ counting ∷ adding one [] 2 ∷ looking one ∷ adding one (83 ∷ 84 ∷ 85 ∷ []) 2
+    ∷ adding one (86 ∷ []) 3 ∷ looking one ∷ deleting one ∷ counting ∷ [])
+    (done ∷ counts 1 ∷ done ∷ shows 0 [] ∷ done ∷ done ∷ shows 4 (83 ∷ 84 ∷ 85 ∷ 86 ∷ []) ∷ done ∷ counts 0 ∷ [])
+    15 (100 ∷ 0 ∷ 0 ∷ 3 ∷ 83 ∷ 84 ∷ 85 ∷ 100 ∷ 0 ∷ 0 ∷ 4 ∷ 83 ∷ 84 ∷ 85 ∷ 86 ∷ [])
 unfolding filed booked fresh
 life = (refl, refl)
 
@@ -293,32 +290,41 @@ pub book-refilled-shorter : booked
 unfolding booked
 book-refilled-shorter = refl
 
+-- "Delete: 14 if absent, else the entry goes; U stays." The other text is as it was; added anew, the point shows its new text.
+pub book-deleted : booked
+    (adding one (80 ∷ []) 1 ∷ adding two (81 ∷ 82 ∷ []) 1 ∷ counting ∷ deleting one ∷ looking one ∷ counting ∷ deleting one
+    ∷ looking two ∷ adding one (83 ∷ []) 1 ∷ looking one ∷ counting ∷ [])
+    (newBook (termsOf 8192 1 4))
+    ≡ done ∷ done ∷ counts 2 ∷ done ∷ refused 14 ∷ counts 1 ∷ refused 14 ∷ shows 2 (81 ∷ 82 ∷ []) ∷ done ∷ shows 1 (83 ∷ [])
+    ∷ counts 2 ∷ shows 16 [] ∷ []
+unfolding booked
+book-deleted = refl
+
 -- ---- refused calls
 
--- Points without a text, and no room for any: 13 for data; "Add, key absent" in mode 2 too; modes 2 and 3 with no data change
--- nothing. Absent: 14.
+-- Points without a text, and no room for any: 13 for data; "Add, key absent" in mode 2 too; append of no data changes nothing.
+-- Absent: 14.
 pub no-messages : Both 4096 4
-    (looking one ∷ adding one [] 2 ∷ adding one (80 ∷ []) 3 ∷ adding two (80 ∷ []) 1 ∷ adding one [] 2 ∷ adding one [] 3
-    ∷ looking one ∷ looking two ∷ counting ∷ [])
-    (refused 14 ∷ done ∷ refused 13 ∷ refused 13 ∷ done ∷ done ∷ shows 0 [] ∷ refused 14 ∷ counts 1 ∷ [])
+    (looking one ∷ adding one [] 2 ∷ adding one (80 ∷ []) 3 ∷ adding two (80 ∷ []) 1 ∷ adding one [] 3 ∷ looking one ∷ counting ∷ [])
+    (refused 14 ∷ done ∷ refused 13 ∷ refused 13 ∷ done ∷ shows 0 [] ∷ counts 1 ∷ [])
     0 []
 unfolding filed booked fresh
 no-messages = (refl, refl)
 
 -- Present in mode 1: 9. Modes 0 and 4: 8. A name of no or of two bytes: 7, before 8; lookup and delete ask 7 too.
 pub refused-adds : Both 4096 4
-    (point 1 ∷ point 1 ∷ adding one (81 ∷ []) 1 ∷ adding one [] 0 ∷ adding two [] 4 ∷ adding [] [] 1
-    ∷ adding (1 ∷ 2 ∷ []) [] 4 ∷ looking (1 ∷ 2 ∷ []) ∷ looking [] ∷ deleting (1 ∷ 2 ∷ []) ∷ looking one ∷ counting ∷ [])
-    (done ∷ refused 9 ∷ refused 9 ∷ refused 8 ∷ refused 8 ∷ refused 7 ∷ refused 7 ∷ refused 7 ∷ refused 7 ∷ refused 7
-    ∷ shows 0 [] ∷ counts 1 ∷ [])
+    (point 1 ∷ point 1 ∷ adding one [] 0 ∷ adding two [] 4 ∷ adding [] [] 1 ∷ adding (1 ∷ 2 ∷ []) [] 4 ∷ looking (1 ∷ 2 ∷ [])
+    ∷ deleting [] ∷ counting ∷ [])
+    (done ∷ refused 9 ∷ refused 8 ∷ refused 8 ∷ refused 7 ∷ refused 7 ∷ refused 7 ∷ refused 7 ∷ counts 1 ∷ [])
     0 []
 unfolding filed booked fresh
 refused-adds = (refl, refl)
 
--- One slot: 10 for a second point, also before 13, and it stays absent. Once the first is deleted there is room.
+-- One slot: 10 for a second point, also before 13, and it stays absent. The first is deleted: 14 for it, also of a second delete;
+-- and there is room.
 pub full : Both 4096 1
-    (point 1 ∷ adding two (80 ∷ []) 3 ∷ looking two ∷ deleting one ∷ point 2 ∷ counting ∷ [])
-    (done ∷ refused 10 ∷ refused 14 ∷ done ∷ done ∷ counts 1 ∷ [])
+    (point 1 ∷ adding two (80 ∷ []) 3 ∷ looking two ∷ deleting one ∷ looking one ∷ deleting one ∷ point 2 ∷ counting ∷ [])
+    (done ∷ refused 10 ∷ refused 14 ∷ done ∷ refused 14 ∷ refused 14 ∷ done ∷ counts 1 ∷ [])
     0 []
 unfolding filed booked fresh
 full = (refl, refl)
@@ -360,12 +366,10 @@ pub asks : ℕ → Bytes → ℕ
 unfolding short
 asks mode t = firstNo (pointAsks shortLayout (short (97 ∷ 0 ∷ 0 ∷ 1 ∷ 80 ∷ [])) (met 0) t mode)
 
--- 2 bytes fit; 3 give 13, and so do 2 behind "P"; 4 give 12, before 13, and 9 comes before both.
-pub asks-room : (asks 2 (81 ∷ 82 ∷ []) ≡ 0) × (asks 2 (81 ∷ 82 ∷ 83 ∷ []) ≡ 13) × (asks 3 (81 ∷ 82 ∷ []) ≡ 13)
-    × (asks 3 (81 ∷ 82 ∷ 83 ∷ []) ≡ 12)
-    × (asks 1 (81 ∷ 82 ∷ 83 ∷ 84 ∷ []) ≡ 9)
+-- 3 bytes give 13, and so do 2 behind "P"; 4 give 12, before 13.
+pub asks-room : (asks 2 (81 ∷ 82 ∷ 83 ∷ []) ≡ 13) × (asks 3 (81 ∷ 82 ∷ []) ≡ 13) × (asks 3 (81 ∷ 82 ∷ 83 ∷ []) ≡ 12)
 unfolding asks
-asks-room = (refl, refl, refl, refl, refl)
+asks-room = (refl, refl, refl)
 
 -- the largest length of a file and of a book
 pub most-length : (layoutOf [] .most ≡ 16777215) × (termsOf 8192 1 4 .most ≡ 16777215)
@@ -384,6 +388,21 @@ placed-inactive = refl
 pub placed-active : renewedText shortLayout (short (97 ∷ 0 ∷ 0 ∷ 2 ∷ 80 ∷ 81 ∷ [])) 2053 (82 ∷ []) 3 ≡ some (80 ∷ 81 ∷ 82 ∷ [])
 unfolding short
 placed-active = refl
+
+-- In place of 3 bytes, also inactive ones, 3 take no new space; in place of 1, 2 do. A shorter text: "written there as active, with the rest of the
+-- old bytes zeroed".
+pub placed-in-place : renewedText shortLayout (short (100 ∷ 0 ∷ 0 ∷ 3 ∷ 80 ∷ 81 ∷ 82 ∷ [])) 2053 (83 ∷ 84 ∷ 85 ∷ []) 2 ≡ none
+unfolding short
+placed-in-place = refl
+
+pub placed-longer : renewedText shortLayout (short (97 ∷ 0 ∷ 0 ∷ 1 ∷ 80 ∷ [])) 2053 (81 ∷ 82 ∷ []) 2 ≡ some (81 ∷ 82 ∷ [])
+unfolding short
+placed-longer = refl
+
+pub bytes-shorter : part (overwrite shortLayout (short (100 ∷ 0 ∷ 0 ∷ 3 ∷ 80 ∷ 81 ∷ 82 ∷ [])) 2053 (83 ∷ [])) 2053 7
+    ≡ 97 ∷ 0 ∷ 0 ∷ 1 ∷ 83 ∷ 0 ∷ 0 ∷ []
+unfolding short
+bytes-shorter = refl
 
 -- "11. If the key is present with an offset other than 0: is it at least D, the letter "a" or "d", m at least 1, the message's
 -- end at most X?" No offset; active, inactive; another letter, no length, an end past X.
@@ -421,15 +440,14 @@ pub unsound : answered (adding one [] 1 ∷ adding one (80 ∷ []) 3 ∷ looking
 unfolding answered single
 unsound = refl
 
--- "For delete, with or without an offset: is C at least 1?" C = 0 and a taken slot: 11; lookup takes it; 14 for an absent name.
-pub none-counted : answered (looking one ∷ deleting one ∷ deleting two ∷ counting ∷ []) (setField single pointsField 0)
-    ≡ shows 0 [] ∷ refused 11 ∷ refused 14 ∷ counts 0 ∷ []
+-- "For delete, with or without an offset: is C at least 1?" C = 0 and a taken slot: 11; 14 for an absent name.
+pub none-counted : answered (deleting one ∷ deleting two ∷ counting ∷ []) (setField single pointsField 0)
+    ≡ refused 11 ∷ refused 14 ∷ counts 0 ∷ []
 unfolding answered single
 none-counted = refl
 
 -- "10. If the key is absent, is a slot empty and C below N?" Slots empty but C = N; no slot empty but C below N.
-pub ten-by-count : answered (point 1 ∷ looking one ∷ counting ∷ []) (setField (headed 4096) pointsField 4) ≡ refused 10
-    ∷ refused 14 ∷ counts 4 ∷ []
+pub ten-by-count : answered (point 1 ∷ counting ∷ []) (setField (headed 4096) pointsField 4) ≡ refused 10 ∷ counts 4 ∷ []
 unfolding answered headed
 ten-by-count = refl
 
@@ -449,44 +467,45 @@ pub opened-1 : Refused 1 [] × Refused 1 (headed 4095) × Refused 1 (headed 4097
 unfolding answered headed
 opened-1 = (refl, refl, refl, refl)
 
--- 5: another letter than v, versions 2.0.1, 1.1.1 and 1.0.2; and before 6
-pub opened-5 : Refused 5 (store (headed 4096) 4 (119 ∷ [])) × Refused 5 (store (headed 4096) 5 (2 ∷ []))
-    × Refused 5 (store (headed 4096) 6 (1 ∷ [])) × Refused 5 (store (headed 4096) 7 (2 ∷ [])) × Refused 5 (zeros 4096)
+-- 5, before 6; "the first 5 bytes "BHTFv", the next two 1 and 0, the next at most 1": version 1.0.0 is known; another letter than
+-- v and versions 2.0.1, 1.1.1 and 1.0.2 are not
+pub opened-5 : Refused 5 (store (headed 4096) 7 (2 ∷ [])) × Refused 5 (zeros 4096)
 unfolding answered headed
-opened-5 = (refl, refl, refl, refl, refl)
+opened-5 = (refl, refl)
 
--- Version 1.0.0 is opened: "the next at most 1".
-pub opened-version : answered (counting ∷ []) (store (headed 4096) 7 (0 ∷ [])) ≡ counts 0 ∷ []
-unfolding answered headed
-opened-version = refl
+abbrev pub Known : ℕ → ℕ → ℕ → ℕ → Bool → Type 0
+Known letter a b c known = versionKnown (66 ∷ 72 ∷ 84 ∷ 70 ∷ letter ∷ a ∷ b ∷ c ∷ []) ≡ known
+
+pub versions : Known 118 1 0 1 true × Known 118 1 0 0 true × Known 119 1 0 1 false × Known 118 2 0 1 false × Known 118 1 1 1 false
+    × Known 118 1 0 2 false
+unfolding definitions
+versions = (refl, refl, refl, refl, refl, refl)
 
 -- 6: K = 0
 pub opened-6 : Refused 6 (setField (headed 4096) keyField 0)
 unfolding answered headed
 opened-6 = refl
 
--- what count answers with a number in a header field: 6 of K, N, C, F, E, scramble and table offset, D and X
-abbrev pub WithField : ℕ → ℕ → Answer → Type 0
-WithField at n a = answered (counting ∷ []) (setField (headed 4096) at n) ≡ a ∷ []
+-- the number with which an image is refused that has a number in a header field: K, N, C, F, E, scramble and table offset, D, X
+abbrev pub WithField : ℕ → ℕ → ℕ → Type 0
+WithField at n refusal = openNumber (setField (headed 4096) at n) ≡ refusal
 
-pub fields-6 : WithField keyField 33 (refused 6) × WithField slotsField 0 (refused 6) × WithField pointsField 5 (refused 6)
-    × WithField firstField 127 (refused 6) × WithField lastField 256 (refused 6) × WithField scrambleField 508 (refused 6)
-    × WithField tableField 2044 (refused 6) × WithField dataField 0 (refused 6) × WithField freeField 4095 (refused 6)
-    × WithField freeField 4097 (refused 6)
-unfolding answered headed
+pub fields-6 : WithField keyField 33 6 × WithField slotsField 0 6 × WithField pointsField 5 6 × WithField firstField 127 6
+    × WithField lastField 256 6 × WithField scrambleField 508 6 × WithField tableField 2044 6 × WithField dataField 0 6
+    × WithField freeField 4095 6 × WithField freeField 4097 6
+unfolding headed
 fields-6 = (refl, refl, refl, refl, refl, refl, refl, refl, refl, refl)
 
 -- "serial, multiplier and start value may be any number"; C may be N
-pub fields-any : WithField serialField 0xFFFFFFFF (counts 0) × WithField multiplierField 0xFFFFFFFF (counts 0)
-    × WithField startField 0xFFFFFFFF (counts 0) × WithField pointsField 4 (counts 4)
-unfolding answered headed
+pub fields-any : WithField serialField 0xFFFFFFFF 0 × WithField multiplierField 0xFFFFFFFF 0 × WithField startField 0xFFFFFFFF 0
+    × WithField pointsField 4 0
+unfolding headed
 fields-any = (refl, refl, refl, refl)
 
 -- ---- what a refused call leaves
 
--- "A refused call .. changes no byte": 7, 8, 9, 13 and 14
-pub refused-leave : after (adding (1 ∷ 2 ∷ []) [] 1 ∷ adding two [] 4 ∷ adding one [] 1 ∷ adding one (80 ∷ []) 2
-    ∷ adding two (80 ∷ []) 1 ∷ deleting two ∷ []) single ≡ single
+-- "A refused call .. changes no byte": 9, 13 and 14
+pub refused-leave : after (adding one [] 1 ∷ adding one (80 ∷ []) 2 ∷ adding two (80 ∷ []) 1 ∷ deleting two ∷ []) single ≡ single
 unfolding after single
 refused-leave = refl
 
@@ -544,7 +563,7 @@ Find L calls names texts =
     (fileTexts names (after calls (fresh L 4)) ≡ texts)
     × (bookTexts names (stateAfter bookStep calls (newBook (termsOf L 1 4))) ≡ texts)
 
--- byte 1 with "P"
+-- Byte 1 with "P".
 pub find-text : Find 8192 (adding one (80 ∷ []) 1 ∷ []) (one ∷ []) (some (80 ∷ []) ∷ [])
 unfolding fileTexts bookTexts after fresh
 find-text = (refl, refl)
