@@ -9,6 +9,7 @@ use table::home;
 use table::key_of;
 ghost use mathlib.Core.Path.{_≡_};
 ghost use Prim.Native.Nat.{_≤_, _<_};
+ghost use Rattle.bhtf.specs.Limits.{mostSlots};
 ghost use Rattle.bhtf.specs.Image.{layoutOf};
 ghost use Rattle.bhtf.specs.Messages.{among, moved, closed};
 ghost use Rattle.bhtf.specs.Questions.{openNumber};
@@ -19,7 +20,7 @@ ghost use Rattle.closing.specs.Walks.{Beside, Looked};
 
 // Steps upwards, with wrap, from slot a to slot b.
 fn dist(slots: usize, a: Slot, b: Slot) -> usize
-    requires { ⌜ (slots ≤ 65536) × (a .0 < slots) × (b .0 < slots) ⌝ }
+    requires { ⌜ (slots ≤ mostSlots) × (a .0 < slots) × (b .0 < slots) ⌝ }
     ensures { λ r. ⌜ r ≡ dist slots (a .0) (b .0) ⌝ }
 {
     let from = a.number();
@@ -32,7 +33,7 @@ fn dist(slots: usize, a: Slot, b: Slot) -> usize
 
 // Whether the home is among the slots from the one after the hole up to slot j.
 fn stays(slots: usize, hole: Slot, j: Slot, home: Slot) -> bool
-    requires { ⌜ (slots ≤ 65536) × (hole .0 < slots) × (j .0 < slots) × (home .0 < slots) ⌝ }
+    requires { ⌜ (slots ≤ mostSlots) × (hole .0 < slots) × (j .0 < slots) × (home .0 < slots) ⌝ }
     ensures { λ r. ⌜ r ≡ among slots (next slots (hole .0)) (j .0) (home .0) ⌝ }
 {
     let after = hole.next(slots);

@@ -17,6 +17,7 @@ use words::limits::POINTS_FIELD;
 ghost use mathlib.Core.Path.{_≡_};
 ghost use mathlib.Core.Bool.{true};
 ghost use Prim.Native.Nat.{_≤_, _<_};
+ghost use Rattle.bhtf.specs.Limits.{pointsField};
 ghost use Rattle.bhtf.specs.Calls.{delete};
 ghost use Rattle.bhtf.specs.Image.{field, layoutOf, slot, offsetOf};
 ghost use Rattle.bhtf.specs.Messages.{deletedAt};
@@ -30,7 +31,7 @@ fn remove(image: &mut [u8], shape: Shape, i: Slot, o: Offset, points: u32)
         × (i .0 < shape .slots)
         × (o .0 ≡ offsetOf (layoutOf (now image)) (slot (layoutOf (now image)) (now image) (i .0)))
         × (messageSound (layoutOf (now image)) (now image) (o .0) ≡ true)
-        × (points ≡ field (now image) 20)
+        × (points ≡ field (now image) pointsField)
         × (1 ≤ points) ⌝ }
     ensures { λ _. ⌜ now (image .exit) ≡ deletedAt (layoutOf (now (image .entry))) (now (image .entry)) (i .0) ⌝ }
 {

@@ -20,6 +20,7 @@ ghost use mathlib.Core.Bool.{true};
 ghost use mathlib.Core.List.{_++_};
 ghost use Prim.Native.Nat.{_+_, _≤_, _<_};
 ghost use lib.ListN.{length};
+ghost use Rattle.bhtf.specs.Limits.{freeField};
 ghost use Rattle.bhtf.specs.Bytes.{part};
 ghost use Rattle.bhtf.specs.Calls.{settled, add};
 ghost use Rattle.bhtf.specs.Image.{field, layoutOf};
@@ -43,7 +44,7 @@ fn relocate(
     requires { ⌜ (openNumber (now image) ≡ 0) × (shape ≡ shapeOf (now image)) × (slot .0 < shape .slots)
         × (length (now key) ≡ shape .key)
         × (messageSound (layoutOf (now image)) (now image) (o .0) ≡ true)
-        × (o .0 + 4 + before ≤ field (now image) 52)
+        × (o .0 + 4 + before ≤ field (now image) freeField)
         × (roomNumber (now image) (before + length (now bytes)) ≡ 0) ⌝ }
     ensures { λ _. ⌜ now (image .exit)
         ≡ relocated (layoutOf (now (image .entry))) (now (image .entry)) (slot .0) (o .0) (now (key .entry))

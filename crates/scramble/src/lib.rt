@@ -9,6 +9,7 @@ use words::limits::SCRAMBLE_START;
 ghost use mathlib.Core.Path.{_≡_};
 ghost use Prim.Native.Nat.{_≤_};
 ghost use lib.ListN.{length};
+ghost use Rattle.bhtf.specs.Limits.{scrambleStart, scrambleCount};
 ghost use Rattle.bhtf.specs.Bytes.{store};
 ghost use Rattle.bhtf.specs.Create.{drawnBytes};
 
@@ -114,7 +115,7 @@ const SEED_ZERO: [u32; 95] = [
 // Writes the scramble of seed 0, from the table.
 fn write_seed_zero(image: &mut [u8])
     requires { ⌜ 892 ≤ length (now image) ⌝ }
-    ensures { λ _. ⌜ now (image .exit) ≡ store (now (image .entry)) 512 (drawnBytes 0 0 95) ⌝ }
+    ensures { λ _. ⌜ now (image .exit) ≡ store (now (image .entry)) scrambleStart (drawnBytes 0 0 scrambleCount) ⌝ }
 {
     write_numbers(image, SCRAMBLE_START, &SEED_ZERO);
 }
@@ -122,7 +123,7 @@ fn write_seed_zero(image: &mut [u8])
 // Writes the scramble of a seed, from the generator.
 fn write_drawn(image: &mut [u8], seed: u32)
     requires { ⌜ 892 ≤ length (now image) ⌝ }
-    ensures { λ _. ⌜ now (image .exit) ≡ store (now (image .entry)) 512 (drawnBytes seed 0 95) ⌝ }
+    ensures { λ _. ⌜ now (image .exit) ≡ store (now (image .entry)) scrambleStart (drawnBytes seed 0 scrambleCount) ⌝ }
 {
     let mut state = seed;
     let mut i = 0;
@@ -137,7 +138,7 @@ fn write_drawn(image: &mut [u8], seed: u32)
 // Writes the scramble of a seed.
 pub fn write_scramble(image: &mut [u8], seed: u32)
     requires { ⌜ 892 ≤ length (now image) ⌝ }
-    ensures { λ _. ⌜ now (image .exit) ≡ store (now (image .entry)) 512 (drawnBytes seed 0 95) ⌝ }
+    ensures { λ _. ⌜ now (image .exit) ≡ store (now (image .entry)) scrambleStart (drawnBytes seed 0 scrambleCount) ⌝ }
 {
     if seed == 0 {
         write_seed_zero(image);

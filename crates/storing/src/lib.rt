@@ -16,6 +16,7 @@ ghost use mathlib.Core.Bool.{true};
 ghost use mathlib.Core.List.{_++_};
 ghost use Prim.Native.Nat.{_+_, _≤_, _<_, _^_};
 ghost use lib.ListN.{length};
+ghost use Rattle.bhtf.specs.Limits.{freeField};
 ghost use Rattle.bhtf.specs.Bytes.{part};
 ghost use Rattle.bhtf.specs.Image.{field, lastPage, layoutOf};
 ghost use Rattle.bhtf.specs.Messages.{held, takeSpace, retire, overwrite};
@@ -87,9 +88,9 @@ pub fn set_free(image: &mut [u8], area: Offset, free: Offset)
 pub fn take_space(image: &mut [u8], area: Offset, from: Offset, before: usize, bytes: &[u8])
     requires { ⌜ (openNumber (now image) ≡ 0)
         × (area .0 ≡ layoutOf (now image) .D)
-        × (from .0 + before ≤ field (now image) 52)
+        × (from .0 + before ≤ field (now image) freeField)
         × (before + length (now bytes) < 2 ^ 24)
-        × (field (now image) 52 + 4 + (before + length (now bytes)) ≤ length (now image)) ⌝ }
+        × (field (now image) freeField + 4 + (before + length (now bytes)) ≤ length (now image)) ⌝ }
     ensures { λ _. ⌜ now (image .exit)
         ≡ takeSpace (layoutOf (now (image .entry))) (now (image .entry))
         (part (now (image .entry)) (from .0) before ++ now (bytes .entry)) ⌝ }
