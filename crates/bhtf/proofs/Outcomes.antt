@@ -20,7 +20,7 @@ use Rattle.bhtf.specs.Search.{Probe, met, empty, exhausted, search, isMe
 use Rattle.bhtf.specs.Messages.{headSize, lengthAt, textAt, isActive, shown, held, freshText, renewedText, placedText, deleted, deletedAt}
 use Rattle.bhtf.specs.Questions.{ask, firstNo, nameAllowed, modeKnown, newInMode1, slotToTake, messageSound, metMessageSound, somePoint, lengthAllowed, spaceLeft, named, pointAsks, addAsks, lookupAsks, deleteAsks, openNumber, addNumber, deleteNumber, lookupNumber}
 use Rattle.bhtf.specs.Calls.{plain, settled, add, delete, lookup, lookupOffset, lookupStart, lookupLength}
-use Rattle.bhtf.proofs.Tests.{by-bool, and-true}
+use Rattle.bhtf.proofs.Tests.{by-bool, and-true, zero-yes, zero-no}
 use Rattle.bhtf.proofs.Bytes.{part-length}
 use Rattle.bhtf.proofs.Opened.{firstNo-none, firstNo-yes, firstNo-no, firstNo-opened, firstNo-refused, opened-facts}
 use Rattle.bhtf.proofs.Effects.{message-end, active-some}
@@ -29,11 +29,11 @@ use Rattle.bhtf.proofs.Effects.{message-end, active-some}
 
 pub settled-yes : (n : ℕ) (img x : Bytes) → n ≡ 0 → settled n img x ≡ x
 unfolding settled
-settled-yes n img x h = rw h refl
+settled-yes n img x h = zero-yes n x img h
 
 pub settled-no : (n : ℕ) (img x : Bytes) → (n ≡ 0 → ⊥) → settled n img x ≡ img
 unfolding settled
-settled-no n img x h = rw (ne-eqb n 0 h) refl
+settled-no n img x h = zero-no n x img h
 
 -- ---- 12 and 13, of the text to be placed
 

@@ -2,12 +2,16 @@
 -- `omega` reads.
 --     by-bool b yes no      on b
 --     by-le a b yes no      on a ≤ b; by-eq on a ≡ b
+--     zero-yes, zero-no     what stands behind a number that is 0, and where it is not
+--     was-no, was-yes       a test's answer by the callee's contract
 -- Assumes nothing.
-use mathlib.Core.Path.{_≡_, refl}
+use mathlib.Core.Path.{_≡_, refl, sym, ap, _∙_}
 use Prim.Native.Nat.{ℕ, _≤_, _<_}
 use native.Mathlib.Decide.{decLe, ℕ-discrete}
 use native.Mathlib.Nat.{lt-of-not-le}
-use mathlib.Core.Bool.{Bool, true, false, _&&_, _||_, true≢false, false≢true}
+use mathlib.Core.Bool.{Bool, true, false, cond, not, _&&_, _||_, true≢false, false≢true}
+use lib.Dec.{eqb}
+use borrow.Author.Tests.{eq-eqb, ne-eqb, not-true, not-false}
 
 pub by-bool {ℓ} : {A : Type ℓ} (b : Bool) → (b ≡ true → A) → (b ≡ false → A) → A
 by-bool true yes′ no′ = yes′ refl
@@ -44,3 +48,17 @@ by-or false b h yes′ no′ = no′ refl h
 pub not-both : (b : Bool) → b ≡ true → b ≡ false → ⊥
 not-both true h k = true≢false k
 not-both false h k = false≢true h
+
+-- ---- an answer that waits for a number to be 0
+pub zero-yes : {A : Type 0} (n : ℕ) (x y : A) → n ≡ 0 → cond (eqb n 0) x y ≡ x
+zero-yes n x y h = ap (λ (b : Bool). cond b x y) (eq-eqb n 0 h)
+
+pub zero-no : {A : Type 0} (n : ℕ) (x y : A) → (n ≡ 0 → ⊥) → cond (eqb n 0) x y ≡ y
+zero-no n x y h = ap (λ (b : Bool). cond b x y) (ne-eqb n 0 h)
+
+-- ---- `if !f(..)`, with r what f answered
+pub was-no : {r b : Bool} → r ≡ b → not r ≡ true → b ≡ false
+was-no {r} e t = sym e ∙ not-true r t
+
+pub was-yes : {r b : Bool} → r ≡ b → not r ≡ false → b ≡ true
+was-yes {r} e t = sym e ∙ not-false r t

@@ -5,7 +5,7 @@
 --     inside                             the part that lookup shows ends in the image
 -- Assumes nothing.
 use mathlib.Core.Path.{_≡_, refl, sym, ap, ap₂, _∙_}
-use Prim.Native.Nat.{ℕ, _+_, _≤_, _<_}
+use Prim.Native.Nat.{ℕ, _+_, _≤_}
 use native.Mathlib.Omega.{arith}
 use mathlib.Core.Bool.{Bool, true, false, cond, _&&_}
 use lib.ListN.{length}
@@ -22,8 +22,9 @@ use Rattle.bhtf.proofs.Tests.{by-bool, by-eq}
 use Rattle.bhtf.proofs.Bytes.{part-length}
 use Rattle.bhtf.proofs.Opened.{opened-facts}
 use Rattle.bhtf.proofs.Probe.{by-search}
+use Rattle.bhtf.proofs.Effects.{message-end, active-some}
 use Rattle.bhtf.proofs.Outcomes.{lookup-closed, lookup-7, lookup-14, lookup-11, lookup-0}
-use Rattle.messages.proofs.Sound.{head-four, sound-facts, active-some, held-none, held-some}
+use Rattle.messages.proofs.Sound.{head-four, held-none, held-some}
 
 -- ---- count
 module _ (img : Bytes) (n : ℕ) where
@@ -78,12 +79,12 @@ module _ (img key : Bytes) where
   unfolding lookupLength
   length-none z = held-none g img (lookupOffset img key) z
 
-  module _ (o : ℕ) (e : lookupOffset img key ≡ o) (some′ : 0 < o) where
+  module _ (o : ℕ) (e : lookupOffset img key ≡ o) (some′ : o ≡ 0 → ⊥) where
     start-some : lookupStart img key ≡ o + 4
     unfolding lookupStart
     start-some =
         ap (λ (b : Bool). cond b 0 (lookupOffset img key + headSize g))
-        (ne-eqb (lookupOffset img key) 0 (λ z. omega arith))
+        (ne-eqb (lookupOffset img key) 0 (λ z. some′ (sym e ∙ z)))
         ∙ ap₂ _+_ e (head-four img)
 
     length-some : lookupLength img key ≡ held g img o
@@ -128,8 +129,9 @@ module _ (img key : Bytes) where
       by-bool (isActive img o)
       (λ b.
       let e = offset-active i m b z in
-      let some′ : 0 < o = active-some img o b in
-      omega (arith, start-some o e some′, length-some o e some′, held-some g img o (λ q. omega arith), sound-facts img o some′ s .end, opened-facts img h .free-high))
+      let f = opened-facts img h in
+      let some′ = active-some img o b in
+      omega (arith, start-some o e some′, length-some o e some′, held-some g img o some′, head-four img, message-end img f o s some′, f .free-high))
       (λ b. inside-none (offset-inactive i m b z)))
       (λ s. inside-refused 11 (lookup-11 img key h a i m s) (λ q. omega arith))
 

@@ -10,7 +10,7 @@ use Rattle.bhtf.specs.Search.{met, search as searched}
 use Rattle.bhtf.specs.Questions.{nameAllowed, messageSound, openNumber, deleteNumber}
 use Rattle.bhtf.proofs.Opened.{opened-facts}
 use Rattle.bhtf.proofs.Outcomes.{delete-closed, delete-7, delete-14, delete-11, delete-0, delete-accepted}
-use Rattle.questions.proofs.Headers.{was-no, was-yes}
+use Rattle.bhtf.proofs.Tests.{was-no, was-yes}
 use Rattle.table.proofs.Taken.{named-no, named-yes, not-met, met-slot, met-below}
 use Rattle.delete.proofs.Removed.{unsound, no-point, some-point, answers-no, answers-yes}
 use Rattle.delete.proofs.delete.Statement.{statement}

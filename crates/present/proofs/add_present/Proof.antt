@@ -5,7 +5,7 @@ use borrow.Author.Tests.{eq-eqb, ne-eqb}
 use Rattle.bhtf.specs.Image.{layoutOf}
 use Rattle.bhtf.specs.Questions.{messageSound}
 use Rattle.bhtf.proofs.Outcomes.{add-9, add-11}
-use Rattle.questions.proofs.Headers.{was-no, was-yes}
+use Rattle.bhtf.proofs.Tests.{was-no, was-yes}
 use Rattle.room.proofs.Numbers.{add-unchanged, present-done, mode-three}
 use Rattle.room.proofs.Probes.{met-below, key-fits}
 use borrow.Author.Needs.{needs}
