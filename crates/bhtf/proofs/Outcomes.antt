@@ -1,7 +1,7 @@
 -- What a call answers, case by case, on any image whose header is accepted; and the image that it leaves.
 --     lookup-7, lookup-14, lookup-11, lookup-0, and so for delete; add-7 to add-11, and add-renewed, add-fresh, where 12 and 13 decide
 --     roomOf       the number of 12 and 13
---     lookup-shows, lookup-refused      lookup's answer
+--     offset-refused, offset-met, lookup-shows, lookup-refused      lookup's answer
 --     add-refused, delete-refused, delete-accepted      the image afterwards
 -- Assumes nothing.
 use mathlib.Core.Path.{_≡_, refl, ap, _∙_}
@@ -59,6 +59,19 @@ module _ (img key : Bytes) (z : openNumber img ≡ 0 → ⊥) where
   unfolding addNumber
   add-closed bytes mode = firstNo-refused img _ z
 
+-- ---- the offset of the message that lookup shows: 0 where none is shown
+
+module _ (img key : Bytes) where
+  pub offset-refused : (lookupNumber img key ≡ 0 → ⊥) → lookupOffset img key ≡ 0
+  unfolding lookupOffset
+  offset-refused z = rw (ne-eqb (lookupNumber img key) 0 z) refl
+
+  pub offset-met : (i : ℕ) → search (layoutOf img) img key ≡ met i → lookupNumber img key ≡ 0
+      → lookupOffset img key ≡ cond (isActive img (offsetOf (layoutOf img) (slot (layoutOf img) img i)))
+      (offsetOf (layoutOf img) (slot (layoutOf img) img i)) 0
+  unfolding lookupOffset slotOf
+  offset-met i m z = rw (z, m) refl
+
 module _ (img key : Bytes) (open₀ : openNumber img ≡ 0) where
   abbrev g : Layout
   g = layoutOf img
@@ -99,8 +112,7 @@ module _ (img key : Bytes) (open₀ : openNumber img ≡ 0) where
       at = offsetOf g (slot g img i)
 
       offset-is : lookupOffset img key ≡ cond (isActive img at) at 0
-      unfolding lookupOffset slotOf
-      offset-is = rw (lookup-0 s, m) refl
+      offset-is = offset-met img key i m (lookup-0 s)
 
       pub lookup-shows : lookup img key .answer
           ≡ record { number = 0; amount = length (shown g img at); text = shown g img at }

@@ -1,7 +1,7 @@
 -- Tests on Bools and numbers: halves of a conjunction, and case splits by continuation, which keep the equation and which
 -- `omega` reads.
 --     by-bool b yes no      on b
---     by-le a b yes no      on a ≤ b; by-eq on a ≡ b
+--     by-le a b yes no      on a ≤ b; by-eq on a ≡ b; by-either on one of two facts
 --     zero-yes, zero-no     what stands behind a number that is 0, and where it is not
 --     was-no, was-yes       a test's answer by the callee's contract
 -- Assumes nothing.
@@ -10,6 +10,7 @@ use Prim.Native.Nat.{ℕ, _≤_, _<_}
 use native.Mathlib.Decide.{decLe, ℕ-discrete}
 use native.Mathlib.Nat.{lt-of-not-le}
 use mathlib.Core.Bool.{Bool, true, false, cond, not, _&&_, _||_, true≢false, false≢true}
+use mathlib.Core.Logic.{_⊎_, inl, inr}
 use lib.Dec.{eqb}
 use borrow.Author.Tests.{eq-eqb, ne-eqb, not-true, not-false}
 
@@ -22,6 +23,10 @@ by-le a b yes′ no′ = elim (decLe a b) [ yes h ↦ yes′ h | no h ↦ no′ 
 
 pub by-eq {ℓ} : {A : Type ℓ} (a b : ℕ) → (a ≡ b → A) → ((a ≡ b → ⊥) → A) → A
 by-eq a b yes′ no′ = elim (ℕ-discrete a b) [ yes h ↦ yes′ h | no h ↦ no′ h ]
+
+pub by-either {ℓ} : {A B : Type 0} {C : Type ℓ} → A ⊎ B → (A → C) → (B → C) → C
+by-either (inl a) left right = left a
+by-either (inr b) left right = right b
 
 -- ---- conjunction, disjunction, negation
 pub and-left : (a b : Bool) → (a && b) ≡ true → a ≡ true

@@ -8,7 +8,6 @@ use Prim.Native.Nat.{ℕ, suc, _+_, _-_, _≤_, _<_}
 use native.Mathlib.Omega.{arith}
 use mathlib.Core.Bool.{Bool, true, false, cond, not, _&&_}
 use mathlib.Core.List.{[], _∷_}
-use mathlib.Core.Logic.{_⊎_, inl, inr}
 use mathlib.Core.Option.{none, some}
 use types.Run.{OneOf}
 use denote.Enum.Declared.{tagOf}
@@ -17,7 +16,7 @@ use Rattle.bhtf.specs.Bytes.{Bytes}
 use Rattle.bhtf.specs.Image.{field, Layout, layoutOf, slot, offsetOf}
 use Rattle.bhtf.specs.Inspect.{lowest, taken, takenFrom, endsAt, slotSound, slotFails, Verdict, sound, slotBad, countBad, countSound, verdictOf, check}
 use Rattle.bhtf.specs.Search.{Probe, search}
-use Rattle.bhtf.proofs.Tests.{zero-yes, zero-no}
+use Rattle.bhtf.proofs.Tests.{by-either, zero-yes, zero-no}
 use Rattle.bhtf.proofs.Table.{keyAt}
 use Rattle.bhtf.proofs.Verdict.{lowest-yes, lowest-no, lowest-end}
 use Rattle.layout.specs.declared.places.Slot.{Slot}
@@ -27,10 +26,6 @@ use Rattle.table.proofs.Found as row
 use Rattle.table.specs.declared.Found.the-variants.{Met, Empty, Exhausted}
 use Rattle.bhtf.specs.Questions.{messageSound, openNumber}
 use Rattle.inspect.specs.Verdicts.{tableVerdict}
-
-pub on {ℓ} : {A B : Type 0} {C : Type ℓ} → A ⊎ B → (A → C) → (B → C) → C
-on (inl a) f g = f a
-on (inr b) f g = g b
 
 -- ---- the number of taken slots from i on
 module _ (g : Layout) (img : Bytes) where
@@ -157,7 +152,7 @@ check-open img h =
 -- ---- a slot's search
 pub not-met : (f : found.Found) → OneOf (1 ∷ 2 ∷ []) (tagOf row.the-type f) → (i : ℕ) → endsAt (probeOf f) i ≡ false
 unfolding probeOf endsAt
-not-met (Met s) h i = absurd (on h (λ (z : _≡_ {A = ℕ} 0 1). omega arith) (λ (z : _≡_ {A = ℕ} 0 2). omega arith))
+not-met (Met s) h i = absurd (by-either h (λ (z : _≡_ {A = ℕ} 0 1). omega arith) (λ (z : _≡_ {A = ℕ} 0 2). omega arith))
 not-met (Empty s) h i = refl
 not-met Exhausted h i = refl
 

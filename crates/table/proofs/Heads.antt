@@ -1,5 +1,6 @@
 -- Writes to slots leave the header as it was.
 --     SameHead img img′      img′ is opened, and its layout, shape and length are those of img
+--     head-opened            an image that keeps what no call changes, with its header accepted
 --     head-putSlot, head-moved       a write to a slot, and a move, keep them
 --     kept-shape             the shape is among what no call changes
 -- Assumes nothing.
@@ -14,7 +15,7 @@ use Rattle.bhtf.specs.Messages.{moved}
 use Rattle.bhtf.specs.Questions.{openNumber}
 use Rattle.bhtf.proofs.Slots.{Room, slot-end, slot-above, length-slot, field-putSlot, length-blank}
 use Rattle.bhtf.proofs.Spread.{room-half}
-use Rattle.bhtf.proofs.Opened.{opened-facts, facts-opened}
+use Rattle.bhtf.proofs.Opened.{Opened, opened-facts, facts-opened}
 use Rattle.bhtf.proofs.Kept.{Kept, kept-store, kept-layout, opened-kept, kept-key, kept-slots, kept-data, kept-multiplier, kept-start, kept-first, kept-last}
 use Rattle.layout.specs.Shapes.{shapeOf}
 
@@ -40,18 +41,16 @@ head-trans p q =
       size = q .size ∙ p .size;
     }
 
+-- an image whose header is accepted, with what no call changes
+pub head-opened : (img img′ : Bytes) → Opened img → Kept img img′ → Opened img′ → SameHead img img′
+head-opened img img′ o k o′ =
+    record { opened = facts-opened img′ o′; layout = kept-layout k (o .last); shape = kept-shape k; size = k .size }
+
 pub head-kept : (img img′ : Bytes) → openNumber img ≡ 0 → Kept img img′ → field img′ pointsField ≡ field img pointsField
     → field img′ freeField ≡ field img freeField → SameHead img img′
 head-kept img img′ h k c x =
     let o = opened-facts img h in
-    record {
-      opened =
-          facts-opened img′
-          (opened-kept k o (rw c (o .points)) (rw x (o .free-low)) (rw x (o .free-high)));
-      layout = kept-layout k (o .last);
-      shape = kept-shape k;
-      size = k .size;
-    }
+    head-opened img img′ o k (opened-kept k o (rw c (o .points)) (rw x (o .free-low)) (rw x (o .free-high)))
 
 module _ (g : Layout) (img : Bytes) (h : openNumber img ≡ 0) (r : Room g (length img)) where
   pub head-putSlot : (i : ℕ) (v : Bytes) → i < g .N → length v ≡ slotSize g → SameHead img (putSlot g img i v)

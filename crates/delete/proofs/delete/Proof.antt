@@ -47,8 +47,8 @@ below-told c =
     let E = c .before .before .before in
     let R = E .before .before .before .before in
     let A = R .before .before .before .before .before .before .before .args in
-    met-below (A .image .now) (A .key .now) (R .read-shape .result) (R .read-shape .ensures) (E .search .result) (E .search .ensures)
-    (opened-else (R .before .before)) (c .before .found .given .0 .0) (c .before .found .given .1)
+    met-below (A .image .now) (A .key .now) (R .read-shape .result) (R .read-shape .ensures) (opened-else (R .before .before))
+    (c .before .found .given .0 .0 .0) (met-told c)
 
 -- the message at the slot's offset is sound
 sound-else : (c : tie.Else3)

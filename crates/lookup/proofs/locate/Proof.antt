@@ -135,8 +135,8 @@ offset-of-requires c κs =
     let A = R .before .before .before .before .before .args in (
       opened-else (R .before),
       R .read-shape .ensures,
-      met-below (A .image .now) (A .key .now) (R .read-shape .result) (R .read-shape .ensures) (E .search .result) (E .search .ensures)
-          (opened-else (R .before)) (c .before .found .given .0 .0) (c .before .found .given .1),
+      met-below (A .image .now) (A .key .now) (R .read-shape .result) (R .read-shape .ensures) (opened-else (R .before))
+          (c .before .found .given .0 .0 .0) (met-told c),
     )
 
 message-sound-requires : tie.Need-message-sound-requires
