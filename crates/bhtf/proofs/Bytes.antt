@@ -3,14 +3,14 @@
 -- Assumes nothing.
 use mathlib.Core.Path.{_≡_, refl, sym, ap, ap₂, _∙_}
 use Prim.Native.Nat.{ℕ, zero, suc, _+_, _-_, _*_, _/_, _%_, _^_, _≤_, _<_}
-use native.Mathlib.Nat.{zero-add, mod-eq-of-lt, mod-one, mul-le-mul-right, mul-suc, pow-succ', le-of-suc-le-suc}
+use native.Mathlib.Nat.{zero-add, mod-eq-of-lt, mod-one, mul-suc, pow-succ'}
 use native.Mathlib.Omega.{arith}
 use mathlib.Core.Bool.{true, false, true≢false, false≢true}
 use mathlib.Core.Logic.{_⊎_, inl, inr}
 use mathlib.Core.List.{List, [], _∷_, _++_}
 use lib.ListN.{length, take, drop, getD, length-append, length-drop, length-replicate}
 use lib.Seq.{take-at, drop-at, take-append-le, drop-append-le, drop-append-add, drop-drop, take-take, length-take-le}
-use lib.Dec.{eqb, lit<}
+use lib.Dec.{eqb}
 use lib.Pow.{pow-add, mod-pow-add}
 use borrow.Author.Tests.{eqb-true, eq-eqb}
 use Rattle.bhtf.proofs.Tests.{by-bool, and-left, and-right}
@@ -21,6 +21,11 @@ use Rattle.bhtf.specs.Bytes.{Bytes, part, store, number, digits, zeros, 
 pub part-length : (b : Bytes) (p m : ℕ) → p + m ≤ length b → length (part b p m) ≡ m
 unfolding part
 part-length b p m h = length-take-le m (drop p b) (simp length-drop (omega arith))
+
+-- a part with bytes behind it
+pub length-part-append : (b : Bytes) (p m : ℕ) (v : Bytes) → p + m ≤ length b → length (part b p m ++ v) ≡ m + length v
+length-part-append b p m v h =
+    length-append (part b p m) v ∙ ap (λ (n : ℕ). n + length v) (part-length b p m h)
 
 pub part-part : (b : Bytes) (p n q m : ℕ) → q + m ≤ n → part (part b p n) q m ≡ part b (p + q) m
 unfolding part
@@ -131,17 +136,9 @@ number-digits (suc w) n =
 pub number-digits-fits : (w n : ℕ) → n < 256 ^ w → number (digits w n) ≡ n
 number-digits-fits w n h = number-digits w n ∙ mod-eq-of-lt h
 
--- every element is a byte
+-- every element is a byte: what owning a slice gives, as `c .shared-slice-known .given`
 abbrev pub AreBytes : Bytes → Type 0
 AreBytes b = (i : ℕ) → getD b i 0 < 256
-
-pub number-bound : (b : Bytes) → AreBytes b → number b < 256 ^ length b
-unfolding number
-number-bound [] h = lit< tt
-number-bound (x ∷ b) h =
-    let ih : number b < 256 ^ length b = number-bound b (λ i. h (suc i)) in
-    let top : x * 256 ^ length b ≤ 255 * 256 ^ length b = mul-le-mul-right (256 ^ length b) (le-of-suc-le-suc (h 0)) in
-    omega (arith, pow-succ' 256 (length b))
 
 -- ---- zeros and comparisons
 

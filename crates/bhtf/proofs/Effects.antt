@@ -21,7 +21,7 @@ use Rattle.bhtf.proofs.Tests.{by-bool, and-left, not-both}
 use Rattle.bhtf.proofs.Bytes.{length-store, part-store-same, part-store-below, part-store-above, length-digits}
 use Rattle.bhtf.proofs.Slots.{slot-above, slot-store-data, part-setField-other, field-store-other, field-setField-other, field-setField-same, length-setField}
 use Rattle.bhtf.proofs.Opened.{Opened, opened-room}
-use Rattle.bhtf.proofs.Kept.{Kept, kept-refl, kept-trans, kept-store, kept-points, kept-free, kept-page, kept-layout, opened-kept}
+use Rattle.bhtf.proofs.Kept.{Kept, kept-refl, kept-trans, kept-store, kept-points, kept-free, kept-page, opened-kept}
 use Rattle.bhtf.proofs.Stretch.{size, sound-lies}
 
 -- the data area begins above the table's start
@@ -96,9 +96,6 @@ module _ (img : Bytes) (o : Opened img) (at : ℕ) (s : messageSound (layoutOf i
       (rw (retire-field freeField (omega arith)) (o .free-low))
       (rw (retire-field freeField (omega arith)) (o .free-high))
 
-  pub retire-layout : layoutOf (retire img at) ≡ layoutOf img
-  retire-layout = kept-layout retire-kept (o .last)
-
 -- ---- C
 
 module _ (img : Bytes) (o : Opened img) (n : ℕ) (l : n ≤ field img slotsField) where
@@ -121,9 +118,6 @@ module _ (img : Bytes) (o : Opened img) (n : ℕ) (l : n ≤ field img slotsFiel
   pub points-opened : Opened (setField img pointsField n)
   points-opened =
       opened-kept points-kept o (rw points-is l) (rw points-free (o .free-low)) (rw points-free (o .free-high))
-
-  pub points-layout : layoutOf (setField img pointsField n) ≡ layoutOf img
-  points-layout = kept-layout points-kept (o .last)
 
 -- ---- new space
 
@@ -228,6 +222,3 @@ module _ (img : Bytes) (o : Opened img) (t : Bytes)
       (rw (spaced .points) (o .points))
       (rw (spaced .free) (omega (arith, o .free-low)))
       (rw (spaced .free) fits)
-
-  pub space-layout : layoutOf (takeSpace g img t) ≡ layoutOf img
-  space-layout = kept-layout space-kept (o .last)

@@ -90,10 +90,10 @@ module _ {img img′ : Bytes} (k : Kept img img′) where
   pub kept-slots : field img′ slotsField ≡ field img slotsField
   kept-slots = front-field 16 (omega arith)
 
-  kept-multiplier : field img′ multiplierField ≡ field img multiplierField
+  pub kept-multiplier : field img′ multiplierField ≡ field img multiplierField
   kept-multiplier = middle-field 0 (omega arith)
 
-  kept-start : field img′ startField ≡ field img startField
+  pub kept-start : field img′ startField ≡ field img startField
   kept-start = middle-field 4 (omega arith)
 
   pub kept-first : field img′ firstField ≡ field img firstField

@@ -7,6 +7,7 @@ pub mod Total
 pub mod Table
 pub mod Opened
 pub mod Accepted
+pub mod Fresh
 pub mod Kept
 pub mod Cases
 pub mod Spread

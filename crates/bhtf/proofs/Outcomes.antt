@@ -1,7 +1,7 @@
 -- What a call answers, case by case, on any image whose header is accepted; and the image that it leaves.
 --     lookup-7, lookup-14, lookup-11, lookup-0, and so for delete; add-7 to add-11, and add-renewed, add-fresh, where 12 and 13 decide
 --     roomOf       the number of 12 and 13
---     lookup-shows, lookup-refused      lookup's answer
+--     offset-refused, offset-met, lookup-shows, lookup-refused      lookup's answer
 --     add-refused, delete-refused, delete-accepted      the image afterwards
 -- Assumes nothing.
 use mathlib.Core.Path.{_≡_, refl, ap, _∙_}
@@ -20,7 +20,7 @@ use Rattle.bhtf.specs.Search.{Probe, met, empty, exhausted, search, isMe
 use Rattle.bhtf.specs.Messages.{headSize, lengthAt, textAt, isActive, shown, held, freshText, renewedText, placedText, deleted, deletedAt}
 use Rattle.bhtf.specs.Questions.{ask, firstNo, nameAllowed, modeKnown, newInMode1, slotToTake, messageSound, metMessageSound, somePoint, lengthAllowed, spaceLeft, named, pointAsks, addAsks, lookupAsks, deleteAsks, openNumber, addNumber, deleteNumber, lookupNumber}
 use Rattle.bhtf.specs.Calls.{plain, settled, add, delete, lookup, lookupOffset, lookupStart, lookupLength}
-use Rattle.bhtf.proofs.Tests.{by-bool, and-true}
+use Rattle.bhtf.proofs.Tests.{by-bool, and-true, zero-yes, zero-no}
 use Rattle.bhtf.proofs.Bytes.{part-length}
 use Rattle.bhtf.proofs.Opened.{firstNo-none, firstNo-yes, firstNo-no, firstNo-opened, firstNo-refused, opened-facts}
 use Rattle.bhtf.proofs.Effects.{message-end, active-some}
@@ -29,11 +29,11 @@ use Rattle.bhtf.proofs.Effects.{message-end, active-some}
 
 pub settled-yes : (n : ℕ) (img x : Bytes) → n ≡ 0 → settled n img x ≡ x
 unfolding settled
-settled-yes n img x h = rw h refl
+settled-yes n img x h = zero-yes n x img h
 
 pub settled-no : (n : ℕ) (img x : Bytes) → (n ≡ 0 → ⊥) → settled n img x ≡ img
 unfolding settled
-settled-no n img x h = rw (ne-eqb n 0 h) refl
+settled-no n img x h = zero-no n x img h
 
 -- ---- 12 and 13, of the text to be placed
 
@@ -58,6 +58,19 @@ module _ (img key : Bytes) (z : openNumber img ≡ 0 → ⊥) where
   pub add-closed : (bytes : Bytes) (mode : ℕ) → addNumber img key bytes mode ≡ openNumber img
   unfolding addNumber
   add-closed bytes mode = firstNo-refused img _ z
+
+-- ---- the offset of the message that lookup shows: 0 where none is shown
+
+module _ (img key : Bytes) where
+  pub offset-refused : (lookupNumber img key ≡ 0 → ⊥) → lookupOffset img key ≡ 0
+  unfolding lookupOffset
+  offset-refused z = rw (ne-eqb (lookupNumber img key) 0 z) refl
+
+  pub offset-met : (i : ℕ) → search (layoutOf img) img key ≡ met i → lookupNumber img key ≡ 0
+      → lookupOffset img key ≡ cond (isActive img (offsetOf (layoutOf img) (slot (layoutOf img) img i)))
+      (offsetOf (layoutOf img) (slot (layoutOf img) img i)) 0
+  unfolding lookupOffset slotOf
+  offset-met i m z = rw (z, m) refl
 
 module _ (img key : Bytes) (open₀ : openNumber img ≡ 0) where
   abbrev g : Layout
@@ -99,8 +112,7 @@ module _ (img key : Bytes) (open₀ : openNumber img ≡ 0) where
       at = offsetOf g (slot g img i)
 
       offset-is : lookupOffset img key ≡ cond (isActive img at) at 0
-      unfolding lookupOffset slotOf
-      offset-is = rw (lookup-0 s, m) refl
+      offset-is = offset-met img key i m (lookup-0 s)
 
       pub lookup-shows : lookup img key .answer
           ≡ record { number = 0; amount = length (shown g img at); text = shown g img at }

@@ -7,8 +7,8 @@ use native.Mathlib.Nat.{mul-le-mul-right, suc-mul}
 use native.Mathlib.Omega.{arith}
 use mathlib.Core.Bool.{true}
 use mathlib.Core.Logic.{_⊎_, inl, inr}
-use lib.ListN.{length, take, replicate, length-append, length-replicate, replicate-append-replicate}
-use lib.Seq.{take-at, drop-at, length-take-le}
+use lib.ListN.{length, take, drop, replicate, length-append, length-replicate, replicate-append-replicate}
+use lib.Seq.{take-at, drop-at, take-take, length-take-le}
 use Rattle.bhtf.specs.Bytes.{Bytes, part, store, number, digits, zeros, allZero}
 use Rattle.bhtf.specs.Limits.{tableStart}
 use Rattle.bhtf.specs.Image.{field, setField, Layout, slotSize, slotStart, slot, putSlot, keyOf, offsetOf, entry, blank, vacant}
@@ -66,6 +66,11 @@ slot-above g i = omega arith
 -- the m bytes from p on are the header's or the data area's
 abbrev pub Outside : Layout → ℕ → ℕ → Type 0
 Outside g p m = (p + m ≤ tableStart) ⊎ (g .D ≤ p)
+
+-- a slot's key is its first K bytes
+pub keyOf-slot : (g : Layout) (img : Bytes) (i : ℕ) → keyOf g (slot g img i) ≡ part img (slotStart g i) (g .K)
+unfolding keyOf slot slotSize part
+keyOf-slot g img i = take-take (g .K) (g .K + 4) (drop (slotStart g i) img) (omega arith)
 
 -- two slots have no byte in common
 pub slots-apart : (g : Layout) (i j : ℕ) → (i ≡ j → ⊥) → Apart (slotStart g i) (slotSize g) (slotStart g j) (slotSize g)

@@ -1,4 +1,5 @@
 -- Stores one after the other as one store, and a part of an image that was lent and came back.
+--     store-none                 a store of nothing
 --     take-store, drop-store     what stands before a store, and behind it
 --     store-inner                a store within the place of a later one leaves nothing
 --     store-append, store-end    a store right behind another; a store up to the end
@@ -7,12 +8,16 @@
 use mathlib.Core.Path.{_≡_, sym, ap, ap₂, _∙_}
 use Prim.Native.Nat.{ℕ, _+_, _-_, _≤_}
 use native.Mathlib.Omega.{arith}
-use mathlib.Core.List.{_++_, append-assoc, append-nil}
-use lib.ListN.{length, take, drop, length-append, length-drop}
+use mathlib.Core.List.{[], _++_, append-assoc, append-nil}
+use lib.ListN.{length, take, drop, length-append, length-drop, take-append-drop}
 use lib.Seq.{take-all, take-at, drop-at, drop-drop, drop-length, length-take-le}
 use borrow.Rule.Slice.PartMut.{putMid}
 use Rattle.bhtf.specs.Bytes.{Bytes, part, store}
 use Rattle.bhtf.proofs.Bytes.{length-store, part-store-below, part-store-above}
+
+pub store-none : (b : Bytes) (p : ℕ) → store b p [] ≡ b
+unfolding store
+store-none b p = take-append-drop p b
 
 pub take-store : (b : Bytes) (p : ℕ) (v : Bytes) (n : ℕ) → p ≤ length b → n ≤ p → take n (store b p v) ≡ take n b
 unfolding part

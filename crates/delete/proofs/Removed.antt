@@ -16,10 +16,11 @@ use Rattle.bhtf.specs.Image.{field, setField, Layout, layoutOf, slot, offsetOf}
 use Rattle.bhtf.specs.Messages.{retire, closed, deletedAt}
 use Rattle.bhtf.specs.Questions.{openNumber, messageSound, somePoint, deleteNumber}
 use Rattle.bhtf.specs.Calls.{plain, delete}
-use Rattle.bhtf.proofs.Opened.{Opened, opened-facts, facts-opened}
-use Rattle.bhtf.proofs.Effects.{retire-kept, retire-field, retire-opened, retire-layout, points-kept, points-opened, points-layout}
+use Rattle.bhtf.proofs.Opened.{Opened, opened-facts}
+use Rattle.bhtf.proofs.Kept.{kept-trans}
+use Rattle.bhtf.proofs.Effects.{retire-kept, retire-field, retire-opened, points-kept, points-opened}
 use Rattle.bhtf.proofs.Outcomes.{delete-refused}
-use Rattle.table.proofs.Heads.{SameHead, kept-shape}
+use Rattle.table.proofs.Heads.{SameHead, head-opened}
 
 module _ (img : Bytes) (h : openNumber img ≡ 0) (at : ℕ) (s : messageSound (layoutOf img) img at ≡ true) (n : ℕ)
     (l : n ≤ field img slotsField) where
@@ -34,12 +35,8 @@ module _ (img : Bytes) (h : openNumber img ≡ 0) (at : ℕ) (s : messageSound (
 
   pub head-counted : SameHead img (setField (retire img at) pointsField n)
   head-counted =
-      record {
-        opened = facts-opened (setField (retire img at) pointsField n) (points-opened (retire img at) facts′ n few);
-        layout = points-layout (retire img at) facts′ n few ∙ retire-layout img facts at s;
-        shape = kept-shape (points-kept (retire img at) facts′ n few) ∙ kept-shape (retire-kept img facts at s);
-        size = points-kept (retire img at) facts′ n few .size ∙ retire-kept img facts at s .size;
-      }
+      head-opened img (setField (retire img at) pointsField n) facts
+      (kept-trans (retire-kept img facts at s) (points-kept (retire img at) facts′ n few)) (points-opened (retire img at) facts′ n few)
 
 pub removed : (img : Bytes) (i at p : ℕ) (counted after : Bytes) → at ≡ offsetOf (layoutOf img) (slot (layoutOf img) img i)
     → p ≡ field img pointsField → counted ≡ setField (retire img at) pointsField (p - 1) → layoutOf counted ≡ layoutOf img

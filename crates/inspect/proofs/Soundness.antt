@@ -2,30 +2,26 @@
 --     sound-lookup      on an image that the check calls sound, lookup finds every taken slot's key with that slot's message
 --     walked-all        the walk from 0, each time from one past the last slot, shows every taken slot once, in rising order
 -- Assumes nothing.
-use mathlib.Core.Path.{_≡_, refl, sym, ap, ap₂, _∙_}
-use Prim.Native.Nat.{ℕ, zero, suc, _+_, _-_, _≤_, _<_}
+use mathlib.Core.Path.{_≡_, refl, sym, ap, _∙_}
+use Prim.Native.Nat.{ℕ, zero, suc, _+_, _≤_, _<_}
 use native.Mathlib.Omega.{arith}
 use mathlib.Core.Bool.{Bool, true, false, cond, not}
 use mathlib.Core.List.{List, [], _∷_}
 use mathlib.Core.Option.{Option, none, some}
 use lib.ListN.{length}
-use borrow.Author.Tests.{eq-eqb, ne-eqb}
-use Rattle.bhtf.specs.Bytes.{Bytes, part}
-use Rattle.bhtf.specs.Image.{Layout, layoutOf, slot, keyOf, offsetOf, vacant}
-use Rattle.bhtf.specs.Search.{met, search, slotOf}
-use Rattle.bhtf.specs.Messages.{headSize, lengthAt, textAt, isActive, shown, held}
-use Rattle.bhtf.specs.Questions.{nameAllowed, lookupNumber}
+use borrow.Author.Tests.{eq-eqb}
+use Rattle.bhtf.specs.Bytes.{Bytes}
+use Rattle.bhtf.specs.Image.{Layout, layoutOf, slot, offsetOf, vacant}
+use Rattle.bhtf.specs.Messages.{shown}
+use Rattle.bhtf.specs.Questions.{nameAllowed}
 use Rattle.bhtf.specs.Inspect.{taken, nextTaken, sound, check}
-use Rattle.bhtf.specs.Calls.{lookup, lookupOffset, lookupStart, lookupLength}
+use Rattle.bhtf.specs.Calls.{lookup}
 use Rattle.bhtf.proofs.Tests.{by-bool, and-true}
-use Rattle.bhtf.proofs.Bytes.{part-length}
 use Rattle.bhtf.proofs.Slots.{length-slot, length-keyOf}
 use Rattle.bhtf.proofs.Table.{Taken, keyAt}
 use Rattle.bhtf.proofs.Opened.{opened-facts, opened-room}
-use Rattle.bhtf.proofs.Outcomes.{lookup-0}
-use Rattle.bhtf.proofs.Effects.{message-end}
+use Rattle.bhtf.proofs.Outcomes.{lookup-shows}
 use Rattle.bhtf.proofs.Verdict.{lowest-yes, lowest-no, lowest-end, check-open, check-searches, check-messages}
-use Rattle.messages.proofs.Sound.{active-some}
 use Rattle.inspect.specs.Walked.{shownThen, walked, takenList}
 
 -- ---- a sound image
@@ -37,41 +33,11 @@ module _ (img : Bytes) (ok : check img ≡ sound) (i : ℕ) (l : i < layoutOf im
   abbrev key : Bytes
   key = keyAt g img i
 
-  abbrev at : ℕ
-  at = offsetOf g (slot g img i)
-
   key-allowed : nameAllowed (g .K) key ≡ true
   unfolding nameAllowed vacant
   key-allowed =
       let room = opened-room img (opened-facts img (check-open img ok)) in
       and-true _ _ (eq-eqb (length key) (g .K) (length-keyOf g (slot g img i) (length-slot g img room i l))) (ap not t)
-
-  number-is : lookupNumber img key ≡ 0
-  number-is =
-      lookup-0 img key (check-open img ok) key-allowed i (check-searches img ok i l t) (check-messages img ok i l t)
-
-  offset-is : lookupOffset img key ≡ cond (isActive img at) at 0
-  unfolding lookupOffset slotOf
-  offset-is = rw (number-is, check-searches img ok i l t) refl
-
-  active-text : isActive img at ≡ true
-      → lookup img key .answer ≡ record { number = 0; amount = length (shown g img at); text = shown g img at }
-  unfolding lookup lookupLength lookupStart held shown textAt
-  active-text h =
-      let open₀ = opened-facts img (check-open img ok) in
-      let z : at ≡ 0 → ⊥ = λ e. omega (arith, active-some img at h) in
-      let o : lookupOffset img key ≡ at = offset-is ∙ ap (λ (b : Bool). cond b at 0) h in
-      let end = message-end img open₀ at (check-messages img ok i l t) z in
-      let len : length (part img (at + headSize g) (lengthAt g img at)) ≡ lengthAt g img at =
-      part-length img (at + headSize g) (lengthAt g img at) (omega (arith, end, open₀ .free-high)) in
-      rw (number-is, o, ne-eqb at 0 z, h, len) refl
-
-  inactive-text : isActive img at ≡ false
-      → lookup img key .answer ≡ record { number = 0; amount = length (shown g img at); text = shown g img at }
-  unfolding lookup lookupLength lookupStart held shown part
-  inactive-text h =
-      let o : lookupOffset img key ≡ 0 = offset-is ∙ ap (λ (b : Bool). cond b at 0) h in
-      rw (number-is, o, h) refl
 
 pub sound-lookup : (img : Bytes) → check img ≡ sound → (i : ℕ) → i < layoutOf img .N → Taken (layoutOf img) img i
     → lookup img (keyAt (layoutOf img) img i) .answer
@@ -81,8 +47,8 @@ pub sound-lookup : (img : Bytes) → check img ≡ sound → (i : ℕ) → i < l
       text = shown (layoutOf img) img (offsetOf (layoutOf img) (slot (layoutOf img) img i));
     }
 sound-lookup img ok i l t =
-    by-bool (isActive img (offsetOf (layoutOf img) (slot (layoutOf img) img i)))
-    (active-text img ok i l t) (inactive-text img ok i l t)
+    lookup-shows img (keyAt (layoutOf img) img i) (check-open img ok) (key-allowed img ok i l t) i (check-searches img ok i l t)
+    (check-messages img ok i l t)
 
 -- ---- the walk through a table
 

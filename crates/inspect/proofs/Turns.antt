@@ -4,13 +4,11 @@
 --     ends-false, ends-true, not-met, met-other, met-here      a slot's search and its message
 -- Assumes nothing.
 use mathlib.Core.Path.{_≡_, refl, sym, ap, ap₂, _∙_}
-use Prim.Native.Nat.{ℕ, zero, suc, _+_, _-_, _≤_, _<_}
+use Prim.Native.Nat.{ℕ, suc, _+_, _-_, _≤_, _<_}
 use native.Mathlib.Omega.{arith}
 use mathlib.Core.Bool.{Bool, true, false, cond, not, _&&_}
 use mathlib.Core.List.{[], _∷_}
-use mathlib.Core.Logic.{_⊎_, inl, inr}
-use mathlib.Core.Option.{Option, none, some}
-use lib.Dec.{eqb}
+use mathlib.Core.Option.{none, some}
 use types.Run.{OneOf}
 use denote.Enum.Declared.{tagOf}
 use borrow.Author.Tests.{eq-eqb, ne-eqb}
@@ -18,6 +16,7 @@ use Rattle.bhtf.specs.Bytes.{Bytes}
 use Rattle.bhtf.specs.Image.{field, Layout, layoutOf, slot, offsetOf}
 use Rattle.bhtf.specs.Inspect.{lowest, taken, takenFrom, endsAt, slotSound, slotFails, Verdict, sound, slotBad, countBad, countSound, verdictOf, check}
 use Rattle.bhtf.specs.Search.{Probe, search}
+use Rattle.bhtf.proofs.Tests.{by-either, zero-yes, zero-no}
 use Rattle.bhtf.proofs.Table.{keyAt}
 use Rattle.bhtf.proofs.Verdict.{lowest-yes, lowest-no, lowest-end}
 use Rattle.layout.specs.declared.places.Slot.{Slot}
@@ -27,11 +26,6 @@ use Rattle.table.proofs.Found as row
 use Rattle.table.specs.declared.Found.the-variants.{Met, Empty, Exhausted}
 use Rattle.bhtf.specs.Questions.{messageSound, openNumber}
 use Rattle.inspect.specs.Verdicts.{tableVerdict}
-use Rattle.walk.proofs.Stopping.{opened-yes, opened-no}
-
-pub on {ℓ} : {A B : Type 0} {C : Type ℓ} → A ⊎ B → (A → C) → (B → C) → C
-on (inl a) f g = f a
-on (inr b) f g = g b
 
 -- ---- the number of taken slots from i on
 module _ (g : Layout) (img : Bytes) where
@@ -144,21 +138,21 @@ pub check-closed : (img : Bytes) (n : ℕ) → n ≡ openNumber img → (n ≡ 0
 unfolding check
 check-closed img n q h =
     ap Verdict.refused q
-    ∙ sym (opened-no img
+    ∙ sym (zero-no (openNumber img)
     (verdictOf (countSound (layoutOf img) img) (lowest (slotFails (layoutOf img) img) (layoutOf img .N) 0))
     (Verdict.refused (openNumber img)) (λ z. h (q ∙ z)))
 
 pub check-open : (img : Bytes) → openNumber img ≡ 0 → tableVerdict img ≡ check img
 unfolding check tableVerdict
 check-open img h =
-    sym (opened-yes img
+    sym (zero-yes (openNumber img)
     (verdictOf (countSound (layoutOf img) img) (lowest (slotFails (layoutOf img) img) (layoutOf img .N) 0))
     (Verdict.refused (openNumber img)) h)
 
 -- ---- a slot's search
 pub not-met : (f : found.Found) → OneOf (1 ∷ 2 ∷ []) (tagOf row.the-type f) → (i : ℕ) → endsAt (probeOf f) i ≡ false
 unfolding probeOf endsAt
-not-met (Met s) h i = absurd (on h (λ (z : _≡_ {A = ℕ} 0 1). omega arith) (λ (z : _≡_ {A = ℕ} 0 2). omega arith))
+not-met (Met s) h i = absurd (by-either h (λ (z : _≡_ {A = ℕ} 0 1). omega arith) (λ (z : _≡_ {A = ℕ} 0 2). omega arith))
 not-met (Empty s) h i = refl
 not-met Exhausted h i = refl
 

@@ -2,27 +2,24 @@
 --     listed-bound, printed-bound      at most 262,144 bytes
 -- Each slot of K + 4 bytes gives a line of at most 13 + 2 K bytes, which is at most 4 bytes of text for each of its own.
 -- Assumes nothing.
-use mathlib.Core.Path.{_≡_, refl, sym, ap, _∙_}
+use mathlib.Core.Path.{_≡_, refl, ap}
 use Prim.Native.Nat.{ℕ, zero, suc, _+_, _*_, _≤_, _<_}
 use native.Mathlib.Nat.{suc-mul}
 use native.Mathlib.Omega.{arith}
-use mathlib.Core.Bool.{Bool, true, false, cond}
-use mathlib.Core.List.{[]}
+use mathlib.Core.Bool.{Bool, cond}
 use lib.ListN.{length, length-append}
-use lib.Dec.{leb}
 use borrow.Author.Tests.{le-leb, lt-leb}
 use Rattle.bhtf.specs.Bytes.{Bytes}
-use Rattle.bhtf.specs.Image.{Layout, layoutOf, slotSize, slot, keyOf, offsetOf}
+use Rattle.bhtf.specs.Image.{layoutOf, slotSize, slot, keyOf, offsetOf}
 use Rattle.bhtf.specs.Messages.{lengthAt, isActive}
-use Rattle.bhtf.specs.Questions.{sizeAllowed, versionKnown, headerSound, messageSound, opened, openNumber}
+use Rattle.bhtf.specs.Questions.{sizeAllowed, versionKnown, headerSound, messageSound, openNumber}
 use Rattle.bhtf.specs.Inspect.{taken}
 use Rattle.bhtf.proofs.Tests.{by-bool, by-eq, by-le}
 use Rattle.bhtf.proofs.Slots.{length-slot, length-keyOf}
-use Rattle.bhtf.proofs.Opened.{firstNo-none, firstNo-yes, firstNo-no, opened-facts, opened-room}
-use Rattle.bhtf.proofs.Effects.{message-end}
-use Rattle.messages.proofs.Sound.{active-some}
-use Rattle.text.specs.Text.{decimal, hexes}
-use Rattle.listing.specs.Listed.{heading, lengthText, line, row, lines, refusedText, listed, mostListed, tooLong, printed}
+use Rattle.bhtf.proofs.Opened.{opened-facts, opened-room}
+use Rattle.bhtf.proofs.Effects.{message-end, active-some}
+use Rattle.questions.proofs.Headers.{open-0, open-1, open-5, open-6}
+use Rattle.listing.specs.Listed.{heading, lengthText, line, row, lines, listed, mostListed, tooLong, printed}
 use Rattle.text.proofs.Numbers.{decimal-5, length-hexes}
 use Rattle.listing.proofs.Rows.{text-bad, text-none, text-active, row-taken, row-vacant, line-length, refused-length, listed-closed, listed-open}
 
@@ -33,8 +30,7 @@ module _ (img : Bytes) (small : length img ≤ 65536) (open₀ : openNumber img 
       by-bool (messageSound (layoutOf img) img o)
       (λ s. by-bool (isActive img o)
       (λ a.
-      let z : o ≡ 0 → ⊥ = λ e. omega (arith, active-some img o a) in
-      let m : lengthAt (layoutOf img) img o < 100000 = omega (arith, message-end img f o s z, f .free-high) in
+      let m : lengthAt (layoutOf img) img o < 100000 = omega (arith, message-end img f o s (active-some img o a), f .free-high) in
       omega (arith, ap length (text-active (layoutOf img) img o o refl s a (lengthAt (layoutOf img) img o) refl), decimal-5 (lengthAt (layoutOf img) img o) m))
       (λ a. omega (arith, ap length (text-none (layoutOf img) img o o refl s a), decimal-5 0 (omega arith))))
       (λ s. omega (arith, ap length (text-bad (layoutOf img) img o o refl s)))
@@ -84,16 +80,15 @@ module _ (img : Bytes) (small : length img ≤ 65536) (open₀ : openNumber img 
 
 -- the number that refuses is 1, 5 or 6
 number-bound : (img : Bytes) → openNumber img < 100000
-unfolding openNumber opened
 number-bound img =
     let small : (n : ℕ) → openNumber img ≡ n → n < 100000 → openNumber img < 100000 = λ n e l. omega arith in
     by-bool (sizeAllowed (length img))
     (λ a. by-bool (versionKnown img)
     (λ b. by-bool (headerSound img)
-    (λ c. small 0 (firstNo-yes 1 _ _ a ∙ firstNo-yes 5 _ _ b ∙ firstNo-yes 6 _ [] c ∙ firstNo-none) (omega arith))
-    (λ c. small 6 (firstNo-yes 1 _ _ a ∙ firstNo-yes 5 _ _ b ∙ firstNo-no 6 _ [] c) (omega arith)))
-    (λ b. small 5 (firstNo-yes 1 _ _ a ∙ firstNo-no 5 _ _ b) (omega arith)))
-    (λ a. small 1 (firstNo-no 1 _ _ a) (omega arith))
+    (λ c. small 0 (open-0 img a b c) (omega arith))
+    (λ c. small 6 (open-6 img a b c) (omega arith)))
+    (λ b. small 5 (open-5 img a b) (omega arith)))
+    (λ a. small 1 (open-1 img a) (omega arith))
 
 pub listed-bound : (img : Bytes) → length img ≤ 65536 → length (listed img) ≤ 262144
 listed-bound img small =

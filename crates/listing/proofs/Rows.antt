@@ -4,19 +4,19 @@
 --     listed-closed, listed-open      the whole text
 --     line-length      of a line's pieces
 -- Assumes nothing.
-use mathlib.Core.Path.{_≡_, refl, sym, ap, ap₂, _∙_}
-use Prim.Native.Nat.{ℕ, zero, suc, _+_, _-_, _≤_, _<_}
+use mathlib.Core.Path.{_≡_, sym, ap, _∙_}
+use Prim.Native.Nat.{ℕ, suc, _+_, _-_, _≤_, _<_}
 use native.Mathlib.Omega.{arith}
 use mathlib.Core.Bool.{Bool, true, false, cond}
-use mathlib.Core.List.{[], _∷_, _++_}
+use mathlib.Core.List.{[], _++_}
 use lib.ListN.{length, length-append}
 use Rattle.bhtf.specs.Bytes.{Bytes}
 use Rattle.bhtf.specs.Image.{Layout, layoutOf, slot, keyOf, offsetOf}
 use Rattle.bhtf.specs.Messages.{lengthAt, isActive}
 use Rattle.bhtf.specs.Questions.{messageSound, openNumber}
 use Rattle.bhtf.specs.Inspect.{taken}
-use Rattle.walk.proofs.Stopping.{opened-yes, opened-no}
-use Rattle.text.specs.Text.{decimal, hexes, space, feed}
+use Rattle.bhtf.proofs.Tests.{zero-yes, zero-no}
+use Rattle.text.specs.Text.{decimal, hexes}
 use Rattle.listing.specs.Listed.{heading, bad, lengthText, line, row, lines, refusedText, listed}
 
 -- o is the offset that stands in the slot
@@ -78,12 +78,12 @@ refused-length n = simp length-append
 pub listed-closed : (img : Bytes) (n : ℕ) → n ≡ openNumber img → (n ≡ 0 → ⊥) → listed img ≡ refusedText n
 unfolding listed
 listed-closed img n q h =
-    opened-no img (heading ++ lines (layoutOf img) img (layoutOf img .N) 0) (refusedText (openNumber img)) (λ z. h (q ∙ z))
+    zero-no (openNumber img) (heading ++ lines (layoutOf img) img (layoutOf img .N) 0) (refusedText (openNumber img)) (λ z. h (q ∙ z))
     ∙ ap refusedText (sym q)
 
 pub listed-open : (img : Bytes) (slots : ℕ) → openNumber img ≡ 0 → layoutOf img .N ≡ slots
     → listed img ≡ heading ++ lines (layoutOf img) img slots 0
 unfolding listed
 listed-open img slots h q =
-    opened-yes img (heading ++ lines (layoutOf img) img (layoutOf img .N) 0) (refusedText (openNumber img)) h
+    zero-yes (openNumber img) (heading ++ lines (layoutOf img) img (layoutOf img .N) 0) (refusedText (openNumber img)) h
     ∙ ap (λ (n : ℕ). heading ++ lines (layoutOf img) img n 0) q

@@ -2,19 +2,19 @@
 --     count-refused, count-accepted      the number and C
 --     Shows img key n s l                the number, start and length that lookup answers, as a fact
 --     shows-refused, shows-inactive, shows-active      from the number and the message's offset
+--     start-none, length-none            where no message is shown
 --     inside                             the part that lookup shows ends in the image
 -- Assumes nothing.
 use mathlib.Core.Path.{_≡_, refl, sym, ap, ap₂, _∙_}
-use Prim.Native.Nat.{ℕ, _+_, _≤_, _<_}
+use Prim.Native.Nat.{ℕ, _+_, _≤_}
 use native.Mathlib.Omega.{arith}
-use mathlib.Core.Bool.{Bool, true, false, cond, _&&_}
+use mathlib.Core.Bool.{Bool, true, false, cond}
 use lib.ListN.{length}
-use lib.Dec.{eqb}
 use borrow.Author.Tests.{eq-eqb, ne-eqb}
 use Rattle.bhtf.specs.Bytes.{Bytes, part}
 use Rattle.bhtf.specs.Limits.{pointsField}
 use Rattle.bhtf.specs.Image.{field, Layout, layoutOf, slot, offsetOf}
-use Rattle.bhtf.specs.Search.{Probe, met, search, isMet, slotOf}
+use Rattle.bhtf.specs.Search.{met, search, isMet}
 use Rattle.bhtf.specs.Messages.{headSize, isActive, held}
 use Rattle.bhtf.specs.Questions.{nameAllowed, messageSound, openNumber, lookupNumber}
 use Rattle.bhtf.specs.Calls.{lookup, lookupOffset, lookupStart, lookupLength, count, countOf}
@@ -22,8 +22,9 @@ use Rattle.bhtf.proofs.Tests.{by-bool, by-eq}
 use Rattle.bhtf.proofs.Bytes.{part-length}
 use Rattle.bhtf.proofs.Opened.{opened-facts}
 use Rattle.bhtf.proofs.Probe.{by-search}
-use Rattle.bhtf.proofs.Outcomes.{lookup-closed, lookup-7, lookup-14, lookup-11, lookup-0}
-use Rattle.messages.proofs.Sound.{head-four, sound-facts, active-some, held-none, held-some}
+use Rattle.bhtf.proofs.Effects.{message-end, active-some}
+use Rattle.bhtf.proofs.Outcomes.{offset-refused, offset-met, lookup-closed, lookup-7, lookup-14, lookup-11, lookup-0}
+use Rattle.messages.proofs.Sound.{head-four, held-none, held-some}
 
 -- ---- count
 module _ (img : Bytes) (n : ℕ) where
@@ -44,46 +45,32 @@ module _ (img key : Bytes) where
   abbrev g : Layout
   g = layoutOf img
 
-  -- the message's offset: 0 where none is shown
-  offset-refused : (lookupNumber img key ≡ 0 → ⊥) → lookupOffset img key ≡ 0
-  unfolding lookupOffset
-  offset-refused z = rw (ne-eqb (lookupNumber img key) 0 z) refl
-
-  module _ (i : ℕ) (m : search g img key ≡ met i) where
+  -- the message's offset
+  module _ (i : ℕ) (m : search g img key ≡ met i) (z : lookupNumber img key ≡ 0) where
     abbrev at : ℕ
     at = offsetOf g (slot g img i)
 
-    offset-met : lookupOffset img key ≡ cond (eqb (lookupNumber img key) 0 && isActive img at) at 0
-    unfolding lookupOffset slotOf
-    offset-met =
-        ap (λ (p : Probe). cond (eqb (lookupNumber img key) 0 && isActive img (offsetOf g (slot g img (slotOf p))))
-        (offsetOf g (slot g img (slotOf p))) 0) m
+    offset-inactive : isActive img at ≡ false → lookupOffset img key ≡ 0
+    offset-inactive a = offset-met img key i m z ∙ ap (λ (b : Bool). cond b at 0) a
 
-    offset-inactive : isActive img at ≡ false → lookupNumber img key ≡ 0 → lookupOffset img key ≡ 0
-    offset-inactive a z =
-        offset-met
-        ∙ ap₂ (λ (b c : Bool). cond (b && c) at 0) (eq-eqb (lookupNumber img key) 0 z) a
-
-    offset-active : isActive img at ≡ true → lookupNumber img key ≡ 0 → lookupOffset img key ≡ at
-    offset-active a z =
-        offset-met
-        ∙ ap₂ (λ (b c : Bool). cond (b && c) at 0) (eq-eqb (lookupNumber img key) 0 z) a
+    offset-active : isActive img at ≡ true → lookupOffset img key ≡ at
+    offset-active a = offset-met img key i m z ∙ ap (λ (b : Bool). cond b at 0) a
 
   -- start and length by the offset
-  start-none : lookupOffset img key ≡ 0 → lookupStart img key ≡ 0
+  pub start-none : lookupOffset img key ≡ 0 → lookupStart img key ≡ 0
   unfolding lookupStart
   start-none z = rw (eq-eqb (lookupOffset img key) 0 z) refl
 
-  length-none : lookupOffset img key ≡ 0 → lookupLength img key ≡ 0
+  pub length-none : lookupOffset img key ≡ 0 → lookupLength img key ≡ 0
   unfolding lookupLength
   length-none z = held-none g img (lookupOffset img key) z
 
-  module _ (o : ℕ) (e : lookupOffset img key ≡ o) (some′ : 0 < o) where
+  module _ (o : ℕ) (e : lookupOffset img key ≡ o) (some′ : o ≡ 0 → ⊥) where
     start-some : lookupStart img key ≡ o + 4
     unfolding lookupStart
     start-some =
         ap (λ (b : Bool). cond b 0 (lookupOffset img key + headSize g))
-        (ne-eqb (lookupOffset img key) 0 (λ z. omega arith))
+        (ne-eqb (lookupOffset img key) 0 (λ z. some′ (sym e ∙ z)))
         ∙ ap₂ _+_ e (head-four img)
 
     length-some : lookupLength img key ≡ held g img o
@@ -96,17 +83,17 @@ module _ (img key : Bytes) where
     shows-none e z es el = (e, es ∙ sym (start-none z), el ∙ sym (length-none z))
 
     pub shows-refused : n ≡ lookupNumber img key → (n ≡ 0 → ⊥) → s ≡ 0 → l ≡ 0 → Shows img key n s l
-    shows-refused e z es el = shows-none e (offset-refused (λ q. z (e ∙ q))) es el
+    shows-refused e z es el = shows-none e (offset-refused img key (λ q. z (e ∙ q))) es el
 
     module _ (z : lookupNumber img key ≡ 0) (e : n ≡ 0) (i : ℕ) (m : search g img key ≡ met i) where
       pub shows-inactive : isActive img (offsetOf g (slot g img i)) ≡ false → s ≡ 0 → l ≡ 0 → Shows img key n s l
-      shows-inactive a es el = shows-none (e ∙ sym z) (offset-inactive i m a z) es el
+      shows-inactive a es el = shows-none (e ∙ sym z) (offset-inactive i m z a) es el
 
       pub shows-active : isActive img (offsetOf g (slot g img i)) ≡ true → s ≡ offsetOf g (slot g img i) + 4
           → l ≡ held g img (offsetOf g (slot g img i)) → Shows img key n s l
       shows-active a es el =
           let o = offsetOf g (slot g img i) in
-          let at′ = offset-active i m a z in
+          let at′ = offset-active i m z a in
           let some′ = active-some img o a in
           (e ∙ sym z, es ∙ sym (start-some o at′ some′), el ∙ sym (length-some o at′ some′))
 
@@ -116,7 +103,7 @@ module _ (img key : Bytes) where
 
   inside-refused : (n : ℕ) → lookupNumber img key ≡ n → (n ≡ 0 → ⊥)
       → lookupStart img key + lookupLength img key ≤ length img
-  inside-refused n e z = inside-none (offset-refused (λ q. z (sym e ∙ q)))
+  inside-refused n e z = inside-none (offset-refused img key (λ q. z (sym e ∙ q)))
 
   inside-met : openNumber img ≡ 0 → nameAllowed (g .K) key ≡ true → (i : ℕ) → search g img key ≡ met i
       → lookupStart img key + lookupLength img key ≤ length img
@@ -127,10 +114,11 @@ module _ (img key : Bytes) where
       let z = lookup-0 img key h a i m s in
       by-bool (isActive img o)
       (λ b.
-      let e = offset-active i m b z in
-      let some′ : 0 < o = active-some img o b in
-      omega (arith, start-some o e some′, length-some o e some′, held-some g img o (λ q. omega arith), sound-facts img o some′ s .end, opened-facts img h .free-high))
-      (λ b. inside-none (offset-inactive i m b z)))
+      let e = offset-active i m z b in
+      let f = opened-facts img h in
+      let some′ = active-some img o b in
+      omega (arith, start-some o e some′, length-some o e some′, held-some g img o some′, head-four img, message-end img f o s some′, f .free-high))
+      (λ b. inside-none (offset-inactive i m z b)))
       (λ s. inside-refused 11 (lookup-11 img key h a i m s) (λ q. omega arith))
 
   pub inside : lookupStart img key + lookupLength img key ≤ length img

@@ -1,15 +1,14 @@
 -- Questions 5 and 6 as the code puts them: what follows where the ranges are sound, and where they are not.
 --     header-refused, header-rest       question 6 after its ranges
 --     ranges-key, ranges-slots          so that D's formula does not wrap
---     was-no, was-yes                   a test's answer by the callee's contract
 --     open-1, open-5, open-6, open-0    the number of questions 1, 5 and 6, by where they end
 -- Assumes nothing.
-use mathlib.Core.Path.{_≡_, sym, _∙_}
+use mathlib.Core.Path.{_≡_, _∙_}
 use Prim.Native.Nat.{ℕ, _%_, _≤_}
-use mathlib.Core.Bool.{Bool, true, false, not, _&&_}
+use mathlib.Core.Bool.{true, false, _&&_}
 use lib.ListN.{length}
 use lib.Dec.{leb, eqb}
-use borrow.Author.Tests.{leb-true, not-true, not-false}
+use borrow.Author.Tests.{leb-true}
 use Rattle.bhtf.specs.Bytes.{Bytes}
 use Rattle.bhtf.specs.Limits.{keyField, slotsField, dataField, freeField, mostKey, mostSlots, mostImage, pageSize}
 use Rattle.bhtf.specs.Image.{field, dataStart}
@@ -17,13 +16,6 @@ use Rattle.bhtf.specs.Questions.{sizeAllowed, keyAllowed, slotsAllowed, version
 use Rattle.bhtf.proofs.Tests.{and-left, and-right}
 use Rattle.bhtf.proofs.Opened.{firstNo-none, firstNo-yes, firstNo-no}
 use Rattle.questions.specs.Ranges.{rangesSound}
-
--- ---- `if !f(..)`, with r what f answered
-pub was-no : {r b : Bool} → r ≡ b → not r ≡ true → b ≡ false
-was-no {r} e t = sym e ∙ not-true r t
-
-pub was-yes : {r b : Bool} → r ≡ b → not r ≡ false → b ≡ true
-was-yes {r} e t = sym e ∙ not-false r t
 
 module _ (img : Bytes) where
   -- ---- question 6

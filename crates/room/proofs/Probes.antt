@@ -1,14 +1,13 @@
 -- The search's answer for an absent key, taken apart by `let .. else`, and the slot where a search ended.
 --     else-exhausted      an absent key, where the pattern `Found::Empty` leaves
 --     empty-is            where it takes
---     met-below, empty-below, key-fits      so that the slot and the name may be used
+--     empty-below, key-fits      so that the slot and the name may be used
 -- Assumes nothing.
 use mathlib.Core.Path.{_≡_, refl, ap, _∙_}
 use Prim.Native.Nat.{ℕ, _<_}
 use native.Mathlib.Omega.{arith}
 use mathlib.Core.Bool.{true, false, not, true≢false}
 use mathlib.Core.List.{[], _∷_}
-use mathlib.Core.Logic.{_⊎_, inl, inr}
 use lib.ListN.{length}
 use lib.Dec.{eqb}
 use borrow.Author.Tests.{eqb-true}
@@ -17,9 +16,9 @@ use types.Run.{OneOf}
 use Rattle.bhtf.specs.Bytes.{Bytes, allZero}
 use Rattle.bhtf.specs.Image.{layoutOf}
 use Rattle.bhtf.specs.Questions.{openNumber, nameAllowed}
-use Rattle.bhtf.specs.Search.{met, empty, exhausted, search, isMet}
-use Rattle.bhtf.proofs.Tests.{and-left}
-use Rattle.bhtf.proofs.Probe.{search-met, search-empty}
+use Rattle.bhtf.specs.Search.{empty, exhausted, search, isMet}
+use Rattle.bhtf.proofs.Tests.{by-either, and-left}
+use Rattle.bhtf.proofs.Probe.{search-empty}
 use Rattle.layout.specs.Shapes.{shapeOf}
 use Rattle.layout.specs.declared.shape.Shape.{Shape}
 use Rattle.layout.specs.declared.places.Slot.{Slot}
@@ -29,15 +28,10 @@ use Rattle.table.specs.Probes.{probeOf}
 use Rattle.table.proofs.Found.{the-type}
 use Rattle.table.proofs.Headers.{header, layout-key, layout-slots}
 
--- a variant's number is not one of two others
-neither : {a b : ℕ} (n : ℕ) → (n ≡ a → ⊥) → (n ≡ b → ⊥) → (n ≡ a) ⊎ (n ≡ b) → ⊥
-neither n x y (inl e) = x e
-neither n x y (inr e) = y e
-
 pub else-exhausted : (f : Found) → OneOf (0 ∷ 2 ∷ []) (tagOf the-type f) → isMet (probeOf f) ≡ false → probeOf f ≡ exhausted
 unfolding probeOf isMet
 else-exhausted (Met s) h n = absurd (true≢false n)
-else-exhausted (Empty s) h n = absurd (neither 1 (λ e. omega arith) (λ e. omega arith) h)
+else-exhausted (Empty s) h n = absurd (by-either h (λ (z : _≡_ {A = ℕ} 1 0). omega arith) (λ (z : _≡_ {A = ℕ} 1 2). omega arith))
 else-exhausted Exhausted h n = refl
 
 pub empty-is : {f : Found} {s : Slot} → f ≡ Empty s → probeOf f ≡ empty (s .0)
@@ -46,12 +40,6 @@ empty-is e = ap probeOf e
 
 -- the slot where a search ended is one of the table's, and an allowed name has the shape's length
 module _ (img key : Bytes) (s : Shape) (open₀ : openNumber img ≡ 0) (is : s ≡ shapeOf img) where
-  pub met-below : (i : ℕ) → search (layoutOf img) img key ≡ met i → i < s .slots
-  met-below i m =
-      let n = layout-slots img s is in
-      let b = header img s open₀ is in
-      omega (arith, search-met (layoutOf img) img key (omega arith) i m .0)
-
   pub empty-below : (i : ℕ) → search (layoutOf img) img key ≡ empty i → i < s .slots
   empty-below i m =
       let n = layout-slots img s is in

@@ -14,10 +14,10 @@ use Rattle.bhtf.specs.Limits.{freeField}
 use Rattle.bhtf.specs.Image.{field, layoutOf, putSlot, entry}
 use Rattle.bhtf.specs.Messages.{headSize, takeSpace, retire, enter, inserted, freshText, relocated}
 use Rattle.bhtf.specs.Questions.{openNumber, messageSound}
-use Rattle.bhtf.proofs.Opened.{opened-facts, facts-opened}
-use Rattle.bhtf.proofs.Effects.{retire-kept, retire-opened, retire-layout, retire-field, retire-behind, space-kept, space-opened, space-layout}
+use Rattle.bhtf.proofs.Opened.{opened-facts}
+use Rattle.bhtf.proofs.Effects.{retire-kept, retire-opened, retire-field, retire-behind, space-kept, space-opened}
 use Rattle.messages.proofs.Sound.{head-four}
-use Rattle.table.proofs.Heads.{SameHead, kept-shape, head-trans}
+use Rattle.table.proofs.Heads.{SameHead, head-trans, head-opened}
 use Rattle.room.specs.Rooms.{roomNumber}
 use Rattle.room.proofs.Numbers.{room-fits}
 use Rattle.room.proofs.Texts.{length-text, fresh-none}
@@ -27,13 +27,7 @@ module _ (img img₁ : Bytes) (h : openNumber img ≡ 0) where
   pub head-retire : (o : ℕ) → messageSound (layoutOf img) img o ≡ true → img₁ ≡ retire img o → SameHead img img₁
   head-retire o s e =
       let f = opened-facts img h in
-      subst (SameHead img) (sym e)
-      (record {
-        opened = facts-opened (retire img o) (retire-opened img f o s);
-        layout = retire-layout img f o s;
-        shape = kept-shape (retire-kept img f o s);
-        size = retire-kept img f o s .size;
-      })
+      subst (SameHead img) (sym e) (head-opened img (retire img o) f (retire-kept img f o s) (retire-opened img f o s))
 
   pub head-space : (t : Bytes) → field img freeField + 4 + length t ≤ length img → img₁ ≡ takeSpace (layoutOf img) img t
       → SameHead img img₁
@@ -41,12 +35,7 @@ module _ (img img₁ : Bytes) (h : openNumber img ≡ 0) where
       let f = opened-facts img h in
       let fits : field img freeField + headSize (layoutOf img) + length t ≤ length img = omega (arith, head-four img) in
       subst (SameHead img) (sym e)
-      (record {
-        opened = facts-opened (takeSpace (layoutOf img) img t) (space-opened img f t fits);
-        layout = space-layout img f t fits;
-        shape = kept-shape (space-kept img f t fits);
-        size = space-kept img f t fits .size;
-      })
+      (head-opened img (takeSpace (layoutOf img) img t) f (space-kept img f t fits) (space-opened img f t fits))
 
 -- ---- a point that is absent
 pub inserted-steps : (img img₁ after key bytes : Bytes) (i x : ℕ) → img₁ ≡ takeSpace (layoutOf img) img bytes

@@ -9,7 +9,7 @@ use native.Mathlib.Omega.{arith}
 use mathlib.Core.Bool.{true, false}
 use mathlib.Core.List.{_++_}
 use mathlib.Core.Option.{none, some}
-use lib.ListN.{length, length-append}
+use lib.ListN.{length}
 use borrow.Author.Tests.{le-leb, lt-leb, eq-eqb, ne-eqb}
 use Rattle.bhtf.specs.Bytes.{Bytes, part}
 use Rattle.bhtf.specs.Limits.{freeField}
@@ -17,10 +17,11 @@ use Rattle.bhtf.specs.Image.{field, Layout, layoutOf}
 use Rattle.bhtf.specs.Messages.{isActive, lengthAt, textAt, shown, held, retire, overwrite, relocated, freshText, renewedText, renewed, renewedAt}
 use Rattle.bhtf.specs.Questions.{messageSound}
 use Rattle.bhtf.proofs.Tests.{by-bool, by-eq}
-use Rattle.bhtf.proofs.Bytes.{part-length}
+use Rattle.bhtf.proofs.Bytes.{length-part-append}
 use Rattle.bhtf.proofs.Opened.{Opened}
+use Rattle.bhtf.proofs.Effects.{area-above, message-end, active-some}
 use Rattle.words.proofs.Numbers.{part-zero}
-use Rattle.messages.proofs.Sound.{head-four, sound-facts, active-some, area-low, held-none}
+use Rattle.messages.proofs.Sound.{head-four, held-none}
 use Rattle.room.specs.Rooms.{shownLength}
 
 -- ---- a point that is absent
@@ -92,19 +93,17 @@ module _ (img : Bytes) (f : Opened img) (o : ℕ) (s : messageSound (layoutOf im
   pub head-end : o + 4 ≤ field img freeField
   head-end =
       by-eq o 0
-      (λ e. omega (arith, area-low img f, f .free-low))
-      (λ n. omega (arith, sound-facts img o (omega arith) s .end))
+      (λ e. omega (arith, area-above img f, f .free-low))
+      (λ n. omega (arith, head-four img, message-end img f o s n))
 
   pub shown-end : o + 4 + shownLength img o ≤ field img freeField
   shown-end =
       by-bool (isActive img o)
-      (λ h. omega (arith, length-shown-yes img o h, sound-facts img o (active-some img o h) s .end))
+      (λ h. omega (arith, length-shown-yes img o h, head-four img, message-end img f o s (active-some img o h)))
       (λ h. omega (arith, length-shown-no img o h, head-end))
 
   pub length-text : (n : ℕ) (bytes : Bytes) → o + 4 + n ≤ field img freeField → length (part img (o + 4) n ++ bytes) ≡ n + length bytes
-  length-text n bytes h =
-      length-append (part img (o + 4) n) bytes
-      ∙ ap (λ (k : ℕ). k + length bytes) (part-length img (o + 4) n (omega (arith, f .free-high)))
+  length-text n bytes h = length-part-append img (o + 4) n bytes (omega (arith, f .free-high))
 
   pub length-appended : (bytes : Bytes) → length (shown (layoutOf img) img o ++ bytes) ≡ shownLength img o + length bytes
   length-appended bytes =

@@ -1,9 +1,8 @@
 -- The image that create leaves, as the code makes it: zeros, then the header and the scramble stored number by number.
---     store-next          a store right behind another one is one store
 --     number-stored       one more of a list of numbers
 --     all-digits-drawn    numbers that the generator gives
 --     header-digits       the header's fifteen numbers
---     drawn-more, length-drawn      one more scramble number
+--     drawn-more          one more scramble number
 --     fresh-stored        zeros, header and scramble are the fresh image
 -- Assumes nothing.
 use mathlib.Core.Path.{_≡_, refl, sym, ap, ap₂, _∙_}
@@ -12,46 +11,22 @@ use Prim.Native.Nat.{ℕ, zero, suc, _+_, _-_, _*_, _≤_, _<_, zero-le, suc-le-
 use native.Mathlib.Nat.{add-zero, zero-add, add-suc, suc-add}
 use native.Mathlib.Numerals.{add-one}
 use native.Mathlib.Omega.{arith}
-use lib.ListN.{length, getD, take, drop, replicate, length-append, replicate-append-replicate, take-append-drop}
-use lib.Seq.{take-suc, take-at, drop-at, drop-drop, length-take-le}
+use lib.ListN.{length, getD, take, drop, replicate, length-append, replicate-append-replicate}
+use lib.Seq.{take-suc, take-at, drop-at, length-take-le}
 use Rattle.bhtf.specs.Bytes.{Bytes, store, digits, zeros}
 use Rattle.bhtf.specs.Image.{setField, dataStart}
 use Rattle.bhtf.specs.Create.{step, state, drawn, drawnBytes, freshHeader, freshImage}
 use Rattle.scramble.specs.Numbers.{allDigits}
 use Rattle.bhtf.proofs.Bytes.{length-digits, length-zeros}
+use Rattle.bhtf.proofs.Stores.{store-none, store-append}
+use Rattle.bhtf.proofs.Fresh.{length-drawnBytes, length-freshHeader}
 
--- ---- stores one behind the other
-
-pub store-none : (b : Bytes) (p : ℕ) → store b p [] ≡ b
-unfolding store
-store-none b p = take-append-drop p b
-
-pub store-next : (b : Bytes) (p : ℕ) (u v : Bytes) (q : ℕ) → q ≡ p + length u → q + length v ≤ length b
+-- a store right behind another one, at q
+store-next : (b : Bytes) (p : ℕ) (u v : Bytes) (q : ℕ) → q ≡ p + length u → q + length v ≤ length b
     → store (store b p u) q v ≡ store b p (u ++ v)
-unfolding store
-store-next b p u v q e h =
-    let rest : Bytes = drop (length u) (drop p b) in
-    let l : length (take p b ++ u) ≡ q =
-    length-append (take p b) u ∙ ap (λ (n : ℕ). n + length u) (length-take-le p b (omega arith)) ∙ sym e in
-    let split : take p b ++ (u ++ rest) ≡ (take p b ++ u) ++ rest = sym (append-assoc (take p b) u rest) in
-    ap₂ (λ (x y : Bytes). x ++ (v ++ drop (length v) y))
-    (ap (take q) split ∙ take-at (take p b ++ u) rest q l)
-    (ap (drop q) split ∙ drop-at (take p b ++ u) rest q l)
-    ∙ append-assoc (take p b) u (v ++ drop (length v) rest)
-    ∙ ap (λ (t : Bytes). take p b ++ t)
-    (sym (append-assoc u v (drop (length v) rest))
-    ∙ ap (λ (t : Bytes). (u ++ v) ++ t)
-    (drop-drop (length v) (length u) (drop p b) ∙ ap (λ (n : ℕ). drop n (drop p b)) (sym (length-append u v))))
+store-next b p u v q e h = ap (λ (n : ℕ). store (store b p u) n v) e ∙ store-append b p u v (omega arith)
 
 -- ---- the scramble
-
-pub length-drawn : (seed i n : ℕ) → length (drawnBytes seed i n) ≡ 4 * n
-unfolding drawnBytes
-length-drawn seed i zero = refl
-length-drawn seed i (suc n) =
-    length-append (digits 4 (drawn seed i)) (drawnBytes seed (suc i) n)
-    ∙ ap₂ _+_ (length-digits 4 (drawn seed i)) (length-drawn seed (suc i) n)
-    ∙ omega arith
 
 pub drawn-more : (seed i n : ℕ) → drawnBytes seed i (suc n) ≡ drawnBytes seed i n ++ digits 4 (drawn seed (i + n))
 unfolding drawnBytes
@@ -88,7 +63,7 @@ unfolding setField
 drawn-stored b seed n x e h =
     ap (λ (m : ℕ). store (store b 512 (drawnBytes seed 0 n)) (512 + 4 * n) (digits 4 m)) e
     ∙ store-next b 512 (drawnBytes seed 0 n) (digits 4 (drawn seed n)) (512 + 4 * n)
-    (ap (λ (m : ℕ). 512 + m) (sym (length-drawn seed 0 n)))
+    (ap (λ (m : ℕ). 512 + m) (sym (length-drawnBytes seed 0 n)))
     (rw length-digits (omega arith))
     ∙ ap (store b 512)
     (ap (λ (m : ℕ). drawnBytes seed 0 n ++ digits 4 (drawn seed m)) (sym (zero-add n))
@@ -162,10 +137,6 @@ zeros-zeros : (n m : ℕ) → zeros n ++ zeros m ≡ zeros (n + m)
 unfolding zeros
 zeros-zeros n m = replicate-append-replicate n m 0
 
-length-header : (K N : ℕ) → length (freshHeader K N) ≡ 60
-unfolding freshHeader digits
-length-header K N = refl
-
 module _ (L K N seed : ℕ) (h : 892 ≤ L) where
   -- the header and the zeros up to the scramble
   front : Bytes
@@ -173,13 +144,13 @@ module _ (L K N seed : ℕ) (h : 892 ≤ L) where
 
   length-front : length front ≡ 512
   unfolding front
-  length-front = length-append (freshHeader K N) (zeros 452) ∙ ap₂ _+_ (length-header K N) (length-zeros 452)
+  length-front = length-append (freshHeader K N) (zeros 452) ∙ ap₂ _+_ (length-freshHeader K N) (length-zeros 452)
 
   header-zeros : store (zeros L) 0 (freshHeader K N) ≡ front ++ zeros (L - 512)
   unfolding store front
   header-zeros =
       let e : L - 60 ≡ 452 + (L - 512) = omega arith in
-      ap (λ (n : ℕ). freshHeader K N ++ drop n (zeros L)) (length-header K N)
+      ap (λ (n : ℕ). freshHeader K N ++ drop n (zeros L)) (length-freshHeader K N)
       ∙ ap (λ (t : Bytes). freshHeader K N ++ t)
       (drop-zeros 60 L
       ∙ ap zeros e
@@ -196,5 +167,5 @@ module _ (L K N seed : ℕ) (h : 892 ≤ L) where
       (take-at front (zeros (L - 512)) 512 length-front)
       (drop-at front (zeros (L - 512)) 512 length-front)
       ∙ ap (λ (t : Bytes). front ++ (S ++ t))
-      (ap (λ (n : ℕ). drop n (zeros (L - 512))) (length-drawn seed 0 95) ∙ drop-zeros 380 (L - 512) ∙ ap zeros e)
+      (ap (λ (n : ℕ). drop n (zeros (L - 512))) (length-drawnBytes seed 0 95) ∙ drop-zeros 380 (L - 512) ∙ ap zeros e)
       ∙ sym (append-assoc front S (zeros (L - 892)))

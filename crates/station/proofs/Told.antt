@@ -1,7 +1,7 @@
 -- What the walk's and the check's exports answer, case by case, and that it fits 32 bits.
 -- Assumes nothing.
 use mathlib.Core.Path.{_≡_, refl, sym, ap, _∙_, subst}
-use Prim.Native.Nat.{ℕ, zero, suc, _+_, _*_, _^_, _≤_, _<_}
+use Prim.Native.Nat.{ℕ, _+_, _*_, _^_, _≤_, _<_}
 use native.Mathlib.Omega.{arith}
 use mathlib.Core.Bool.{Bool, true, false, cond}
 use mathlib.Core.Option.{Option, none, some}
@@ -17,7 +17,6 @@ use Rattle.bhtf.proofs.Opened.{opened-facts, opened-room}
 use Rattle.bhtf.proofs.Slots.{slot-end}
 use Rattle.bhtf.proofs.Verdict.{lowest-some}
 use Rattle.walk.specs.Stops.{stopSlot}
-use Rattle.inspect.specs.Verdicts.{verdictIn}
 use Rattle.inspect.specs.declared.Verdict as code
 use Rattle.walk.proofs.Stopping.{stopped-open, stopped-below}
 use Rattle.station.specs.Codes.{verdictCode, verdictSlot}

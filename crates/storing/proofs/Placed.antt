@@ -17,7 +17,7 @@ use Rattle.bhtf.specs.Bytes.{Bytes, part, store, digits, zeros}
 use Rattle.bhtf.specs.Limits.{active, inactive, freeField}
 use Rattle.bhtf.specs.Image.{field, layoutOf}
 use Rattle.bhtf.specs.Messages.{headSize, lengthAt, isActive, message, held, setFree, takeSpace, retire, overwrite}
-use Rattle.bhtf.proofs.Bytes.{part-length, part-part, part-store-same, length-store, length-digits, length-zeros}
+use Rattle.bhtf.proofs.Bytes.{part-length, length-part-append, part-part, part-store-same, length-store, length-digits, length-zeros}
 use Rattle.bhtf.proofs.Stores.{store-inner, store-append, store-end, store-lent}
 use Rattle.words.proofs.Numbers.{set-store}
 use Rattle.storing.specs.Written.{written, freeSet}
@@ -120,8 +120,7 @@ module _ (img v : Bytes) (o m : ℕ) (some′ : 0 < o) (is-m : m ≡ lengthAt (l
 -- ---- a message placed in new space: the n bytes from `from` on, and the bytes v
 module _ (img v : Bytes) (x from n : ℕ) (below : from + n ≤ x) (room : x + 4 + (n + length v) ≤ length img) where
   pub length-placed : length (part img from n ++ v) ≡ n + length v
-  length-placed =
-      length-append (part img from n) v ∙ ap (λ (k : ℕ). k + length v) (part-length img from n (omega arith))
+  length-placed = length-part-append img from n v (omega arith)
 
   -- the text's first bytes are copied, and the rest is written around them in a lent part
   pub place-steps : (c w : Bytes) → c ≡ store img (x + 4) (part img from n)

@@ -1,8 +1,8 @@
 -- What the shape of an opened image says of places: bounds on its numbers, and a slot's bytes as parts of the image.
 --     Header img s        the bounds, by name; `header` gives them of an opened image
---     layout-key, layout-slots, layout-area, slot-place      the layout's numbers are the shape's
+--     layout-key, layout-slots, slot-place, slot-room      the layout's numbers are the shape's
 --     Placed, placed-opened, placed-room      the table lies in the image; Spot, spot: what a function that goes to slot i needs
---     key-part, offset-part, slot-part, put-slot       the part that code cuts out is the slot's key, offset, bytes
+--     key-part, offset-part, put-slot      the part that code cuts out is the slot's key, offset, bytes
 -- Assumes nothing.
 use mathlib.Core.Path.{_≡_, refl, sym, ap, ap₂, _∙_, subst}
 use Prim.Native.Nat.{ℕ, zero, suc, _+_, _-_, _*_, _%_, _≤_, _<_}
@@ -10,14 +10,14 @@ use native.Mathlib.Nat.{zero-add, suc-add, suc-mul, mul-le-mul-right}
 use native.Mathlib.Omega.{arith}
 use mathlib.Core.List.{[], _∷_, _++_, append-nil}
 use lib.ListN.{length, take, drop}
-use lib.Seq.{take-take, drop-drop, take-at, drop-at, drop-length}
+use lib.Seq.{drop-drop, take-at, drop-at, drop-length}
 use borrow.Rule.Slice.PartMut.{putMid}
 use Rattle.bhtf.specs.Bytes.{Bytes, part, store, number, digits}
 use Rattle.bhtf.specs.Limits.{slotsField, multiplierField, startField, firstField, lastField}
-use Rattle.bhtf.specs.Image.{field, setField, hashFrom, hash, scramble, home, layoutOf, slotSize, slotStart, slot, putSlot, keyOf, offsetOf, entry}
+use Rattle.bhtf.specs.Image.{field, setField, hashFrom, hash, scramble, home, layoutOf, slotSize, slotStart, slot, putSlot, offsetOf, entry}
 use Rattle.bhtf.specs.Questions.{openNumber}
 use Rattle.bhtf.proofs.Bytes.{length-digits}
-use Rattle.bhtf.proofs.Slots.{Room}
+use Rattle.bhtf.proofs.Slots.{Room, keyOf-slot}
 use Rattle.bhtf.proofs.Opened.{opened-facts, opened-room}
 use Rattle.bhtf.proofs.Table.{keyAt}
 use Rattle.layout.specs.Shapes.{shapeOf}
@@ -33,10 +33,6 @@ module _ (img : Bytes) (s : Shape) (is : s ≡ shapeOf img) where
   pub layout-slots : layoutOf img .N ≡ s .slots
   unfolding layoutOf shapeOf
   layout-slots = ap (λ (t : Shape). t .slots) (sym is)
-
-  pub layout-area : layoutOf img .D ≡ s .area .0
-  unfolding layoutOf shapeOf
-  layout-area = ap (λ (t : Shape). t .area .0) (sym is)
 
   pub slot-place : (i : ℕ) → slotStart (layoutOf img) i ≡ 2048 + i * (s .key + 4)
   unfolding slotStart slotSize
@@ -127,18 +123,11 @@ module _ (img : Bytes) (s : Shape) (is : s ≡ shapeOf img) (i a : ℕ) (at : a 
   place : a ≡ slotStart (layoutOf img) i
   place = at ∙ sym (slot-place img s is i)
 
-  pub slot-part : (e : ℕ) → e ≡ a + (s .key + 4) → take (e - a) (drop a img) ≡ slot (layoutOf img) img i
-  unfolding slot part
-  slot-part e h =
-      let m : e - a ≡ slotSize (layoutOf img) = omega (arith, slot-room img s is) in
-      ap₂ (λ (m p : ℕ). take m (drop p img)) m place
-
   pub key-part : (e : ℕ) → e ≡ a + s .key → take (e - a) (drop a img) ≡ keyAt (layoutOf img) img i
-  unfolding keyOf slot slotSize part
+  unfolding part
   key-part e h =
       let m : e - a ≡ layoutOf img .K = omega (arith, layout-key img s is) in
-      ap₂ (λ (m p : ℕ). take m (drop p img)) m place
-      ∙ sym (take-take (layoutOf img .K) (layoutOf img .K + 4) (drop (slotStart (layoutOf img) i) img) (omega arith))
+      ap₂ (λ (m p : ℕ). take m (drop p img)) m place ∙ sym (keyOf-slot (layoutOf img) img i)
 
   -- bytes put in the slot's place
   pub put-slot : (e : ℕ) (v : Bytes) → e ≡ a + (s .key + 4) → length v ≡ s .key + 4

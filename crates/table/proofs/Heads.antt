@@ -1,43 +1,29 @@
 -- Writes to slots leave the header as it was.
 --     SameHead img img′      img′ is opened, and its layout, shape and length are those of img
+--     head-opened            an image that keeps what no call changes, with its header accepted
 --     head-putSlot, head-moved       a write to a slot, and a move, keep them
 --     kept-shape             the shape is among what no call changes
 -- Assumes nothing.
-use mathlib.Core.Path.{_≡_, refl, sym, ap, _∙_}
-use Prim.Native.Nat.{ℕ, _+_, _≤_, _<_}
+use mathlib.Core.Path.{_≡_, refl, _∙_}
+use Prim.Native.Nat.{ℕ, _<_}
 use native.Mathlib.Omega.{arith}
 use lib.ListN.{length}
-use Rattle.bhtf.specs.Bytes.{Bytes, part, number}
-use Rattle.bhtf.specs.Limits.{pointsField, multiplierField, startField, freeField}
+use Rattle.bhtf.specs.Bytes.{Bytes}
+use Rattle.bhtf.specs.Limits.{pointsField, freeField}
 use Rattle.bhtf.specs.Image.{field, Layout, layoutOf, slotSize, slotStart, slot, putSlot, blank}
 use Rattle.bhtf.specs.Messages.{moved}
 use Rattle.bhtf.specs.Questions.{openNumber}
-use Rattle.bhtf.proofs.Bytes.{part-part}
 use Rattle.bhtf.proofs.Slots.{Room, slot-end, slot-above, length-slot, field-putSlot, length-blank}
 use Rattle.bhtf.proofs.Spread.{room-half}
-use Rattle.bhtf.proofs.Opened.{opened-facts, facts-opened}
-use Rattle.bhtf.proofs.Kept.{Kept, kept-store, kept-layout, opened-kept, kept-key, kept-slots, kept-data, kept-first, kept-last}
+use Rattle.bhtf.proofs.Opened.{Opened, opened-facts, facts-opened}
+use Rattle.bhtf.proofs.Kept.{Kept, kept-store, kept-layout, opened-kept, kept-key, kept-slots, kept-data, kept-multiplier, kept-start, kept-first, kept-last}
 use Rattle.layout.specs.Shapes.{shapeOf}
 
 -- ---- the shape
 pub kept-shape : {img img′ : Bytes} → Kept img img′ → shapeOf img′ ≡ shapeOf img
 unfolding shapeOf
-kept-shape {img} {img′} k =
-    rw (
-      kept-key k,
-      kept-slots k,
-      kept-data k,
-      at multiplierField 0 refl (omega arith),
-      at startField 4 refl (omega arith),
-      kept-first k,
-      kept-last k,
-    ) refl
-  where
-    at : (p q : ℕ) → p ≡ 24 + q → q + 4 ≤ 28 → field img′ p ≡ field img p
-    at p q e h =
-        unfold field in
-        rw e
-        (ap number (sym (part-part img′ 24 28 q 4 h) ∙ ap (λ (b : Bytes). part b q 4) (k .middle) ∙ part-part img 24 28 q 4 h))
+kept-shape k =
+    rw (kept-key k, kept-slots k, kept-data k, kept-multiplier k, kept-start k, kept-first k, kept-last k) refl
 
 -- ---- what stays where C and X stay too
 pub record SameHead (img img′ : Bytes) : Type 0 where
@@ -55,18 +41,16 @@ head-trans p q =
       size = q .size ∙ p .size;
     }
 
+-- an image whose header is accepted, with what no call changes
+pub head-opened : (img img′ : Bytes) → Opened img → Kept img img′ → Opened img′ → SameHead img img′
+head-opened img img′ o k o′ =
+    record { opened = facts-opened img′ o′; layout = kept-layout k (o .last); shape = kept-shape k; size = k .size }
+
 pub head-kept : (img img′ : Bytes) → openNumber img ≡ 0 → Kept img img′ → field img′ pointsField ≡ field img pointsField
     → field img′ freeField ≡ field img freeField → SameHead img img′
 head-kept img img′ h k c x =
     let o = opened-facts img h in
-    record {
-      opened =
-          facts-opened img′
-          (opened-kept k o (rw c (o .points)) (rw x (o .free-low)) (rw x (o .free-high)));
-      layout = kept-layout k (o .last);
-      shape = kept-shape k;
-      size = k .size;
-    }
+    head-opened img img′ o k (opened-kept k o (rw c (o .points)) (rw x (o .free-low)) (rw x (o .free-high)))
 
 module _ (g : Layout) (img : Bytes) (h : openNumber img ≡ 0) (r : Room g (length img)) where
   pub head-putSlot : (i : ℕ) (v : Bytes) → i < g .N → length v ≡ slotSize g → SameHead img (putSlot g img i v)

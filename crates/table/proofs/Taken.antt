@@ -8,7 +8,6 @@ use Prim.Native.Nat.{ℕ, _<_}
 use native.Mathlib.Omega.{arith}
 use mathlib.Core.Bool.{Bool, true, false, not}
 use mathlib.Core.List.{[], _∷_}
-use mathlib.Core.Logic.{_⊎_, inl, inr}
 use borrow.Author.Tests.{not-true, not-false}
 use denote.Enum.Declared.{tagOf}
 use types.Run.{OneOf}
@@ -16,6 +15,7 @@ use Rattle.bhtf.specs.Bytes.{Bytes}
 use Rattle.bhtf.specs.Image.{layoutOf}
 use Rattle.bhtf.specs.Questions.{openNumber, nameAllowed}
 use Rattle.bhtf.specs.Search.{met, search, isMet}
+use Rattle.bhtf.proofs.Tests.{by-either}
 use Rattle.bhtf.proofs.Probe.{search-met}
 use Rattle.layout.specs.Shapes.{shapeOf}
 use Rattle.layout.specs.declared.places.Slot.{Slot}
@@ -27,13 +27,9 @@ use Rattle.table.proofs.Found.{the-type}
 use Rattle.table.proofs.Headers.{header, layout-key, layout-slots}
 
 -- the variants' numbers are 0, 1 and 2
-neither : (n : ℕ) → n ≡ 0 → (n ≡ 1) ⊎ (n ≡ 2) → ⊥
-neither n z (inl e) = omega arith
-neither n z (inr e) = omega arith
-
 other-arm : (f : Found) → OneOf (1 ∷ 2 ∷ []) (tagOf the-type f) → isMet (probeOf f) ≡ false
 unfolding probeOf isMet
-other-arm (Met s) h = absurd (neither 0 refl h)
+other-arm (Met s) h = absurd (by-either h (λ (z : _≡_ {A = ℕ} 0 1). omega arith) (λ (z : _≡_ {A = ℕ} 0 2). omega arith))
 other-arm (Empty s) h = refl
 other-arm Exhausted h = refl
 
@@ -54,8 +50,8 @@ module _ (img key : Bytes) (s : Shape) (is : s ≡ shapeOf img) where
     unfolding probeOf
     met-slot t m = sym e ∙ ap probeOf m
 
-    pub met-below : openNumber img ≡ 0 → (t : Slot) → f ≡ Met t → t .0 < s .slots
-    met-below h t m =
-        let n = layout-slots img s is in
-        let b = header img s h is in
-        omega (arith, search-met (layoutOf img) img key (omega arith) (t .0) (met-slot t m) .0)
+  pub met-below : openNumber img ≡ 0 → (i : ℕ) → search (layoutOf img) img key ≡ met i → i < s .slots
+  met-below h i m =
+      let n = layout-slots img s is in
+      let b = header img s h is in
+      omega (arith, search-met (layoutOf img) img key (omega arith) i m .0)

@@ -7,15 +7,14 @@ use mathlib.Core.Path.{_≡_, refl, sym, ap, ap₂, _∙_}
 use Prim.Native.Nat.{ℕ, zero, suc, _+_, _*_, _/_, _%_, _≤_, _<_}
 use native.Mathlib.Numerals.{add-one}
 use native.Mathlib.Omega.{arith}
-use mathlib.Core.Bool.{Bool, true, false, cond}
+use mathlib.Core.Bool.{Bool, cond}
 use mathlib.Core.List.{[], _∷_, _++_}
 use lib.ListN.{length, drop, getD, length-append}
-use lib.Dec.{ltb}
 use lib.Seq.{drop-cons, drop-length}
 use borrow.Author.Tests.{lt-ltb, le-ltb}
 use Rattle.bhtf.specs.Bytes.{Bytes}
 use Rattle.bhtf.proofs.Tests.{by-le}
-use Rattle.text.specs.Text.{digit, decimalFrom, decimal, hexDigit, hexByte, hexes}
+use Rattle.text.specs.Text.{digit, decimalFrom, decimal, hexByte, hexes}
 
 low-from : (f n : ℕ) → n < 10 → decimalFrom f n ≡ digit n ∷ []
 unfolding decimalFrom

@@ -4,19 +4,15 @@
 --     rest-start, rest-put, rest-end      its turns
 -- Assumes nothing.
 use mathlib.Core.Path.{_≡_, refl, sym, ap, ap₂, _∙_}
-use Prim.Native.Nat.{ℕ, _+_, _≤_, _<_}
+use Prim.Native.Nat.{ℕ, _+_, _≤_}
 use native.Mathlib.Omega.{arith}
-use mathlib.Core.List.{[], _∷_, _++_}
-use lib.ListN.{length, take, length-append, take-append-drop}
+use mathlib.Core.List.{[], _++_}
+use lib.ListN.{length, take, length-append}
 use lib.Seq.{length-take-le}
 use Rattle.bhtf.specs.Bytes.{Bytes, store}
 use Rattle.bhtf.proofs.Bytes.{length-store}
-use Rattle.bhtf.proofs.Stores.{store-append}
+use Rattle.bhtf.proofs.Stores.{store-none, store-append}
 use Rattle.text.specs.Puts.{Put}
-
-store-none : (b : Bytes) (p : ℕ) → store b p [] ≡ b
-unfolding store
-store-none b p = take-append-drop p b
 
 pub put-none : (b : Bytes) (p : ℕ) → Put b p b p []
 put-none b p = record { bytes = sym (store-none b p); ends = omega arith }

@@ -1,26 +1,25 @@
 -- The walk: the lowest taken slot from a number on, refusals, and the key that a stop shows.
---     opened-yes, opened-no      an answer behind questions 1, 5 and 6
+--     walk-closed, walk-open      questions 1, 5 and 6
 --     walk-start, walk-here, walk-end      the loop over slots
 --     stopped-open, stopped-below      what a walk that stopped says
 --     shown-refused, shown-stopped, shown-end      the part, the number and the slot that are handed back
 -- Assumes nothing.
-use mathlib.Core.Path.{_≡_, refl, sym, ap, ap₂, _∙_, subst}
-use Prim.Native.Nat.{ℕ, zero, suc, _+_, _-_, _≤_, _<_}
+use mathlib.Core.Path.{_≡_, refl, sym, ap, _∙_, subst}
+use Prim.Native.Nat.{ℕ, _-_, _≤_, _<_}
 use native.Mathlib.Omega.{arith}
 use mathlib.Core.Bool.{Bool, true, false, cond}
 use mathlib.Core.List.{[]}
 use mathlib.Core.Option.{Option, none, some}
 use lib.Dec.{eqb}
-use lib.ListN.{take, drop}
-use lib.Seq.{take-take}
-use borrow.Author.Tests.{eq-eqb, ne-eqb, eqb-true}
+use borrow.Author.Tests.{eqb-true}
 use Rattle.bhtf.specs.Bytes.{Bytes, part}
 use Rattle.bhtf.specs.Limits.{slotsField}
-use Rattle.bhtf.specs.Image.{field, Layout, layoutOf, slotSize, slotStart, slot, keyOf}
+use Rattle.bhtf.specs.Image.{field, Layout, layoutOf}
 use Rattle.bhtf.specs.Inspect.{Stop, stopped, end, lowest, taken, nextTaken, stopAt, keyWalk, stopNumber, keyStart, keyLength, keyShown}
 use Rattle.bhtf.specs.Questions.{openNumber}
+use Rattle.bhtf.proofs.Slots.{keyOf-slot}
 use Rattle.bhtf.proofs.Table.{keyAt}
-use Rattle.bhtf.proofs.Tests.{by-bool}
+use Rattle.bhtf.proofs.Tests.{zero-yes, zero-no}
 use Rattle.bhtf.proofs.Verdict.{lowest-some, lowest-yes, lowest-end}
 use Rattle.layout.specs.declared.places.Slot.{Slot}
 use Rattle.walk.specs.Stops.{stopOf, stopSlot}
@@ -28,22 +27,16 @@ use Rattle.walk.specs.declared.Stop as code
 use Rattle.walk.specs.declared.Stop.the-variants.{Refused, At, End}
 
 -- ---- questions 1, 5 and 6
-pub opened-yes : {A : Type 0} (img : Bytes) (x y : A) → openNumber img ≡ 0 → cond (eqb (openNumber img) 0) x y ≡ x
-opened-yes img x y h = ap (λ (b : Bool). cond b x y) (eq-eqb (openNumber img) 0 h)
-
-pub opened-no : {A : Type 0} (img : Bytes) (x y : A) → (openNumber img ≡ 0 → ⊥) → cond (eqb (openNumber img) 0) x y ≡ y
-opened-no img x y h = ap (λ (b : Bool). cond b x y) (ne-eqb (openNumber img) 0 h)
-
 pub walk-closed : (img : Bytes) (from n : ℕ) → n ≡ openNumber img → (n ≡ 0 → ⊥) → Stop.refused n ≡ keyWalk img from
 unfolding keyWalk
 walk-closed img from n q h =
     ap Stop.refused q
-    ∙ sym (opened-no img (stopAt (nextTaken (layoutOf img) img from)) (Stop.refused (openNumber img)) (λ z. h (q ∙ z)))
+    ∙ sym (zero-no (openNumber img) (stopAt (nextTaken (layoutOf img) img from)) (Stop.refused (openNumber img)) (λ z. h (q ∙ z)))
 
 pub walk-open : (img : Bytes) (from : ℕ) → openNumber img ≡ 0 → stopAt (nextTaken (layoutOf img) img from) ≡ keyWalk img from
 unfolding keyWalk
 walk-open img from h =
-    sym (opened-yes img (stopAt (nextTaken (layoutOf img) img from)) (Stop.refused (openNumber img)) h)
+    sym (zero-yes (openNumber img) (stopAt (nextTaken (layoutOf img) img from)) (Stop.refused (openNumber img)) h)
 
 -- ---- the loop
 pub walk-start : (g : Layout) (img : Bytes) (from slots : ℕ) → g .N ≡ slots
@@ -112,10 +105,6 @@ pub record Shown (img : Bytes) (s : Stop) (part′ : Bytes) (number slot′ : �
   pub number-is : number ≡ stopNumber s
   pub slot-is : slot′ ≡ stopSlot s
 
-key-shown : (g : Layout) (img : Bytes) (i : ℕ) → keyAt g img i ≡ part img (slotStart g i) (g .K)
-unfolding keyOf slot slotSize part
-key-shown g img i = take-take (g .K) (g .K + 4) (drop (slotStart g i) img) (omega arith)
-
 module _ (img : Bytes) (s : Stop) where
   pub shown-refused : (n : ℕ) → Stop.refused n ≡ s → Shown img s [] n 0
   unfolding keyShown keyStart keyLength stopNumber stopSlot part
@@ -125,7 +114,7 @@ module _ (img : Bytes) (s : Stop) where
   unfolding keyShown keyStart keyLength stopNumber stopSlot
   shown-stopped i e k q =
       subst (λ (t : Stop). Shown img t k 0 i) e
-      (record { key = q ∙ key-shown (layoutOf img) img i; number-is = refl; slot-is = refl })
+      (record { key = q ∙ keyOf-slot (layoutOf img) img i; number-is = refl; slot-is = refl })
 
   pub shown-end : end ≡ s → Shown img s [] 0 0
   unfolding keyShown keyStart keyLength stopNumber stopSlot part

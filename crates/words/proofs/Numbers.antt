@@ -4,21 +4,17 @@
 --     or-four, or-three                       the same number, by shifts and ors
 --     store-sets, set-store, store-four, store-three     stores of bytes one after the other
 --     digits-four, digits-three               the digits, by shifts and masks
---     bytes-part, number-part-bound           a part of bytes is of bytes, and bounds its number
 -- Assumes nothing.
-use Prim.Native.Nat.{ℕ, suc, _+_, _*_, _/_, _%_, _^_, _<_, _≤_}
+use Prim.Native.Nat.{ℕ, suc, _+_, _*_, _/_, _%_, _<_, _≤_}
 use native.Mathlib.Nat.{mod-eq-of-lt, div-one}
 use native.Mathlib.Numerals.{add-one}
 use native.Mathlib.Omega.{arith}
 use mathlib.Core.List.{[], _∷_, _++_, append-assoc}
 use mathlib.Core.Path.{_≡_, refl, sym, ap, _∙_}
-use lib.ListN.{length, getD, set, take, drop, List·getD-eq-default, length-take}
-use lib.Seq.{drop-cons, drop-drop, sets, sets-eq, getD-take, getD-drop}
-use lib.Dec.{lit<}
+use lib.ListN.{length, getD, set, take, drop}
+use lib.Seq.{drop-cons, drop-drop, sets, sets-eq}
 use lib.Bits.{bitAnd, bitOr, and-mask, or-shifted}
 use Rattle.bhtf.specs.Bytes.{Bytes, part, store, number, digits}
-use Rattle.bhtf.proofs.Bytes.{AreBytes, part-length, number-bound}
-use Rattle.bhtf.proofs.Tests.{by-le}
 
 -- ---- part
 pub part-cons : (s : Bytes) (at n : ℕ) → at < length s → part s at (suc n) ≡ getD s at 0 ∷ part s (at + 1) n
@@ -81,17 +77,6 @@ or-four a b c d p q r s =
     (ap (λ (t : ℕ). bitOr (bitOr t (c * 256 % 4294967296)) d) (sym m)
     ∙ or-three (a * 256 + b) c d (omega arith) r s
     ∙ omega arith)
-
--- `AreBytes s` is what owning a slice gives, as `c .shared-slice-known .given`
-pub bytes-part : (s : Bytes) (at n : ℕ) → AreBytes s → AreBytes (part s at n)
-unfolding part
-bytes-part s at n h i =
-    by-le n i
-    (λ p. rw (List·getD-eq-default (take n (drop at s)) 0 {n = i} (rw length-take (omega arith))) (lit< tt))
-    (λ p. rw (getD-take n (drop at s) i 0 p, getD-drop at s i 0) (h (at + i)))
-
-pub number-part-bound : (s : Bytes) (at n : ℕ) → AreBytes s → at + n ≤ length s → number (part s at n) < 256 ^ n
-number-part-bound s at n h p = rw (part-length s at n p) at (number-bound (part s at n) (bytes-part s at n h))
 
 -- ---- store
 pub store-sets : (vs s : Bytes) (at : ℕ) → at + length vs ≤ length s → sets s at vs ≡ store s at vs

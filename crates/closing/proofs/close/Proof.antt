@@ -2,8 +2,8 @@
 -- `left`, which falls with every look, so that it ends for any bytes.
 -- Assumes nothing.
 use native.Mathlib.Omega.{arith}
-use borrow.Author.Tests.{not-true, not-false}
-use mathlib.Core.Path.{sym, _∙_}
+use Rattle.bhtf.proofs.Tests.{was-no, was-yes}
+use mathlib.Core.Path.{_∙_}
 use Rattle.bhtf.specs.Image.{layoutOf}
 use Rattle.bhtf.proofs.Walk.{left}
 use Rattle.table.proofs.Headers.{placed-opened}
@@ -49,7 +49,7 @@ look-requires c κs =
       record {
         hole-lt = omega (arith, w .going .hole-lt);
         slot-lt = omega (arith, w .going .slot-lt);
-        other = walking-other w (sym (c .before .before .is-vacant .ensures) ∙ not-true _ (c .before .if1 .taken));
+        other = walking-other w (was-no (c .before .before .is-vacant .ensures) (c .before .if1 .taken));
       },
     )
 
@@ -66,7 +66,7 @@ turn c =
     let T = c .before .before .before .before .before in
     let looked = c .before .before .before .look in
     walking-turn (T .before .before .before .loop .inv) _ _ _
-    (sym (T .before .is-vacant .ensures) ∙ not-true _ (T .if1 .taken)) (looked .ensures .image-is) (looked .ensures .hole-is) (c .next2 .ensures)
+    (was-no (T .before .is-vacant .ensures) (T .if1 .taken)) (looked .ensures .image-is) (looked .ensures .hole-is) (c .next2 .ensures)
 
 loop-less : tie.Need-loop-less Inv-loop μ-loop
 loop-less c = turn c .1
@@ -85,7 +85,7 @@ returns c =
     let S = L .before .before .before .before .before .before .before in
     let img = S .args .image .now in
     let s = S .args .shape in
-    walking-end (L .loop .inv) (sym (c .before .is-vacant .ensures) ∙ not-false _ (c .if1 .left))
+    walking-end (L .loop .inv) (was-yes (c .before .is-vacant .ensures) (c .if1 .left))
     ∙ walking-closed img s (S .pre .0) (S .pre .1) (S .args .hole .0) (S .pre .2) _ _
     (L .before .before .before .before .clear-slot .ensures) (L .before .next .ensures)
 

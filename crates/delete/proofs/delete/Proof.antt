@@ -10,7 +10,7 @@ use Rattle.bhtf.specs.Search.{met, search as searched}
 use Rattle.bhtf.specs.Questions.{nameAllowed, messageSound, openNumber, deleteNumber}
 use Rattle.bhtf.proofs.Opened.{opened-facts}
 use Rattle.bhtf.proofs.Outcomes.{delete-closed, delete-7, delete-14, delete-11, delete-0, delete-accepted}
-use Rattle.questions.proofs.Headers.{was-no, was-yes}
+use Rattle.bhtf.proofs.Tests.{was-no, was-yes}
 use Rattle.table.proofs.Taken.{named-no, named-yes, not-met, met-slot, met-below}
 use Rattle.delete.proofs.Removed.{unsound, no-point, some-point, answers-no, answers-yes}
 use Rattle.delete.proofs.delete.Statement.{statement}
@@ -47,8 +47,8 @@ below-told c =
     let E = c .before .before .before in
     let R = E .before .before .before .before in
     let A = R .before .before .before .before .before .before .before .args in
-    met-below (A .image .now) (A .key .now) (R .read-shape .result) (R .read-shape .ensures) (E .search .result) (E .search .ensures)
-    (opened-else (R .before .before)) (c .before .found .given .0 .0) (c .before .found .given .1)
+    met-below (A .image .now) (A .key .now) (R .read-shape .result) (R .read-shape .ensures) (opened-else (R .before .before))
+    (c .before .found .given .0 .0 .0) (met-told c)
 
 -- the message at the slot's offset is sound
 sound-else : (c : tie.Else3)

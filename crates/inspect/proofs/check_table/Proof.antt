@@ -5,9 +5,9 @@ use native.Mathlib.Omega.{arith}
 use mathlib.Core.Path.{sym, _∙_, subst}
 use borrow.Author.Needs.{needs}
 use Rattle.bhtf.specs.Image.{layoutOf}
-use borrow.Author.Tests.{not-true, not-false}
 use Rattle.inspect.specs.Verdicts.{verdictIn}
-use Rattle.inspect.proofs.Turns.{on, Passed, passed-start, passed-on, passed-over, passed-fails, passed-sound, passed-count}
+use Rattle.bhtf.proofs.Tests.{by-either, was-no, was-yes}
+use Rattle.inspect.proofs.Turns.{Passed, passed-start, passed-on, passed-over, passed-fails, passed-sound, passed-count}
 use Rattle.table.proofs.Headers.{header, layout-slots}
 use Rattle.inspect.proofs.check_table.Statement.{statement}
 use Rattle.inspect.proofs.check_table.Tie as tie
@@ -47,7 +47,7 @@ returns c =
     let N = T .before .before .new in
     passed-fails (S .args .image .now) (S .args .shape .slots) (L .loop .count) (L .loop .i) (L .loop .inv)
     (T .before .before .before .loop-test .taken) (N .result .0) (N .ensures)
-    (sym (T .before .is-taken .ensures) ∙ T .if1 .taken) (sym (c .before .slot-sound .ensures) ∙ not-true _ (c .if2 .taken))
+    (sym (T .before .is-taken .ensures) ∙ T .if1 .taken) (was-no (c .before .slot-sound .ensures) (c .if2 .taken))
 
 add-count : tie.Need-add-count Inv-loop μ-loop
 add-count c =
@@ -77,10 +77,10 @@ loop-again c =
     let n = S .args .shape .slots in
     let N = c .before .before .new in
     let l = c .before .before .before .loop-test .taken in
-    on (c .if1 .came)
+    by-either (c .if1 .came)
     (λ w. subst (λ (k : ℕ). Passed g img n k (L .loop .i + 1)) (sym (w .3))
     (passed-on g img n (L .loop .count) (L .loop .i) (L .loop .inv) l (N .result .0) (N .ensures)
-    (sym (c .before .is-taken .ensures) ∙ w .0 .taken) (sym (w .1 .ensures) ∙ not-false _ (w .2 .left))))
+    (sym (c .before .is-taken .ensures) ∙ w .0 .taken) (was-yes (w .1 .ensures) (w .2 .left))))
     (λ w. subst (λ (k : ℕ). Passed g img n k (L .loop .i + 1)) (sym (w .1))
     (passed-over g img n (L .loop .count) (L .loop .i) (L .loop .inv) l (N .result .0) (N .ensures)
     (sym (c .before .is-taken .ensures) ∙ w .0 .left)))

@@ -1,13 +1,19 @@
 -- `listing::lines::put_length` meets its contract: the message that stands in the slot, by question 11 and its letter.
 -- Assumes nothing.
 use native.Mathlib.Omega.{arith}
-use mathlib.Core.Path.{sym, ap, _∙_}
+use mathlib.Core.Path.{_≡_, sym, ap, _∙_}
 use lib.ListN.{length}
-use borrow.Author.Tests.{not-true, not-false}
+use Prim.Native.Nat.{_+_, _≤_}
+use mathlib.Core.Bool.{false}
+use borrow.Author.Tests.{not-true}
+use Rattle.bhtf.specs.Bytes.{Bytes}
+use Rattle.bhtf.proofs.Tests.{was-yes}
 use Rattle.bhtf.specs.Image.{layoutOf}
 use Rattle.bhtf.proofs.Effects.{message-head}
 use Rattle.bhtf.proofs.Opened.{opened-facts}
 use Rattle.table.specs.Slots.{offsetIn}
+use Rattle.text.specs.Text.{decimal}
+use Rattle.listing.specs.Listed.{bad, lengthText}
 use Rattle.text.proofs.Putting.{put-same}
 use Rattle.listing.proofs.Rows.{text-bad, text-none, text-active}
 use borrow.Author.Needs.{needs}
@@ -23,18 +29,46 @@ message-sound-requires c κs = search needs
 slice-aggregate-put-bytes : tie.Need-slice-aggregate-put-bytes
 slice-aggregate-put-bytes c = search needs
 
+-- the length that the slot's line tells
+abbrev told : tie.Start → Bytes
+told S = lengthText (layoutOf (S .args .image .now)) (S .args .image .now) (offsetIn (S .args .image .now) (S .args .i .0))
+
+bad-text : (M : tie.After-message-sound) → M .message-sound .result ≡ false → told (M .before .before .before .before) ≡ bad
+bad-text M n =
+    let O = M .before in
+    let img = O .before .before .before .args .image .now in
+    text-bad (layoutOf img) img (O .offset-of .result .0) _ (O .offset-of .ensures) (sym (M .message-sound .ensures) ∙ n)
+
+-- behind question 11: the header lies in the image, and the letter decides
+head-else : (E : tie.Else1)
+    → E .before .before .offset-of .result .0 + 4 ≤ length (E .before .before .before .before .before .args .image .now)
+head-else E =
+    let S = E .before .before .before .before .before in
+    message-head (S .args .image .now) (opened-facts _ (S .pre .0)) _ (was-yes (E .before .message-sound .ensures) (E .if1 .left))
+
+none-text : (A : tie.After-is-active) → A .is-active .result ≡ false
+    → told (A .before .before .before .before .before .before) ≡ decimal 0
+none-text A n =
+    let E = A .before in
+    let O = E .before .before in
+    let img = O .before .before .before .args .image .now in
+    text-none (layoutOf img) img (O .offset-of .result .0) _ (O .offset-of .ensures)
+    (was-yes (E .before .message-sound .ensures) (E .if1 .left)) (sym (A .is-active .ensures) ∙ n)
+
+active-text : (L : tie.After-length-at) → told (L .before .before .before .before .before .before .before .before .before) ≡ decimal (L .length-at .result)
+active-text L =
+    let U = L .before .before in
+    let E = U .before .before in
+    let O = E .before .before in
+    let img = O .before .before .before .args .image .now in
+    text-active (layoutOf img) img (O .offset-of .result .0) _ (O .offset-of .ensures)
+    (was-yes (E .before .message-sound .ensures) (E .if1 .left)) (was-yes (U .before .is-active .ensures) (U .if2 .left))
+    (L .length-at .result) (L .length-at .ensures)
+
 put-bytes-requires : tie.Need-put-bytes-requires
 put-bytes-requires c κs =
     let T = c .before .before in
-    let M = T .before in
-    let O = M .before in
-    let S = O .before .before .before in
-    let img = S .args .image .now in
-    let g = layoutOf img in
-    let at = offsetIn img (S .args .i .0) in
-    let text = text-bad g img (O .offset-of .result .0) at (O .offset-of .ensures)
-    (sym (M .message-sound .ensures) ∙ not-true _ (T .if1 .taken)) in
-    omega (arith, S .pre .3, ap length text)
+    omega (arith, T .before .before .before .before .before .pre .3, ap length (bad-text (T .before) (not-true _ (T .if1 .taken))))
 
 same-length : tie.Need-same-length
 same-length c = search needs
@@ -43,41 +77,16 @@ returns : tie.Need-returns
 returns c =
     let P = c .before .before in
     let T = P .before .before .before in
-    let M = T .before in
-    let O = M .before in
-    let S = O .before .before .before in
-    let img = S .args .image .now in
-    let g = layoutOf img in
-    let at = offsetIn img (S .args .i .0) in
-    let text = text-bad g img (O .offset-of .result .0) at (O .offset-of .ensures)
-    (sym (M .message-sound .ensures) ∙ not-true _ (T .if1 .taken)) in
-    put-same (sym text) (P .put-bytes .ensures)
+    put-same (sym (bad-text (T .before) (not-true _ (T .if1 .taken)))) (P .put-bytes .ensures)
 
 is-active-requires : tie.Need-is-active-requires
-is-active-requires c κs =
-    let M = c .before in
-    let O = M .before in
-    let S = O .before .before .before in
-    let img = S .args .image .now in
-    let head = message-head img (opened-facts img (S .pre .0)) (O .offset-of .result .0)
-    (sym (M .message-sound .ensures) ∙ not-false _ (c .if1 .left)) in
-    omega (arith, head)
+is-active-requires c κs = omega (arith, head-else c)
 
 put-decimal-requires : tie.Need-put-decimal-requires
 put-decimal-requires c κs =
     let U = c .before in
     let A = U .before in
-    let E = A .before in
-    let M = E .before in
-    let O = M .before in
-    let S = O .before .before .before in
-    let img = S .args .image .now in
-    let g = layoutOf img in
-    let at = offsetIn img (S .args .i .0) in
-    let text = text-none g img (O .offset-of .result .0) at (O .offset-of .ensures)
-    (sym (M .message-sound .ensures) ∙ not-false _ (E .if1 .left))
-    (sym (A .is-active .ensures) ∙ not-true _ (U .if2 .taken)) in
-    omega (arith, S .pre .3, ap length text)
+    omega (arith, A .before .before .before .before .before .before .pre .3, ap length (none-text A (not-true _ (U .if2 .taken))))
 
 same-length-2 : tie.Need-same-length-2
 same-length-2 c = search needs
@@ -86,47 +95,14 @@ returns-2 : tie.Need-returns-2
 returns-2 c =
     let P = c .before .before in
     let U = P .before .before in
-    let A = U .before in
-    let E = A .before in
-    let M = E .before in
-    let O = M .before in
-    let S = O .before .before .before in
-    let img = S .args .image .now in
-    let g = layoutOf img in
-    let at = offsetIn img (S .args .i .0) in
-    let text = text-none g img (O .offset-of .result .0) at (O .offset-of .ensures)
-    (sym (M .message-sound .ensures) ∙ not-false _ (E .if1 .left))
-    (sym (A .is-active .ensures) ∙ not-true _ (U .if2 .taken)) in
-    put-same (sym text) (P .put-decimal .ensures)
+    put-same (sym (none-text (U .before) (not-true _ (U .if2 .taken)))) (P .put-decimal .ensures)
 
 length-at-requires : tie.Need-length-at-requires
-length-at-requires c κs =
-    let U = c .before in
-    let A = U .before in
-    let E = A .before in
-    let M = E .before in
-    let O = M .before in
-    let S = O .before .before .before in
-    let img = S .args .image .now in
-    let head = message-head img (opened-facts img (S .pre .0)) (O .offset-of .result .0)
-    (sym (M .message-sound .ensures) ∙ not-false _ (E .if1 .left)) in
-    head
+length-at-requires c κs = head-else (c .before .before .before)
 
 put-decimal-requires-2 : tie.Need-put-decimal-requires-2
 put-decimal-requires-2 c κs =
-    let U = c .before .before in
-    let A = U .before in
-    let E = A .before in
-    let M = E .before in
-    let O = M .before in
-    let S = O .before .before .before in
-    let img = S .args .image .now in
-    let g = layoutOf img in
-    let at = offsetIn img (S .args .i .0) in
-    let text = text-active g img (O .offset-of .result .0) at (O .offset-of .ensures)
-    (sym (M .message-sound .ensures) ∙ not-false _ (E .if1 .left))
-    (sym (A .is-active .ensures) ∙ not-false _ (U .if2 .left)) (c .length-at .result) (c .length-at .ensures) in
-    omega (arith, S .pre .3, ap length text)
+    omega (arith, c .before .before .before .before .before .before .before .before .before .pre .3, ap length (active-text c))
 
 same-length-3 : tie.Need-same-length-3
 same-length-3 c = search needs
@@ -134,20 +110,7 @@ same-length-3 c = search needs
 returns-3 : tie.Need-returns-3
 returns-3 c =
     let P = c .before .before in
-    let L = P .before in
-    let U = L .before .before in
-    let A = U .before in
-    let E = A .before in
-    let M = E .before in
-    let O = M .before in
-    let S = O .before .before .before in
-    let img = S .args .image .now in
-    let g = layoutOf img in
-    let at = offsetIn img (S .args .i .0) in
-    let text = text-active g img (O .offset-of .result .0) at (O .offset-of .ensures)
-    (sym (M .message-sound .ensures) ∙ not-false _ (E .if1 .left))
-    (sym (A .is-active .ensures) ∙ not-false _ (U .if2 .left)) (L .length-at .result) (L .length-at .ensures) in
-    put-same (sym text) (P .put-decimal2 .ensures)
+    put-same (sym (active-text (P .before))) (P .put-decimal2 .ensures)
 
 pub put-length-spec : {M : Type 1} → statement M
 put-length-spec =

@@ -1,9 +1,9 @@
 -- `listing::lines::put_row` meets its contract.
 -- Assumes nothing.
 use native.Mathlib.Omega.{arith}
-use mathlib.Core.Path.{sym, ap, _∙_}
+use mathlib.Core.Path.{sym, ap}
 use lib.ListN.{length}
-use borrow.Author.Tests.{not-true, not-false}
+use Rattle.bhtf.proofs.Tests.{was-no, was-yes}
 use Rattle.bhtf.specs.Image.{layoutOf}
 use Rattle.text.proofs.Putting.{put-same, put-none}
 use Rattle.listing.proofs.Rows.{row-taken, row-vacant}
@@ -20,7 +20,7 @@ returns c =
     let S = T .before .before .before in
     let img = S .args .image .now in
     let i = S .args .i .0 in
-    let text = row-vacant (layoutOf img) img i (sym (T .is-taken .ensures) ∙ not-true _ (c .if1 .taken)) in
+    let text = row-vacant (layoutOf img) img i (was-no (T .is-taken .ensures) (c .if1 .taken)) in
     put-same (sym text) (put-none (S .args .out .now) (S .args .at))
 
 put-line-requires : tie.Need-put-line-requires
@@ -30,7 +30,7 @@ put-line-requires c κs =
     let S = T .before .before .before in
     let img = S .args .image .now in
     let i = S .args .i .0 in
-    let text = row-taken (layoutOf img) img i (sym (T .is-taken .ensures) ∙ not-false _ (E .if1 .left)) in
+    let text = row-taken (layoutOf img) img i (was-yes (T .is-taken .ensures) (E .if1 .left)) in
     (S .pre .0, S .pre .1, S .pre .2, omega (arith, S .pre .3, ap length text))
 
 same-length : tie.Need-same-length
@@ -44,7 +44,7 @@ returns-2 c =
     let S = T .before .before .before in
     let img = S .args .image .now in
     let i = S .args .i .0 in
-    let text = row-taken (layoutOf img) img i (sym (T .is-taken .ensures) ∙ not-false _ (E .if1 .left)) in
+    let text = row-taken (layoutOf img) img i (was-yes (T .is-taken .ensures) (E .if1 .left)) in
     put-same (sym text) (P .put-line .ensures)
 
 pub put-row-spec : {M : Type 1} → statement M

@@ -12,9 +12,9 @@ use Rattle.bhtf.specs.Messages.{isActive, held}
 use Rattle.bhtf.specs.Questions.{nameAllowed, messageSound, openNumber, lookupNumber}
 use Rattle.bhtf.proofs.Opened.{opened-facts}
 use Rattle.bhtf.proofs.Outcomes.{lookup-closed, lookup-7, lookup-14, lookup-11, lookup-0}
-use Rattle.questions.proofs.Headers.{was-no, was-yes}
+use Rattle.bhtf.proofs.Tests.{was-no, was-yes}
 use Rattle.table.proofs.Taken.{named-no, named-yes, not-met, met-slot, met-below}
-use Rattle.messages.proofs.Sound.{sound-head}
+use Rattle.bhtf.proofs.Effects.{message-head}
 use Rattle.lookup.proofs.Answers.{shows-refused, shows-inactive, shows-active}
 use Rattle.lookup.proofs.locate.Statement.{statement}
 use Rattle.lookup.proofs.locate.Tie as tie
@@ -68,7 +68,7 @@ head-else : (c : tie.Else3)
     → c .before .before .offset-of .result .0 + 4
     ≤ length (c .before .before .before .before .before .before .before .before .before .before .before .before .before .before .args .image .now)
 head-else c =
-    sound-head _ _ (opened-facts _ (opened-else (c .before .before .before .before .before .before .before .before .before .before))) (sound-else c)
+    message-head _ (opened-facts _ (opened-else (c .before .before .before .before .before .before .before .before .before .before))) _ (sound-else c)
 
 -- ---- the needs
 
@@ -135,8 +135,8 @@ offset-of-requires c κs =
     let A = R .before .before .before .before .before .args in (
       opened-else (R .before),
       R .read-shape .ensures,
-      met-below (A .image .now) (A .key .now) (R .read-shape .result) (R .read-shape .ensures) (E .search .result) (E .search .ensures)
-          (opened-else (R .before)) (c .before .found .given .0 .0) (c .before .found .given .1),
+      met-below (A .image .now) (A .key .now) (R .read-shape .result) (R .read-shape .ensures) (opened-else (R .before))
+          (c .before .found .given .0 .0 .0) (met-told c),
     )
 
 message-sound-requires : tie.Need-message-sound-requires

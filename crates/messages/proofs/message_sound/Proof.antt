@@ -7,7 +7,8 @@ use borrow.Author.Needs.{needs}
 use Rattle.bhtf.specs.Bytes.{Bytes}
 use Rattle.bhtf.specs.Image.{field, layoutOf}
 use Rattle.bhtf.proofs.Opened.{opened-facts}
-use Rattle.messages.proofs.Sound.{head-four, length-bound, shape-area, area-low}
+use Rattle.bhtf.proofs.Effects.{area-above}
+use Rattle.messages.proofs.Sound.{head-four, length-bound, shape-area}
 use Rattle.messages.proofs.Sound.{sound-none, sound-low, sound-high, sound-tests}
 use Rattle.messages.proofs.message_sound.Statement.{statement}
 use Rattle.messages.proofs.message_sound.Tie as tie
@@ -45,7 +46,7 @@ cast-free c = search needs
 sub-if3 : tie.Need-sub-if3
 sub-if3 c =
     let f = opened-facts _ (c .before .before .before .before .before .before .before .pre .0) in
-    omega (arith, c .read-u32 .ensures, area-low _ f, f .free-low)
+    omega (arith, c .read-u32 .ensures, area-above _ f, f .free-low)
 
 returns-3 : tie.Need-returns-3
 returns-3 c =
@@ -63,7 +64,7 @@ header-in : (c : tie.Else3)
 header-in c =
     let A = c .before .before .before .before .before .before in
     let f = opened-facts _ (A .before .before .pre .0) in (
-      omega (arith, A .at .ensures, c .before .read-u32 .ensures, c .if3 .left, area-low _ f, f .free-low),
+      omega (arith, A .at .ensures, c .before .read-u32 .ensures, c .if3 .left, area-above _ f, f .free-low),
       f .free-high,
       f .size-high,
     )

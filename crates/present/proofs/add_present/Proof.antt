@@ -5,9 +5,10 @@ use borrow.Author.Tests.{eq-eqb, ne-eqb}
 use Rattle.bhtf.specs.Image.{layoutOf}
 use Rattle.bhtf.specs.Questions.{messageSound}
 use Rattle.bhtf.proofs.Outcomes.{add-9, add-11}
-use Rattle.questions.proofs.Headers.{was-no, was-yes}
+use Rattle.bhtf.proofs.Tests.{was-no, was-yes}
 use Rattle.room.proofs.Numbers.{add-unchanged, present-done, mode-three}
-use Rattle.room.proofs.Probes.{met-below, key-fits}
+use Rattle.table.proofs.Taken.{met-below}
+use Rattle.room.proofs.Probes.{key-fits}
 use borrow.Author.Needs.{needs}
 use Rattle.present.proofs.add_present.Statement.{statement}
 use Rattle.present.proofs.add_present.Tie as tie
@@ -30,7 +31,7 @@ offset-of-requires c κs =
     let img = A .image .now in
     let key = A .key .now in
     let bytes = A .bytes .now in
-    (S .pre .0, S .pre .1, met-below img key (A .shape) (S .pre .0) (S .pre .1) (A .slot .0) (S .pre .4))
+    (S .pre .0, S .pre .1, met-below img key (A .shape) (S .pre .1) (S .pre .0) (A .slot .0) (S .pre .4))
 
 message-sound-requires : tie.Need-message-sound-requires
 message-sound-requires c κs =
@@ -61,7 +62,7 @@ replace-requires c κs =
     let bytes = A .bytes .now in (
       S .pre .0,
       S .pre .1,
-      met-below img key (A .shape) (S .pre .0) (S .pre .1) (A .slot .0) (S .pre .4),
+      met-below img key (A .shape) (S .pre .1) (S .pre .0) (A .slot .0) (S .pre .4),
       key-fits img key (A .shape) (S .pre .0) (S .pre .1) (S .pre .2),
       was-yes (c .before .before .before .message-sound .ensures) (c .before .before .if2 .left),
     )
@@ -91,7 +92,7 @@ append-requires c κs =
     let bytes = A .bytes .now in (
       S .pre .0,
       S .pre .1,
-      met-below img key (A .shape) (S .pre .0) (S .pre .1) (A .slot .0) (S .pre .4),
+      met-below img key (A .shape) (S .pre .1) (S .pre .0) (A .slot .0) (S .pre .4),
       key-fits img key (A .shape) (S .pre .0) (S .pre .1) (S .pre .2),
       was-yes (c .before .before .before .message-sound .ensures) (c .before .before .if2 .left),
     )

@@ -8,7 +8,7 @@ use Rattle.bhtf.specs.Bytes.{Bytes, part}
 use Rattle.bhtf.specs.Image.{layoutOf}
 use Rattle.bhtf.specs.Messages.{shown, relocated, renewedText, renewedAt}
 use Rattle.bhtf.proofs.Opened.{opened-facts}
-use Rattle.messages.proofs.Sound.{sound-head}
+use Rattle.bhtf.proofs.Effects.{message-head}
 use Rattle.room.proofs.Numbers.{place-nothing, place-refused, place-done}
 use Rattle.room.proofs.Texts.{appended-none, appended-some, appended-same, renewed-moved, shown-part, shown-end, length-appended}
 use borrow.Author.Needs.{needs}
@@ -30,7 +30,7 @@ returns c =
 shown-length-requires : tie.Need-shown-length-requires
 shown-length-requires c κs =
     let S = c .before .before .before .before .before in
-    sound-head (S .args .image .now) (S .args .o .0) (opened-facts _ (S .pre .0)) (S .pre .4)
+    message-head (S .args .image .now) (opened-facts _ (S .pre .0)) (S .args .o .0) (S .pre .4)
 
 add-room-number : tie.Need-add-room-number
 add-room-number c =

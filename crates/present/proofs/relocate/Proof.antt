@@ -5,7 +5,8 @@ use Prim.Native.Nat.{_+_}
 use lib.ListN.{length}
 use Rattle.bhtf.specs.Image.{Layout}
 use Rattle.bhtf.proofs.Opened.{opened-facts}
-use Rattle.messages.proofs.Sound.{sound-head, shape-area}
+use Rattle.bhtf.proofs.Effects.{message-head}
+use Rattle.messages.proofs.Sound.{shape-area}
 use Rattle.table.proofs.Headers.{placed-opened}
 use Rattle.room.proofs.Numbers.{room-fits}
 use Rattle.room.proofs.Steps.{head-retire, retired-free, head-relocated, relocated-steps}
@@ -26,13 +27,13 @@ new-requires c κs = search needs
 retire-requires : tie.Need-retire-requires
 retire-requires c κs =
     let S = c .before .before .before .before .before .before .before .before in
-    omega (arith, sound-head (S .args .image .now) (S .args .o .0) (opened-facts _ (S .pre .0)) (S .pre .4))
+    omega (arith, message-head (S .args .image .now) (opened-facts _ (S .pre .0)) (S .args .o .0) (S .pre .4))
 
 text-start-requires : tie.Need-text-start-requires
 text-start-requires c κs =
     let S = c .before .before .before .before .before .before .before .before .before .before .before .before in
     let f = opened-facts (S .args .image .now) (S .pre .0) in
-    omega (arith, sound-head (S .args .image .now) (S .args .o .0) f (S .pre .4), f .size-high)
+    omega (arith, message-head (S .args .image .now) f (S .args .o .0) (S .pre .4), f .size-high)
 
 take-space-requires : tie.Need-take-space-requires
 take-space-requires c κs =

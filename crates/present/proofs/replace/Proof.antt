@@ -7,7 +7,7 @@ use lib.ListN.{length}
 use Rattle.bhtf.specs.Image.{layoutOf}
 use Rattle.bhtf.specs.Messages.{held, relocated, renewedText, renewedAt}
 use Rattle.bhtf.proofs.Opened.{opened-facts}
-use Rattle.messages.proofs.Sound.{sound-head}
+use Rattle.bhtf.proofs.Effects.{message-head}
 use Rattle.room.specs.Rooms.{roomNumber}
 use Rattle.room.proofs.Numbers.{place-nothing, place-refused, place-done}
 use Rattle.room.proofs.Texts.{replaced-none, replaced-some, replaced-retired, replaced-over, renewed-moved, head-end, held-offset, text-none}
@@ -18,7 +18,7 @@ use Rattle.present.proofs.replace.Tie as tie
 retire-requires : tie.Need-retire-requires
 retire-requires c κs =
     let S = c .before .before .before .before .before in
-    omega (arith, sound-head (S .args .image .now) (S .args .o .0) (opened-facts _ (S .pre .0)) (S .pre .4))
+    omega (arith, message-head (S .args .image .now) (opened-facts _ (S .pre .0)) (S .args .o .0) (S .pre .4))
 
 same-length : tie.Need-same-length
 same-length c = c .before .before .retire .kept .0
@@ -38,7 +38,7 @@ returns c =
 held-at-requires : tie.Need-held-at-requires
 held-at-requires c κs =
     let S = c .before .before .before .before .before in
-    sound-head (S .args .image .now) (S .args .o .0) (opened-facts _ (S .pre .0)) (S .pre .4)
+    message-head (S .args .image .now) (opened-facts _ (S .pre .0)) (S .args .o .0) (S .pre .4)
 
 overwrite-requires : tie.Need-overwrite-requires
 overwrite-requires c κs =

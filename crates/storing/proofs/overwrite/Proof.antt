@@ -10,9 +10,10 @@ use Rattle.bhtf.specs.Bytes.{Bytes}
 use Rattle.bhtf.specs.Image.{layoutOf}
 use Rattle.bhtf.specs.Messages.{lengthAt}
 use Rattle.bhtf.proofs.Opened.{opened-facts}
+use Rattle.bhtf.proofs.Effects.{message-end}
 use Rattle.words.proofs.Numbers.{part-zero}
 use Rattle.storing.specs.Written.{written}
-use Rattle.messages.proofs.Sound.{sound-facts, held-some}
+use Rattle.messages.proofs.Sound.{head-four, held-some}
 use Rattle.storing.proofs.Placed.{overwrite-steps}
 use Rattle.storing.proofs.overwrite.Statement.{statement}
 use Rattle.storing.proofs.overwrite.Tie as tie
@@ -28,7 +29,7 @@ inside S =
     let o = S .args .o .0 in
     let f = opened-facts img (S .pre .0) in
     let some′ = S .pre .2 in (
-      omega (arith, sound-facts img o some′ (S .pre .1) .end, f .free-high),
+      omega (arith, head-four img, message-end img f o (S .pre .1) (λ e. omega arith), f .free-high),
       omega (arith, S .pre .3, held-some (layoutOf img) img o (λ e. omega arith)),
       f .size-high,
       some′,
