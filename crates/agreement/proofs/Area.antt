@@ -26,7 +26,8 @@ use Rattle.bhtf.proofs.Slots.{part-setField-other, part-putSlot-outside, length
 use Rattle.bhtf.proofs.Opened.{Opened, opened-facts, opened-room, firstNo-head, firstNo-tail}
 use Rattle.bhtf.proofs.Outcomes.{roomOf, settled-yes, delete-closed, delete-7, delete-14, delete-11, delete-accepted, delete-refused, add-closed, add-7, add-8, add-9, add-10-exhausted, add-10-full, add-11, add-renewed, add-fresh, add-refused}
 use Rattle.bhtf.proofs.Probe.{search-met, search-empty, by-search}
-use Rattle.bhtf.proofs.Effects.{area-above, message-end, active-some, by-retire, retire-kept, retire-field, retire-opened, retire-layout, length-message, Spaced, spaced, space-opened, space-layout}
+use Rattle.bhtf.proofs.Kept.{kept-layout}
+use Rattle.bhtf.proofs.Effects.{area-above, message-end, active-some, by-retire, retire-kept, retire-field, retire-opened, length-message, Spaced, spaced, space-kept, space-opened}
 use Rattle.bhtf.proofs.Frames.{part-closed}
 use Rattle.bhtf.proofs.Stretch.{size}
 use Rattle.agreement.proofs.File.{allowed-length}
@@ -114,7 +115,7 @@ module _ (img : Bytes) (o : Opened img) (p n : ℕ) (low : layoutOf img .D ≤ p
     unfolding inserted
     insert-keeps none h = enter-keeps img o p n low i key 0 l (entry-size 0)
     insert-keeps (some t) h =
-        let same = space-layout img o t (fits t h) in
+        let same = kept-layout (space-kept img o t (fits t h)) (o .last) in
         (rw same at
         (enter-keeps (takeSpace (layoutOf img) img t) (space-opened img o t (fits t h)) p n (rw same low) i key (field img freeField) (rw same l)
         (rw same (entry-size (field img freeField)))))
@@ -126,7 +127,7 @@ module _ (img : Bytes) (o : Opened img) (p n : ℕ) (low : layoutOf img .D ≤ p
       unfolding relocated
       relocate-keeps t h =
           let off = retire img at in
-          let same = retire-layout img o at s in
+          let same = kept-layout (retire-kept img o at s) (o .last) in
           let x = retire-field img o at s freeField (omega arith) in
           let is : Spaced (layoutOf img) off t =
           rw same at (spaced off (retire-opened img o at s) t (rw (same, x, retire-kept img o at s .size) (fits t h))) in
