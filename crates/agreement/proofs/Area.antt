@@ -15,7 +15,7 @@ use lib.Dec.{eqb, leb, ltb}
 use borrow.Author.Tests.{leb-true, lt-leb, eqb-false}
 use Rattle.bhtf.specs.Bytes.{Bytes, part, zeros}
 use Rattle.bhtf.specs.Limits.{inactive, pointsField, freeField}
-use Rattle.bhtf.specs.Image.{field, setField, Layout, layoutOf, slotSize, slot, putSlot, offsetOf, entry}
+use Rattle.bhtf.specs.Image.{field, setField, Layout, layoutOf, slotSize, slot, putSlot, offsetOf, slotBytes}
 use Rattle.bhtf.specs.Search.{met, empty, exhausted, search, isMet}
 use Rattle.bhtf.specs.Messages.{headSize, held, message, takeSpace, retire, overwrite, freshText, renewedText, enter, inserted, relocated, renewed, renewedAt, addedAt, added, deletedAt}
 use Rattle.bhtf.specs.Questions.{nameAllowed, modeKnown, messageSound, somePoint, lengthAllowed, spaceLeft, openNumber, addNumber, deleteNumber}
@@ -70,13 +70,13 @@ module _ (img : Bytes) (o : Opened img) (p n : ℕ) (low : layoutOf img .D ≤ p
   put-keeps : (i : ℕ) (s : Bytes) → i < g .N → length s ≡ slotSize g → part (putSlot g img i s) p n ≡ part img p n
   put-keeps i s l len = part-putSlot-outside g img (opened-room img o) i s p n l len (inr low)
 
-  enter-keeps : (i : ℕ) (key : Bytes) (x : ℕ) → i < g .N → length (entry key x) ≡ slotSize g → part (enter g img i key x) p n ≡ part img p n
+  enter-keeps : (i : ℕ) (key : Bytes) (x : ℕ) → i < g .N → length (slotBytes key x) ≡ slotSize g → part (enter g img i key x) p n ≡ part img p n
   unfolding enter
   enter-keeps i key x l len =
-      part-setField-other (putSlot g img i (entry key x)) pointsField _ p n
-      (rw (length-putSlot g img (opened-room img o) i (entry key x) l len) (omega (arith, o .size-low)))
+      part-setField-other (putSlot g img i (slotBytes key x)) pointsField _ p n
+      (rw (length-putSlot g img (opened-room img o) i (slotBytes key x) l len) (omega (arith, o .size-low)))
       (inr (omega (arith, above)))
-      ∙ put-keeps i (entry key x) l len
+      ∙ put-keeps i (slotBytes key x) l len
 
   space-keeps : (t : Bytes) → field img freeField + headSize g + length t ≤ length img → p + n ≤ field img freeField
       → part (takeSpace g img t) p n ≡ part img p n
@@ -101,7 +101,7 @@ module _ (img : Bytes) (o : Opened img) (p n : ℕ) (low : layoutOf img .D ≤ p
       ∙ retire-keeps img o p n low at s c
 
   module _ (high : p + n ≤ field img freeField) (key : Bytes) (named : length key ≡ layoutOf img .K) where
-    entry-size : (x : ℕ) → length (entry key x) ≡ slotSize (layoutOf img)
+    entry-size : (x : ℕ) → length (slotBytes key x) ≡ slotSize (layoutOf img)
     entry-size x = length-entry (layoutOf img) key x named
 
     fits : (t : Bytes) → roomOf (layoutOf img) img (some t) ≡ 0 → field img freeField + headSize (layoutOf img) + length t ≤ length img
@@ -133,7 +133,7 @@ module _ (img : Bytes) (o : Opened img) (p n : ℕ) (low : layoutOf img .D ≤ p
           rw same at (spaced off (retire-opened img o at s) t (rw (same, x, retire-kept img o at s .size) (fits t h))) in
           part-putSlot-outside (layoutOf img) (takeSpace (layoutOf img) off t)
           (rw (is .kept .size, retire-kept img o at s .size) (opened-room img o))
-          i (entry key (field img freeField)) p n l (entry-size (field img freeField)) (inr low)
+          i (slotBytes key (field img freeField)) p n l (entry-size (field img freeField)) (inr low)
           ∙ is .below p n low (rw x high)
           ∙ retire-keeps img o p n low at s c
 

@@ -13,7 +13,7 @@ use lib.Dec.{leb}
 use borrow.Author.Tests.{leb-true, le-leb, lt-leb}
 use Rattle.bhtf.specs.Bytes.{Bytes}
 use Rattle.bhtf.specs.Limits.{leastLength, pointsField, freeField}
-use Rattle.bhtf.specs.Image.{field, Layout, layoutOf, slot, putSlot, entry, offsetOf}
+use Rattle.bhtf.specs.Image.{field, Layout, layoutOf, slot, putSlot, slotBytes, offsetOf}
 use Rattle.bhtf.specs.Search.{met, empty, search}
 use Rattle.bhtf.specs.Messages.{headSize, retire, takeSpace, enter, inserted, relocated}
 use Rattle.bhtf.specs.Questions.{ask, firstNo, lengthAllowed, spaceLeft}
@@ -138,7 +138,7 @@ module _ (g : Layout) (img : Bytes) (b : Book) (r : Reflects g img b) (key : Byt
     fresh₁ = fresh-space g off off-file t s₁ off-fits least key
 
     abbrev final : Bytes
-    final = putSlot g spaced i (entry key (field off freeField))
+    final = putSlot g spaced i (slotBytes key (field off freeField))
 
     final-change : Change g img final key
     final-change =
@@ -168,7 +168,7 @@ module _ (g : Layout) (img : Bytes) (b : Book) (r : Reflects g img b) (key : Byt
     pub relocate : Reflects g (relocated g img i (offsetOf g (slot g img i)) key t) (placed b key t)
     unfolding relocated placed
     relocate =
-        subst (λ (y : ℕ). Reflects g (putSlot g spaced i (entry key y)) (entered b key t (length t) (b .terms .head + length t))) off-free
+        subst (λ (y : ℕ). Reflects g (putSlot g spaced i (slotBytes key y)) (entered b key t (length t) (b .terms .head + length t))) off-free
         (reflect-entered g img final key b r a final-change t (length t) (b .terms .head + length t) final-point final-free
         (length-withEntry-old _ (b .entries) _ (found-met g img b r key a i m) ∙ r .number ∙ sym final-points))
 

@@ -11,7 +11,7 @@ use mathlib.Core.Option.{some, Option·some-injective}
 use lib.ListN.{length}
 use Rattle.bhtf.specs.Bytes.{Bytes}
 use Rattle.bhtf.specs.Limits.{slotsField, pointsField, freeField, tableStart}
-use Rattle.bhtf.specs.Image.{field, setField, Layout, slotSize, offsetOf, slot, putSlot, keyOf, entry}
+use Rattle.bhtf.specs.Image.{field, setField, Layout, slotSize, offsetOf, slot, putSlot, keyOf, slotBytes}
 use Rattle.bhtf.specs.Messages.{enter}
 use Rattle.bhtf.specs.Search.{search, met, empty}
 use Rattle.bhtf.specs.Questions.{messageSound}
@@ -42,9 +42,9 @@ fresh-none g img key =
 
 module _ (g : Layout) (img : Bytes) (f : File g img) (key : Bytes) (a : Allowed g key) (x : ℕ) (fr : Fresh g img key x)
     (img′ : Bytes) (k : Kept img img′) (free : field img′ freeField ≡ field img freeField)
-    (same-on : (p n : ℕ) → g .D ≤ p → SameOn img img′ p n) (e : entryOf g img′ key ≡ some (entry key x)) where
+    (same-on : (p n : ℕ) → g .D ≤ p → SameOn img img′ p n) (e : entryOf g img′ key ≡ some (slotBytes key x)) where
   -- the offset is read back
-  offset-is : offsetOf g (entry key x) ≡ x
+  offset-is : offsetOf g (slotBytes key x) ≡ x
   offset-is = offsetOf-entry g key x (allowed-length g key a) (fr .small)
 
   -- x's message is as it was
@@ -53,7 +53,7 @@ module _ (g : Layout) (img : Bytes) (f : File g img) (key : Bytes) (a : Allowed 
 
   pub slot-point : pointOf g img′ key ≡ some (valueOf g img key x)
   slot-point =
-      pointOf-some g img′ key (entry key x) e
+      pointOf-some g img′ key (slotBytes key x) e
       ∙ ap (λ (o : ℕ). some (valueOf g img′ key o)) offset-is
       ∙ ap some (value-same g img img′ key x x-same)
 
@@ -74,7 +74,7 @@ module _ (g : Layout) (img : Bytes) (f : File g img) (key : Bytes) (a : Allowed 
       }
     where
       is-x : (s : Bytes) → entryOf g img′ key ≡ some s → offsetOf g s ≡ x
-      is-x s e₁ = ap (offsetOf g) (Option·some-injective s (entry key x) (sym e₁ ∙ e)) ∙ offset-is
+      is-x s e₁ = ap (offsetOf g) (Option·some-injective s (slotBytes key x) (sym e₁ ∙ e)) ∙ offset-is
 
       apart₁ : (s key′ s′ : Bytes) → Allowed g key′ → (key′ ≡ key → ⊥)
           → entryOf g img′ key ≡ some s → entryOf g img key′ ≡ some s′ → (offsetOf g s ≡ 0 → ⊥) → (offsetOf g s′ ≡ 0 → ⊥)
@@ -106,41 +106,41 @@ module _ (g : Layout) (img : Bytes) (f : File g img) (key : Bytes) (a : Allowed 
   set-lt : i < g .N
   set-lt = search-met g img key (file-some f) i m .0
 
-  set-length : length (entry key x) ≡ slotSize g
+  set-length : length (slotBytes key x) ≡ slotSize g
   set-length = length-entry g key x (allowed-length g key a)
 
-  set-key : keyOf g (entry key x) ≡ key
+  set-key : keyOf g (slotBytes key x) ≡ key
   set-key = keyOf-entry g key x (allowed-length g key a)
 
-  set-entry : entryOf g (putSlot g img i (entry key x)) key ≡ some (entry key x)
-  set-entry = replace-entry g img key i (entry key x) (file-room f) (file-some f) set-length set-key m
+  set-entry : entryOf g (putSlot g img i (slotBytes key x)) key ≡ some (slotBytes key x)
+  set-entry = replace-entry g img key i (slotBytes key x) (file-room f) (file-some f) set-length set-key m
 
-  pub set-field : (at : ℕ) → at + 4 ≤ tableStart → field (putSlot g img i (entry key x)) at ≡ field img at
-  set-field = put-field g img f i (entry key x) set-lt set-length
+  pub set-field : (at : ℕ) → at + 4 ≤ tableStart → field (putSlot g img i (slotBytes key x)) at ≡ field img at
+  set-field = put-field g img f i (slotBytes key x) set-lt set-length
 
-  set-counted : field (putSlot g img i (entry key x)) pointsField ≡ weight g (putSlot g img i (entry key x)) (λ s. 1)
+  set-counted : field (putSlot g img i (slotBytes key x)) pointsField ≡ weight g (putSlot g img i (slotBytes key x)) (λ s. 1)
   set-counted =
       set-field pointsField (omega arith) ∙ f .counted
-      ∙ omega (arith, replace-weight g img key i (entry key x) (file-room f) (file-some f) set-length set-key m (allowed-zero g key a) (λ s. 1))
+      ∙ omega (arith, replace-weight g img key i (slotBytes key x) (file-room f) (file-some f) set-length set-key m (allowed-zero g key a) (λ s. 1))
 
-  pub set-change : Change g img (putSlot g img i (entry key x)) key
+  pub set-change : Change g img (putSlot g img i (slotBytes key x)) key
   set-change =
-      slot-change g img f key a x fr (putSlot g img i (entry key x))
-      (put-kept g img f i (entry key x) set-lt set-length)
+      slot-change g img f key a x fr (putSlot g img i (slotBytes key x))
+      (put-kept g img f i (slotBytes key x) set-lt set-length)
       (set-field freeField (omega arith))
-      (put-same g img f i (entry key x) set-lt set-length)
+      (put-same g img f i (slotBytes key x) set-lt set-length)
       set-entry
       (rw (set-field pointsField (omega arith)) (omega (arith, f .opened .points, file-slots f)))
-      (replace-sound g img key i (entry key x) (file-room f) (file-some f) set-length set-key m (f .table))
+      (replace-sound g img key i (slotBytes key x) (file-room f) (file-some f) set-length set-key m (f .table))
       set-counted
-      (λ key′ a′ n. replace-other g img key i (entry key x) (file-room f) (file-some f) set-length set-key m key′ n)
+      (λ key′ a′ n. replace-other g img key i (slotBytes key x) (file-room f) (file-some f) set-length set-key m key′ n)
 
-  pub set-point : pointOf g (putSlot g img i (entry key x)) key ≡ some (valueOf g img key x)
+  pub set-point : pointOf g (putSlot g img i (slotBytes key x)) key ≡ some (valueOf g img key x)
   set-point =
-      slot-point g img f key a x fr (putSlot g img i (entry key x))
-      (put-kept g img f i (entry key x) set-lt set-length)
+      slot-point g img f key a x fr (putSlot g img i (slotBytes key x))
+      (put-kept g img f i (slotBytes key x) set-lt set-length)
       (set-field freeField (omega arith))
-      (put-same g img f i (entry key x) set-lt set-length)
+      (put-same g img f i (slotBytes key x) set-lt set-length)
       set-entry
 
 -- ---- a new point, in the empty slot where its search ended
@@ -148,20 +148,20 @@ module _ (g : Layout) (img : Bytes) (f : File g img) (key : Bytes) (a : Allowed 
 module _ (g : Layout) (img : Bytes) (f : File g img) (key : Bytes) (a : Allowed g key) (x : ℕ) (fr : Fresh g img key x) (i : ℕ)
     (m : search g img key ≡ empty i) (room : field img pointsField < g .N) where
   put : Bytes
-  put = putSlot g img i (entry key x)
+  put = putSlot g img i (slotBytes key x)
 
   lt : i < g .N
   lt = search-empty g img key (file-some f) i m .0
 
-  len : length (entry key x) ≡ slotSize g
+  len : length (slotBytes key x) ≡ slotSize g
   len = length-entry g key x (allowed-length g key a)
 
-  key-is : keyOf g (entry key x) ≡ key
+  key-is : keyOf g (slotBytes key x) ≡ key
   key-is = keyOf-entry g key x (allowed-length g key a)
 
   length-put : length put ≡ length img
   unfolding put
-  length-put = length-putSlot g img (file-room f) i (entry key x) lt len
+  length-put = length-putSlot g img (file-room f) i (slotBytes key x) lt len
 
   room-put : Room g (length put)
   room-put = rw length-put (file-room f)
@@ -169,14 +169,14 @@ module _ (g : Layout) (img : Bytes) (f : File g img) (key : Bytes) (a : Allowed 
   put-opened : Opened put
   unfolding put
   put-opened =
-      opened-kept (put-kept g img f i (entry key x) lt len) (f .opened)
-      (rw (put-field g img f i (entry key x) lt len pointsField (omega arith)) (f .opened .points))
-      (rw (put-field g img f i (entry key x) lt len freeField (omega arith)) (f .opened .free-low))
-      (rw (put-field g img f i (entry key x) lt len freeField (omega arith)) (f .opened .free-high))
+      opened-kept (put-kept g img f i (slotBytes key x) lt len) (f .opened)
+      (rw (put-field g img f i (slotBytes key x) lt len pointsField (omega arith)) (f .opened .points))
+      (rw (put-field g img f i (slotBytes key x) lt len freeField (omega arith)) (f .opened .free-low))
+      (rw (put-field g img f i (slotBytes key x) lt len freeField (omega arith)) (f .opened .free-high))
 
   more : field img pointsField + 1 ≤ field put slotsField
   unfolding put
-  more = omega (arith, room, file-slots f, kept-slots (put-kept g img f i (entry key x) lt len))
+  more = omega (arith, room, file-slots f, kept-slots (put-kept g img f i (slotBytes key x) lt len))
 
   is-enter : enter g img i key x ≡ setField put pointsField (field img pointsField + 1)
   unfolding enter put
@@ -188,11 +188,11 @@ module _ (g : Layout) (img : Bytes) (f : File g img) (key : Bytes) (a : Allowed 
   enter-entry : (k : Bytes) → entryOf g (enter g img i key x) k ≡ entryOf g put k
   enter-entry = frame-entry g put (enter g img i key x) (file-some f) enter-slot
 
-  entry-is : entryOf g (enter g img i key x) key ≡ some (entry key x)
+  entry-is : entryOf g (enter g img i key x) key ≡ some (slotBytes key x)
   unfolding put
   entry-is =
       enter-entry key
-      ∙ insert-entry g img key i (entry key x) (file-room f) (file-some f) (f .table) len key-is (allowed-zero g key a) m
+      ∙ insert-entry g img key i (slotBytes key x) (file-room f) (file-some f) (f .table) len key-is (allowed-zero g key a) m
 
   pub enter-points : field (enter g img i key x) pointsField ≡ field img pointsField + 1
   enter-points =
@@ -203,17 +203,17 @@ module _ (g : Layout) (img : Bytes) (f : File g img) (key : Bytes) (a : Allowed 
   enter-free =
       ap (λ (j : Bytes). field j freeField) is-enter
       ∙ points-free put put-opened (field img pointsField + 1) more
-      ∙ put-field g img f i (entry key x) lt len freeField (omega arith)
+      ∙ put-field g img f i (slotBytes key x) lt len freeField (omega arith)
 
   enter-kept : Kept img (enter g img i key x)
   unfolding put
-  enter-kept = rw is-enter (kept-trans (put-kept g img f i (entry key x) lt len) (points-kept put put-opened (field img pointsField + 1) more))
+  enter-kept = rw is-enter (kept-trans (put-kept g img f i (slotBytes key x) lt len) (points-kept put put-opened (field img pointsField + 1) more))
 
   enter-same : (p n : ℕ) → g .D ≤ p → SameOn img (enter g img i key x) p n
   unfolding put
   enter-same p n h =
       rw is-enter
-      (same-on-trans (put-same g img f i (entry key x) lt len p n h)
+      (same-on-trans (put-same g img f i (slotBytes key x) lt len p n h)
       (record { on = λ q m lo hi. points-behind put put-opened (field img pointsField + 1) more q m (omega (arith, h, file-above f)) }))
 
   pub enter-change : Change g img (enter g img i key x) key
@@ -222,14 +222,14 @@ module _ (g : Layout) (img : Bytes) (f : File g img) (key : Bytes) (a : Allowed 
       slot-change g img f key a x fr (enter g img i key x) enter-kept enter-free enter-same entry-is
       (rw enter-points (omega (arith, room)))
       (frame-sound g put (enter g img i key x) (file-some f) enter-slot
-      (insert-sound g img key i (entry key x) (file-room f) (file-some f) (f .table) len key-is (allowed-zero g key a) m))
+      (insert-sound g img key i (slotBytes key x) (file-room f) (file-some f) (f .table) len key-is (allowed-zero g key a) m))
       (enter-points
       ∙ ap (λ (n : ℕ). n + 1) (f .counted)
       ∙ sym (weight-frame g put (enter g img i key x) (λ s. 1) enter-slot
-      ∙ insert-weight g img key i (entry key x) (file-room f) (file-some f) (f .table) len key-is (allowed-zero g key a) m (λ s. 1)))
+      ∙ insert-weight g img key i (slotBytes key x) (file-room f) (file-some f) (f .table) len key-is (allowed-zero g key a) m (λ s. 1)))
       (λ key′ a′ n.
       enter-entry key′
-      ∙ insert-other g img key i (entry key x) (file-room f) (file-some f) (f .table) len key-is (allowed-zero g key a) m key′ n
+      ∙ insert-other g img key i (slotBytes key x) (file-room f) (file-some f) (f .table) len key-is (allowed-zero g key a) m key′ n
       (allowed-zero g key′ a′))
 
   pub enter-point : pointOf g (enter g img i key x) key ≡ some (valueOf g img key x)

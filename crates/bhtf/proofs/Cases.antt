@@ -12,7 +12,7 @@ use mathlib.Core.Option.{Option, none, some}
 use lib.ListN.{length, replicate}
 use Rattle.bhtf.specs.Limits.{minusOne, serialField, keyField, slotsField, pointsField, multiplierField, startField, firstField, lastField, scrambleField, tableField, dataField, freeField}
 use Rattle.bhtf.specs.Bytes.{Bytes, part, store, number, digits, zeros, allZero, same}
-use Rattle.bhtf.specs.Image.{Layout, field, setField, roundUp, dataStart, lastPage, hashStep, hashFrom, scramble, hash, layoutOf, home, slotSize, slotStart, slot, putSlot, keyOf, offsetOf, entry, blank, vacant}
+use Rattle.bhtf.specs.Image.{Layout, field, setField, roundUp, dataStart, lastPage, hashStep, hashFrom, scramble, hash, layoutOf, home, slotSize, slotStart, slot, putSlot, keyOf, offsetOf, slotBytes, blank, vacant}
 use Rattle.bhtf.specs.Create.{step, state, drawn, drawnBytes, slotsAsked, freshHeader, freshImage}
 use Rattle.bhtf.specs.Search.{met, next, dist, probe, search, isMet, isEmpty, slotOf}
 use Rattle.bhtf.specs.Messages.{headSize, letterAt, lengthAt, textAt, isActive, shown, held, message, setFree, takeSpace, retire, overwrite, freshText, renewedText, placedText, enter, inserted, relocated, renewed, renewedAt, addedAt, added, among, moved, walk, closed, deletedAt, deleted}
@@ -25,7 +25,7 @@ use Rattle.bhtf.specs.Demand.{fileText, textOf, bookText, termsOf}
 
 -- unfolding this unfolds all that the table computes with
 pub definitions : ℕ
-unfolding part store number digits zeros allZero same field setField roundUp dataStart lastPage hashStep hashFrom scramble hash layoutOf home slotSize slotStart slot putSlot keyOf offsetOf entry blank vacant step state drawn drawnBytes slotsAsked freshHeader freshImage next dist probe search isMet isEmpty slotOf headSize letterAt lengthAt textAt isActive shown held message setFree takeSpace retire overwrite freshText renewedText placedText enter inserted relocated renewed renewedAt addedAt added among moved walk closed deletedAt deleted ask firstNo sizeAllowed keyAllowed slotsAllowed tableFits versionKnown headerSound nameAllowed modeKnown newInMode1 slotToTake messageSound metMessageSound somePoint lengthAllowed spaceLeft createAsks opened named pointAsks addAsks lookupAsks deleteAsks createNumber openNumber addNumber deleteNumber lookupNumber plain settled create add delete lookupOffset lookupStart lookupLength lookup countOf count perform answers stateAfter newBook find without withEntry stepOf roomAsks entered placed addAbsent replace append addPresent addFound guarded bookAdd deleteFound bookDelete lookupFound bookLookup bookCount bookStep fileText textOf bookText termsOf
+unfolding part store number digits zeros allZero same field setField roundUp dataStart lastPage hashStep hashFrom scramble hash layoutOf home slotSize slotStart slot putSlot keyOf offsetOf slotBytes blank vacant step state drawn drawnBytes slotsAsked freshHeader freshImage next dist probe search isMet isEmpty slotOf headSize letterAt lengthAt textAt isActive shown held message setFree takeSpace retire overwrite freshText renewedText placedText enter inserted relocated renewed renewedAt addedAt added among moved walk closed deletedAt deleted ask firstNo sizeAllowed keyAllowed slotsAllowed tableFits versionKnown headerSound nameAllowed modeKnown newInMode1 slotToTake messageSound metMessageSound somePoint lengthAllowed spaceLeft createAsks opened named pointAsks addAsks lookupAsks deleteAsks createNumber openNumber addNumber deleteNumber lookupNumber plain settled create add delete lookupOffset lookupStart lookupLength lookup countOf count perform answers stateAfter newBook find without withEntry stepOf roomAsks entered placed addAbsent replace append addPresent addFound guarded bookAdd deleteFound bookDelete lookupFound bookLookup bookCount bookStep fileText textOf bookText termsOf
 definitions = 0
 
 pub fresh : ℕ → ℕ → Bytes
@@ -122,7 +122,7 @@ unfolding fresh
 three =
     let img : Bytes = fresh 4096 3 in
     let g : Layout = layoutOf img in
-    setField (putSlot g (putSlot g (putSlot g img 0 (entry (33 ∷ []) 0)) 1 (entry (34 ∷ []) 0)) 2 (entry (32 ∷ []) 0)) pointsField 3
+    setField (putSlot g (putSlot g (putSlot g img 0 (slotBytes (33 ∷ []) 0)) 1 (slotBytes (34 ∷ []) 0)) 2 (slotBytes (32 ∷ []) 0)) pointsField 3
 
 pub three-delete : keys 3 0 (after (deleting (33 ∷ []) ∷ []) three) ≡ (32 ∷ []) ∷ (0 ∷ []) ∷ (34 ∷ []) ∷ []
 unfolding keys after three
@@ -359,7 +359,7 @@ shortLayout = record { K = 1; N = 1; D = 2053; W = 3; most = 3; hashed = λ key.
 
 pub short : Bytes → Bytes
 unfolding definitions
-short m = setField (zeros 2048) freeField 2058 ++ entry one 2053 ++ m ++ zeros 6
+short m = setField (zeros 2048) freeField 2058 ++ slotBytes one 2053 ++ m ++ zeros 6
 
 -- 9 to 13 of data in a mode, where the message is "P", active: X = 2,058, and the bytes end at 2,064
 pub asks : ℕ → Bytes → ℕ
@@ -451,7 +451,7 @@ pub ten-by-count : answered (point 1 ∷ counting ∷ []) (setField (headed 4096
 unfolding answered headed
 ten-by-count = refl
 
-pub ten-by-table : answered (point 2 ∷ counting ∷ []) (setField (store (headed 4096) 2048 (entry one 0)) slotsField 1)
+pub ten-by-table : answered (point 2 ∷ counting ∷ []) (setField (store (headed 4096) 2048 (slotBytes one 0)) slotsField 1)
     ≡ refused 10 ∷ counts 0 ∷ []
 unfolding answered headed
 ten-by-table = refl

@@ -11,7 +11,7 @@ use lib.ListN.{length, take, drop, replicate, length-append, length-replicate, r
 use lib.Seq.{take-at, drop-at, take-take, length-take-le}
 use Rattle.bhtf.specs.Bytes.{Bytes, part, store, number, digits, zeros, allZero}
 use Rattle.bhtf.specs.Limits.{tableStart}
-use Rattle.bhtf.specs.Image.{field, setField, Layout, slotSize, slotStart, slot, putSlot, keyOf, offsetOf, entry, blank, vacant}
+use Rattle.bhtf.specs.Image.{field, setField, Layout, slotSize, slotStart, slot, putSlot, keyOf, offsetOf, slotBytes, blank, vacant}
 use Rattle.bhtf.proofs.Tests.{by-le, by-eq}
 use Rattle.bhtf.proofs.Bytes.{part-length, length-store, part-store-same, part-store-other, Apart, length-digits, number-digits-fits, length-zeros, allZero-zeros}
 
@@ -142,16 +142,16 @@ module _ (g : Layout) (img : Bytes) (r : Room g (length img)) where
 -- ---- entries and blanks
 
 module _ (g : Layout) where
-  pub length-entry : (key : Bytes) (o : ℕ) → length key ≡ g .K → length (entry key o) ≡ slotSize g
-  unfolding entry slotSize
+  pub length-entry : (key : Bytes) (o : ℕ) → length key ≡ g .K → length (slotBytes key o) ≡ slotSize g
+  unfolding slotBytes slotSize
   length-entry key o e = length-append key (digits 4 o) ∙ ap₂ _+_ e (length-digits 4 o)
 
-  pub keyOf-entry : (key : Bytes) (o : ℕ) → length key ≡ g .K → keyOf g (entry key o) ≡ key
-  unfolding keyOf entry
+  pub keyOf-entry : (key : Bytes) (o : ℕ) → length key ≡ g .K → keyOf g (slotBytes key o) ≡ key
+  unfolding keyOf slotBytes
   keyOf-entry key o e = take-at key (digits 4 o) (g .K) e
 
-  pub offsetOf-entry : (key : Bytes) (o : ℕ) → length key ≡ g .K → o < 2 ^ 32 → offsetOf g (entry key o) ≡ o
-  unfolding offsetOf entry
+  pub offsetOf-entry : (key : Bytes) (o : ℕ) → length key ≡ g .K → o < 2 ^ 32 → offsetOf g (slotBytes key o) ≡ o
+  unfolding offsetOf slotBytes
   offsetOf-entry key o e f = ap number (drop-at key (digits 4 o) (g .K) e) ∙ number-digits-fits 4 o f
 
   pub length-blank : length (blank g) ≡ slotSize g

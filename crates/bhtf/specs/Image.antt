@@ -93,8 +93,8 @@ keyOf g s = take (g .K) s
 unfoldable pub offsetOf : Layout → Bytes → ℕ
 offsetOf g s = number (drop (g .K) s)
 
-unfoldable pub entry : Bytes → ℕ → Bytes
-entry key offset = key ++ digits 4 offset
+unfoldable pub slotBytes : Bytes → ℕ → Bytes
+slotBytes key offset = key ++ digits 4 offset
 
 unfoldable pub blank : Layout → Bytes
 blank g = zeros (slotSize g)

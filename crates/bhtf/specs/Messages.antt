@@ -12,7 +12,7 @@ use lib.ListN.{length}
 use lib.Dec.{leb, eqb}
 use Rattle.bhtf.specs.Bytes.{Bytes, part, store, number, digits, zeros}
 use Rattle.bhtf.specs.Limits.{active, inactive, pointsField, freeField, pageField}
-use Rattle.bhtf.specs.Image.{field, setField, lastPage, Layout, slot, putSlot, keyOf, offsetOf, entry, blank, vacant, home}
+use Rattle.bhtf.specs.Image.{field, setField, lastPage, Layout, slot, putSlot, keyOf, offsetOf, slotBytes, blank, vacant, home}
 use Rattle.bhtf.specs.Search.{Probe, met, empty, exhausted, search, next, dist}
 
 -- ---- a message in the image: a letter, W bytes of length, the text
@@ -83,7 +83,7 @@ placedText g img exhausted data′ mode = freshText data′ mode
 
 -- "Add, key absent: the entry goes to the empty slot where the search ended; C grows by 1."
 unfoldable pub enter : Layout → Bytes → ℕ → Bytes → ℕ → Bytes
-enter g img i key o = setField (putSlot g img i (entry key o)) pointsField (field img pointsField + 1)
+enter g img i key o = setField (putSlot g img i (slotBytes key o)) pointsField (field img pointsField + 1)
 
 unfoldable pub inserted : Layout → Bytes → ℕ → Bytes → Option Bytes → Bytes
 inserted g img i key none = enter g img i key 0
@@ -91,7 +91,7 @@ inserted g img i key (some t) = enter g (takeSpace g img t) i key (field img fre
 
 -- "the old header, if there is one, becomes "d" and new space is taken"
 unfoldable pub relocated : Layout → Bytes → ℕ → ℕ → Bytes → Bytes → Bytes
-relocated g img i o key t = putSlot g (takeSpace g (retire img o) t) i (entry key (field img freeField))
+relocated g img i o key t = putSlot g (takeSpace g (retire img o) t) i (slotBytes key (field img freeField))
 
 -- Mode 2: "length 0 turns "a" into "d". A length at most that at the offset .. is written there as active".
 -- Mode 3: "length 0 changes nothing".

@@ -11,7 +11,7 @@ use mathlib.Core.Option.{some}
 use lib.ListN.{length}
 use Rattle.bhtf.specs.Bytes.{Bytes, part}
 use Rattle.bhtf.specs.Limits.{freeField}
-use Rattle.bhtf.specs.Image.{field, layoutOf, putSlot, entry}
+use Rattle.bhtf.specs.Image.{field, layoutOf, putSlot, slotBytes}
 use Rattle.bhtf.specs.Messages.{headSize, takeSpace, retire, enter, inserted, freshText, relocated}
 use Rattle.bhtf.specs.Questions.{openNumber, messageSound}
 use Rattle.bhtf.proofs.Opened.{opened-facts}
@@ -77,7 +77,7 @@ module _ (img img₁ : Bytes) (h : openNumber img ≡ 0) (o : ℕ) (s : messageS
         (omega (arith, retired-free, first .size, length-text img (opened-facts img h) o s n bytes below, room-fits img (n + length bytes) room .1)) placed)
 
     pub relocated-steps : (after key : Bytes) (i x : ℕ) → x ≡ field img freeField
-        → after ≡ putSlot (layoutOf img₂) img₂ i (entry key x)
+        → after ≡ putSlot (layoutOf img₂) img₂ i (slotBytes key x)
         → after ≡ relocated (layoutOf img) img i o key text
     unfolding relocated
     relocated-steps after key i x ex e =

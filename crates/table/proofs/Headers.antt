@@ -14,7 +14,7 @@ use lib.Seq.{drop-drop, take-at, drop-at, drop-length}
 use borrow.Rule.Slice.PartMut.{putMid}
 use Rattle.bhtf.specs.Bytes.{Bytes, part, store, number, digits}
 use Rattle.bhtf.specs.Limits.{slotsField, multiplierField, startField, firstField, lastField}
-use Rattle.bhtf.specs.Image.{field, setField, hashFrom, hash, scramble, home, layoutOf, slotSize, slotStart, slot, putSlot, offsetOf, entry}
+use Rattle.bhtf.specs.Image.{field, setField, hashFrom, hash, scramble, home, layoutOf, slotSize, slotStart, slot, putSlot, offsetOf, slotBytes}
 use Rattle.bhtf.specs.Questions.{openNumber}
 use Rattle.bhtf.proofs.Bytes.{length-digits}
 use Rattle.bhtf.proofs.Slots.{Room, keyOf-slot}
@@ -171,8 +171,8 @@ home-is img s is key h =
         (take n (drop 512 img)) (field img startField) key) m
 
 -- ---- an entry: the key, and the offset behind it
-pub entry-written : (key rest : Bytes) (o : ℕ) → length rest ≡ 4 → setField (key ++ rest) (length key) o ≡ entry key o
-unfolding setField store entry
+pub entry-written : (key rest : Bytes) (o : ℕ) → length rest ≡ 4 → setField (key ++ rest) (length key) o ≡ slotBytes key o
+unfolding setField store slotBytes
 entry-written key rest o l =
     ap₂ (λ (a b : Bytes). a ++ (digits 4 o ++ drop (length (digits 4 o)) b))
     (take-at key rest (length key) refl) (drop-at key rest (length key) refl)

@@ -12,7 +12,7 @@ use words::limits::SCRAMBLE_START;
 ghost use mathlib.Core.Path.{_≡_};
 ghost use Prim.Native.Nat.{_+_, _^_, _<_};
 ghost use lib.ListN.{length};
-ghost use Rattle.bhtf.specs.Image.{layoutOf, home, entry, putSlot};
+ghost use Rattle.bhtf.specs.Image.{layoutOf, home, slotBytes, putSlot};
 ghost use Rattle.bhtf.specs.Questions.{openNumber};
 ghost use Rattle.bhtf.specs.Search.{search};
 ghost use Rattle.layout.specs.Shapes.{shapeOf};
@@ -92,7 +92,7 @@ pub fn search(image: &[u8], shape: Shape, key: &[u8]) -> Found
 // Writes an entry over a slot's bytes.
 pub fn write_entry(part: &mut [u8], key: &[u8], offset: Offset)
     requires { ⌜ (length (now part) ≡ length (now key) + 4) × (offset .0 < 2 ^ 32) ⌝ }
-    ensures { λ _. ⌜ now (part .exit) ≡ entry (now (key .entry)) (offset .0) ⌝ }
+    ensures { λ _. ⌜ now (part .exit) ≡ slotBytes (now (key .entry)) (offset .0) ⌝ }
 {
     let size = key.len();
     copy(&mut part[..size], key);
@@ -102,7 +102,7 @@ pub fn write_entry(part: &mut [u8], key: &[u8], offset: Offset)
 // Puts an entry into slot i.
 pub fn put_entry(image: &mut [u8], shape: Shape, i: Slot, key: &[u8], offset: Offset)
     requires { ⌜ Placed (now image) shape × (i .0 < shape .slots) × (length (now key) ≡ shape .key) × (offset .0 < 2 ^ 32) ⌝ }
-    ensures { λ _. ⌜ now (image .exit) ≡ putSlot (layoutOf (now (image .entry))) (now (image .entry)) (i .0) (entry (now (key .entry)) (offset .0)) ⌝ }
+    ensures { λ _. ⌜ now (image .exit) ≡ putSlot (layoutOf (now (image .entry))) (now (image .entry)) (i .0) (slotBytes (now (key .entry)) (offset .0)) ⌝ }
 {
     let size = shape.key;
     let a = i.start(size).at();

@@ -6,15 +6,15 @@ use mathlib.Core.Path.{_≡_, refl, ap, ap₂, _∙_}
 use lib.ListN.{length, length-append}
 use borrow.Rule.Slice.PartMut.{putMid, mid-len}
 use Rattle.bhtf.specs.Bytes.{Bytes, digits}
-use Rattle.bhtf.specs.Image.{entry}
+use Rattle.bhtf.specs.Image.{slotBytes}
 use Rattle.bhtf.proofs.Bytes.{length-digits}
 use Rattle.table.proofs.Headers.{spot-placed, put-slot}
 use borrow.Author.Needs.{needs}
 use Rattle.table.proofs.put_entry.Statement.{statement}
 use Rattle.table.proofs.put_entry.Tie as tie
 
-length-entry′ : (key : Bytes) (o k : ℕ) → length key ≡ k → length (entry key o) ≡ k + 4
-unfolding entry
+length-entry′ : (key : Bytes) (o k : ℕ) → length key ≡ k → length (slotBytes key o) ≡ k + 4
+unfolding slotBytes
 length-entry′ key o k e = length-append key (digits 4 o) ∙ ap₂ _+_ e (length-digits 4 o)
 
 start-requires : tie.Need-start-requires
@@ -77,7 +77,7 @@ returns c =
     ap (λ (v : Bytes). putMid a (a + (s .key + 4) - a) img v) (c .before .before .write-entry .ensures)
     ∙ put-slot img s (S .pre .0 .shape) (S .args .i .0) a
     (c .before .before .before .before .at .ensures ∙ c .before .before .before .before .before .start .ensures) (a + (s .key + 4))
-    (entry key (S .args .offset .0)) refl
+    (slotBytes key (S .args .offset .0)) refl
     (length-entry′ key (S .args .offset .0) (s .key) (S .pre .2))
 
 pub put-entry-spec : {M : Type 1} → statement M
