@@ -47,8 +47,6 @@ add-i c =
     let L = c .before .before .before .before .before .before in
     let S = L .before .before .before in
     let img = S .args .image .now in
-    let n = S .args .shape .slots in
-    let i = L .loop .i in
     omega (arith, c .before .before .before .before .before .loop-test .taken, header img (S .args .shape) (S .pre .0) (S .pre .1) .slots-high)
 
 loop-less : tie.Need-loop-less Inv-loop μ-loop

@@ -30,7 +30,6 @@ offset-of-requires c κs =
     let A = S .args in
     let img = A .image .now in
     let key = A .key .now in
-    let bytes = A .bytes .now in
     (S .pre .0, S .pre .1, met-below img key (A .shape) (S .pre .1) (S .pre .0) (A .slot .0) (S .pre .4))
 
 message-sound-requires : tie.Need-message-sound-requires

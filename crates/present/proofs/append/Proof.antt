@@ -37,9 +37,7 @@ add-room-number c =
     let S = c .before .before .before .before .before .before .before in
     let A = S .args in
     let img = A .image .now in
-    let bytes = A .bytes .now in
     let o = A .o .0 in
-    let g = layoutOf img in
     let f = opened-facts img (S .pre .0) in
     omega (arith, c .before .shown-length .ensures, shown-end img f o (S .pre .4), f .free-high, f .size-high)
 
@@ -71,7 +69,6 @@ relocate-requires c κs =
     let S = c .before .before .before .before .before .before .before .before .before .before in
     let A = S .args in
     let img = A .image .now in
-    let bytes = A .bytes .now in
     let o = A .o .0 in
     let g = layoutOf img in (
       S .pre .0,

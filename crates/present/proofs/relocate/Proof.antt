@@ -88,8 +88,6 @@ returns c =
     let n = S .args .before in
     let old = c .before .before .before .before .before .before .before .before .before .before .before .retire in
     let start = c .before .before .before .before .before .before .before .text-start in
-    let f = opened-facts img (S .pre .0) in
-    let fits = room-fits img (n + length bytes) (S .pre .6) in
     let space = c .before .before .before .before .before .before .take-space in
     relocated-steps img (old .last .0) (S .pre .0) o (S .pre .4) (old .ensures) (space .last .0) bytes (start .result .0) n
     (start .ensures) (S .pre .5) (S .pre .6) (space .ensures) (c .before .before .put-entry .last .0) (S .args .key .now) (S .args .slot .0) (c .before .before .before .before .before .before .before .before .before .before .before .before .before .new .result .0)

@@ -92,7 +92,6 @@ relocate-requires c κs =
     let img = A .image .now in
     let bytes = A .bytes .now in
     let o = A .o .0 in
-    let g = layoutOf img in
     let room = sym (c .before .before .room-number .ensures) ∙ c .before .if3 .left in (
       S .pre .0,
       S .pre .1,
