@@ -29,9 +29,8 @@ use Rattle.bhtf.proofs.Probe.{search-met, search-empty, by-search}
 use Rattle.bhtf.proofs.Kept.{kept-layout}
 use Rattle.bhtf.proofs.Effects.{area-above, message-end, active-some, by-retire, retire-kept, retire-field, retire-opened, length-message, Spaced, spaced, space-kept, space-opened}
 use Rattle.bhtf.proofs.Frames.{part-closed}
-use Rattle.bhtf.proofs.Stretch.{size}
+use Rattle.bhtf.proofs.Stretch.{size, held-some}
 use Rattle.agreement.proofs.File.{allowed-length}
-use Rattle.agreement.proofs.Overwrite.{held-length}
 
 -- the n bytes from p on have none in common with the message at the offset
 abbrev Off : Bytes → ℕ → ℕ → ℕ → Type 0
@@ -64,7 +63,7 @@ module _ (img : Bytes) (o : Opened img) (p n : ℕ) (low : layoutOf img .D ≤ p
       let len : length (message g t ++ zeros (held g img at - length t)) ≡ size g img at =
       length-append (message g t) (zeros (held g img at - length t))
       ∙ ap₂ _+_ (length-message g t) (length-zeros (held g img at - length t))
-      ∙ omega (arith, held-length g img at z, le) in
+      ∙ omega (arith, held-some g img at z, le) in
       part-store-other img at _ p n (rw len (omega (arith, message-end img o at s z, o .free-high))) (rw len (c z))
 
   put-keeps : (i : ℕ) (s : Bytes) → i < g .N → length s ≡ slotSize g → part (putSlot g img i s) p n ≡ part img p n

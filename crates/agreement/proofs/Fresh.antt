@@ -20,6 +20,7 @@ use Rattle.bhtf.specs.Messages.{headSize}
 use Rattle.bhtf.specs.Questions.{versionKnown}
 use Rattle.bhtf.specs.Book.{newBook}
 use Rattle.bhtf.specs.Demand.{termsOf}
+use Rattle.bhtf.proofs.Fresh.{length-drawnBytes}
 use Rattle.bhtf.proofs.Tests.{by-bool, by-eq, not-both}
 use Rattle.bhtf.proofs.Bytes.{length-digits, number-digits-fits, length-zeros}
 use Rattle.bhtf.proofs.Slots.{Room, slot-end, slot-above, vacant-blank}
@@ -40,13 +41,6 @@ slotsAsked-some N = by-bool (eqb N 0) (λ h. rw h (omega arith)) (λ h. rw h (po
     pos n z = by-eq n 0 (λ e. absurd (z e)) (λ e. omega arith)
 
 -- ---- the image's bytes
-
-length-drawnBytes : (seed i n : ℕ) → length (drawnBytes seed i n) ≡ 4 * n
-unfolding drawnBytes
-length-drawnBytes seed i zero = refl
-length-drawnBytes seed i (suc n) =
-    length-append (digits 4 _) (drawnBytes seed (suc i) n)
-    ∙ omega (arith, length-digits 4 (Rattle.bhtf.specs.Create.drawn seed i), length-drawnBytes seed (suc i) n)
 
 -- a part of what stands behind a list, and of zeros
 part-behind : (a c : Bytes) (p m n : ℕ) → length a ≡ n → n ≤ p → part (a ++ c) p m ≡ part c (p - n) m

@@ -20,14 +20,10 @@ use Rattle.bhtf.proofs.Slots.{slot-store-data, field-store-other}
 use Rattle.bhtf.proofs.Kept.{kept-store}
 use Rattle.bhtf.proofs.Effects.{length-message}
 use Rattle.bhtf.proofs.Table.{entryOf}
-use Rattle.bhtf.proofs.Stretch.{size, Lies, lies-sound, same-on-store}
+use Rattle.bhtf.proofs.Stretch.{size, Lies, lies-sound, same-on-store, held-some}
 use Rattle.agreement.proofs.Data.{frame-entry, file-above, point-change, point-lies, point-end}
 use Rattle.agreement.proofs.Space.{Written, written, written-value, written-lies}
 use Rattle.agreement.proofs.File.{Allowed, pointOf, pointOf-some, File, file-room, file-some, Change}
-
-pub held-length : (g : Layout) (img : Bytes) (o : ℕ) → (o ≡ 0 → ⊥) → held g img o ≡ lengthAt g img o
-unfolding held
-held-length g img o z = rw (ne-eqb o 0 z) refl
 
 module _ (g : Layout) (img : Bytes) (f : File g img) (key s : Bytes) (a : Allowed g key) (e : entryOf g img key ≡ some s)
     (z : offsetOf g s ≡ 0 → ⊥) (t : Bytes) (small : length t < 256 ^ g .W) (least : leastLength ≤ length t)
@@ -43,7 +39,7 @@ module _ (g : Layout) (img : Bytes) (f : File g img) (key s : Bytes) (a : Allowe
   length-bytes =
       length-append (message g t) (zeros (held g img (offsetOf g s) - length t))
       ∙ ap₂ _+_ (length-message g t) (length-zeros (held g img (offsetOf g s) - length t))
-      ∙ omega (arith, held-length g img (offsetOf g s) z, le)
+      ∙ omega (arith, held-some g img (offsetOf g s) z, le)
 
   fits : offsetOf g s + length bytes ≤ length img
   fits = rw length-bytes (point-end g img f key s a e z)
@@ -53,7 +49,7 @@ module _ (g : Layout) (img : Bytes) (f : File g img) (key s : Bytes) (a : Allowe
   there =
       ap (λ (x : ℕ). part (store img (offsetOf g s) bytes) x (headSize g + length t)) (sym (add-zero (offsetOf g s)))
       ∙ part-store-inside img (offsetOf g s) bytes 0 (headSize g + length t) (omega (arith, fits))
-      (rw length-bytes (omega (arith, held-length g img (offsetOf g s) z, le)))
+      (rw length-bytes (omega (arith, held-some g img (offsetOf g s) z, le)))
       ∙ take-at (message g t) (zeros (held g img (offsetOf g s) - length t)) (headSize g + length t) (length-message g t)
 
   now-written : Written g (store img (offsetOf g s) bytes) (offsetOf g s) t
@@ -68,7 +64,7 @@ module _ (g : Layout) (img : Bytes) (f : File g img) (key s : Bytes) (a : Allowe
   now-lies : Lies g (store img (offsetOf g s) bytes) (offsetOf g s)
   now-lies =
       written-lies g (store img (offsetOf g s) bytes) (offsetOf g s) t now-written z (lies .low) least
-      (rw (now-field freeField (omega arith)) (omega (arith, lies .end, held-length g img (offsetOf g s) z, le)))
+      (rw (now-field freeField (omega arith)) (omega (arith, lies .end, held-some g img (offsetOf g s) z, le)))
 
   is-overwrite : overwrite g img (offsetOf g s) t ≡ store img (offsetOf g s) bytes
   unfolding overwrite bytes
@@ -84,7 +80,7 @@ module _ (g : Layout) (img : Bytes) (f : File g img) (key s : Bytes) (a : Allowe
       key s a e
       (λ p n away. same-on-store img (offsetOf g s) bytes p n fits (rw length-bytes (away z)))
       (lies-sound g (store img (offsetOf g s) bytes) (offsetOf g s) now-lies)
-      (rw (now-written .count) (omega (arith, held-length g img (offsetOf g s) z, le))))
+      (rw (now-written .count) (omega (arith, held-some g img (offsetOf g s) z, le))))
 
   pub overwrite-field : (at : ℕ) → at + 4 ≤ tableStart → field (overwrite g img (offsetOf g s) t) at ≡ field img at
   overwrite-field at h = rw is-overwrite (now-field at h)

@@ -24,10 +24,10 @@ use Rattle.bhtf.proofs.Outcomes.{roomOf, room-none, add-9, add-renewed}
 use Rattle.bhtf.proofs.Table.{entryOf}
 use Rattle.bhtf.proofs.Insert.{entry-met}
 use Rattle.agreement.proofs.File.{Allowed, valueOf}
-use Rattle.bhtf.proofs.Stretch.{sound-lies}
+use Rattle.bhtf.proofs.Stretch.{sound-lies, held-some}
 use Rattle.agreement.proofs.Data.{file-above}
 use Rattle.agreement.proofs.Retire.{retire-change, retire-field, retire-point}
-use Rattle.agreement.proofs.Overwrite.{held-length, overwrite-change, overwrite-field, overwrite-point}
+use Rattle.agreement.proofs.Overwrite.{overwrite-change, overwrite-field, overwrite-point}
 use Rattle.agreement.proofs.Entries.{length-withEntry-old}
 use Rattle.agreement.proofs.Reflect.{Reflects, reflect-entered}
 use Rattle.agreement.proofs.Simple.{Same, same-refused, same-accepted, open₀, found-met, met-sound}
@@ -122,7 +122,7 @@ module _ (g : Layout) (img : Bytes) (b : Book) (r : Reflects g img b) (key : Byt
   held-small z hi =
       let l = sound-lies g img o (met-sound g img b r key a i m) z in
       subst (λ (w : ℕ). length bytes < 256 ^ w) (ap (λ (y : Layout). y .W) (r .file .layout))
-      (omega (arith, held-length g img o z, hi, l .low, l .end, file-above (r .file), r .file .opened .free-high, r .file .opened .size-high))
+      (omega (arith, held-some g img o z, hi, l .low, l .end, file-above (r .file), r .file .opened .free-high, r .file .opened .size-high))
 
   held-zero : o ≡ 0 → held g img o ≡ 0
   unfolding held

@@ -10,7 +10,7 @@ use mathlib.Core.Logic.{inl, inr}
 use mathlib.Core.Bool.{true, _&&_, _||_}
 use lib.ListN.{length}
 use lib.Dec.{leb, eqb}
-use borrow.Author.Tests.{leb-true, le-leb, eqb-true}
+use borrow.Author.Tests.{leb-true, le-leb, eqb-true, ne-eqb}
 use Rattle.bhtf.specs.Bytes.{Bytes, part, store, number}
 use Rattle.bhtf.specs.Limits.{active, inactive, leastLength, freeField}
 use Rattle.bhtf.specs.Image.{field, Layout}
@@ -21,6 +21,11 @@ use Rattle.bhtf.proofs.Bytes.{Apart, part-store-other}
 
 abbrev pub size : Layout → Bytes → ℕ → ℕ
 size g img o = headSize g + lengthAt g img o
+
+-- the length at an offset is what the message there holds
+pub held-some : (g : Layout) (img : Bytes) (o : ℕ) → (o ≡ 0 → ⊥) → held g img o ≡ lengthAt g img o
+unfolding held
+held-some g img o z = rw (ne-eqb o 0 z) refl
 
 -- ---- question 11 as facts
 

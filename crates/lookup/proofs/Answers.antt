@@ -24,7 +24,8 @@ use Rattle.bhtf.proofs.Opened.{opened-facts}
 use Rattle.bhtf.proofs.Probe.{by-search}
 use Rattle.bhtf.proofs.Effects.{message-end, active-some}
 use Rattle.bhtf.proofs.Outcomes.{offset-refused, offset-met, lookup-closed, lookup-7, lookup-14, lookup-11, lookup-0}
-use Rattle.messages.proofs.Sound.{head-four, held-none, held-some}
+use Rattle.bhtf.proofs.Stretch.{held-some}
+use Rattle.messages.proofs.Sound.{head-four, held-none}
 
 -- ---- count
 module _ (img : Bytes) (n : ℕ) where

@@ -1,7 +1,7 @@
 -- A message in the image, as code reads it: its letter, its header's 4 bytes, and question 11.
 --     letter-byte, head-four, length-bound      the header
 --     sound-none, sound-low, sound-high, sound-read, sound-tests      question 11, by where the offset stands
---     active-none, active-letter, held-none, held-some     whether it is active, and the length held
+--     active-none, active-letter, held-none     whether it is active, and the length held
 -- Assumes nothing.
 use mathlib.Core.Path.{_≡_, refl, sym, ap, _∙_}
 use Prim.Native.Nat.{ℕ, _+_, _≤_, _<_, _^_}
@@ -110,7 +110,3 @@ active-letter img o n h = rw (ne-eqb o 0 n, letter-byte img o h)
 pub held-none : (g : Layout) (img : Bytes) (o : ℕ) → o ≡ 0 → held g img o ≡ 0
 unfolding held
 held-none g img o e = rw (eq-eqb o 0 e)
-
-pub held-some : (g : Layout) (img : Bytes) (o : ℕ) → (o ≡ 0 → ⊥) → held g img o ≡ lengthAt g img o
-unfolding held
-held-some g img o n = rw (ne-eqb o 0 n)

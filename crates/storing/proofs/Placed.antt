@@ -19,9 +19,10 @@ use Rattle.bhtf.specs.Image.{field, layoutOf}
 use Rattle.bhtf.specs.Messages.{headSize, lengthAt, isActive, message, held, setFree, takeSpace, retire, overwrite}
 use Rattle.bhtf.proofs.Bytes.{part-length, length-part-append, part-part, part-store-same, length-store, length-digits, length-zeros}
 use Rattle.bhtf.proofs.Stores.{store-inner, store-append, store-end, store-lent}
+use Rattle.bhtf.proofs.Stretch.{held-some}
 use Rattle.words.proofs.Numbers.{set-store}
 use Rattle.storing.specs.Written.{written, freeSet}
-use Rattle.messages.proofs.Sound.{head-four, held-some}
+use Rattle.messages.proofs.Sound.{head-four}
 
 pub message-written : (img t : Bytes) → message (layoutOf img) t ≡ written t
 unfolding message written layoutOf

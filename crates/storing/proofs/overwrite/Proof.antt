@@ -11,9 +11,10 @@ use Rattle.bhtf.specs.Image.{layoutOf}
 use Rattle.bhtf.specs.Messages.{lengthAt}
 use Rattle.bhtf.proofs.Opened.{opened-facts}
 use Rattle.bhtf.proofs.Effects.{message-end}
+use Rattle.bhtf.proofs.Stretch.{held-some}
 use Rattle.words.proofs.Numbers.{part-zero}
 use Rattle.storing.specs.Written.{written}
-use Rattle.messages.proofs.Sound.{head-four, held-some}
+use Rattle.messages.proofs.Sound.{head-four}
 use Rattle.storing.proofs.Placed.{overwrite-steps}
 use Rattle.storing.proofs.overwrite.Statement.{statement}
 use Rattle.storing.proofs.overwrite.Tie as tie
