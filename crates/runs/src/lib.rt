@@ -1,7 +1,8 @@
 // Runs of bytes: zeroed, copied, compared.
+use words::fields::read_u32;
 ghost use mathlib.Core.Path.{_≡_};
 ghost use mathlib.Core.Logic.{_⊎_};
-ghost use lib.ListN.{length};
+ghost use lib.ListN.{length, drop};
 ghost use Prim.Native.Nat.{_+_, _≤_};
 ghost use Rattle.bhtf.specs.Bytes.{part, store, zeros, allZero, same};
 
@@ -48,14 +49,12 @@ pub fn copy_up(s: &mut [u8], from: usize, to: usize, n: usize)
     copy_apart(s, from, to, n);
 }
 
-// Whether a and b hold the same bytes; the first difference ends it.
-pub fn same_bytes(a: &[u8], b: &[u8]) -> bool
-    ensures { λ r. ⌜ r ≡ same (now (a .entry)) (now (b .entry)) ⌝ }
+// Whether a and b hold the same bytes from a place on; the first difference ends it.
+fn same_rest(a: &[u8], b: &[u8], from: usize) -> bool
+    requires { ⌜ (length (now a) ≡ length (now b)) × (from ≤ length (now a)) ⌝ }
+    ensures { λ r. ⌜ r ≡ same (drop from (now (a .entry))) (drop from (now (b .entry))) ⌝ }
 {
-    if a.len() != b.len() {
-        return false;
-    }
-    let mut i = 0;
+    let mut i = from;
     while i < a.len() {
         if a[i] != b[i] {
             return false;
@@ -63,6 +62,24 @@ pub fn same_bytes(a: &[u8], b: &[u8]) -> bool
         i += 1;
     }
     true
+}
+
+// Whether a and b hold the same bytes, four at a time; the first difference ends it.
+pub fn same_bytes(a: &[u8], b: &[u8]) -> bool
+    ensures { λ r. ⌜ r ≡ same (now (a .entry)) (now (b .entry)) ⌝ }
+{
+    let n = a.len();
+    if n != b.len() {
+        return false;
+    }
+    let mut i = 0;
+    while 4 <= n - i {
+        if read_u32(a, i) != read_u32(b, i) {
+            return false;
+        }
+        i += 4;
+    }
+    same_rest(a, b, i)
 }
 
 // Whether every byte is zero; the first other byte ends it.

@@ -1,58 +1,70 @@
--- `words::runs::same_bytes` meets its contract: after i turns what is left to compare decides.
--- Assumes nothing.
+-- After each turn what is left to compare decides; four bytes a turn, as one number. Assumes nothing.
 use Prim.Native.Nat.{_≤_, _-_}
 use native.Mathlib.Omega.{arith}
 use mathlib.Core.Path.{_≡_, refl, sym, _∙_}
 use lib.ListN.{length, drop}
 use borrow.Author.Needs.{needs}
 use Rattle.bhtf.specs.Bytes.{same}
-use Rattle.runs.proofs.Compare.{same-step, same-differ, same-lengths, same-end}
+use Rattle.bhtf.proofs.Bytes.{AreBytes}
+use Rattle.runs.proofs.Compare.{same-four, four-differ, same-lengths}
 use Rattle.runs.proofs.same_bytes.Statement.{statement}
 use Rattle.runs.proofs.same_bytes.Tie as tie
 
 abbrev Inv-loop : tie.InvT-loop
-Inv-loop a b i₀ i = (i ≤ length a) × (same a b ≡ same (drop i a) (drop i b))
+Inv-loop a b n i₀ i = (i ≤ length a) × (same a b ≡ same (drop i a) (drop i b))
 
 abbrev μ-loop : tie.MeasureT-loop
-μ-loop a b i₀ i = length a - i
+μ-loop a b n i₀ i = length a - i
 
 returns : tie.Need-returns Inv-loop μ-loop
-returns c = sym (same-lengths (c .before .args .a .now) (c .before .args .b .now) (c .if1 .taken))
+returns c =
+    let A = c .before .before .before .args in
+    sym (same-lengths (A .a .now) (A .b .now) (c .if1 .taken))
 
 loop-holds : tie.Need-loop-holds Inv-loop μ-loop
-loop-holds c = (search needs, refl)
+loop-holds c = (omega arith, refl)
 
-shared-slice-read-if2 : tie.Need-shared-slice-read-if2 Inv-loop μ-loop
-shared-slice-read-if2 c = search needs
+sub-loop : tie.Need-sub-loop Inv-loop μ-loop
+sub-loop c = c .loop .inv .0
 
-shared-slice-read-if2-2 : tie.Need-shared-slice-read-if2-2 Inv-loop μ-loop
-shared-slice-read-if2-2 c = search needs
+read-u32-requires : tie.Need-read-u32-requires Inv-loop μ-loop
+read-u32-requires c κs = omega arith
+
+read-u32-requires-2 : tie.Need-read-u32-requires-2 Inv-loop μ-loop
+read-u32-requires-2 c κs = omega arith
 
 returns-2 : tie.Need-returns-2 Inv-loop μ-loop
 returns-2 c =
     let L = c .before .before .before .before in
-    let A = L .before .before .args in
-    sym (L .loop .inv .1 ∙ same-differ (A .a .now) (A .b .now) (L .loop .i) (omega arith) (omega arith) (c .if2 .taken))
+    let A = L .before .before .before .before .args in
+    sym
+    (L .loop .inv .1
+    ∙ four-differ (A .a .now) (A .b .now) (L .loop .i)
+    (λ e. c .if2 .taken (c .before .before .read-u32 .ensures ∙ e ∙ sym (c .before .read-u322 .ensures))))
 
 add-i : tie.Need-add-i Inv-loop μ-loop
 add-i c = search needs
 
 loop-less : tie.Need-loop-less Inv-loop μ-loop
-loop-less c = search needs
+loop-less c = omega arith
 
 loop-again : tie.Need-loop-again Inv-loop μ-loop
 loop-again c =
     let L = c .before .before .before .before in
-    let A = L .before .before .args in (
+    let A = L .before .before .before .before .args in
+    let ba : AreBytes (A .a .now) = λ i. omega (arith, L .before .before .before .shared-slice-known .given i) in
+    let bb : AreBytes (A .b .now) = λ i. omega (arith, L .before .before .shared-slice-known2 .given i) in (
       omega arith,
-      L .loop .inv .1 ∙ same-step (A .a .now) (A .b .now) (L .loop .i) (omega arith) (omega arith) (c .if2 .left),
+      L .loop .inv .1
+          ∙ same-four (A .a .now) (A .b .now) (L .loop .i) ba bb (omega arith) (omega arith)
+          (sym (c .before .before .read-u32 .ensures) ∙ c .if2 .left ∙ c .before .read-u322 .ensures),
     )
 
+same-rest-requires : tie.Need-same-rest-requires Inv-loop μ-loop
+same-rest-requires c κs = (omega arith, omega arith)
+
 returns-3 : tie.Need-returns-3 Inv-loop μ-loop
-returns-3 c =
-    let L = c .before in
-    let A = L .before .before .args in
-    sym (L .loop .inv .1 ∙ same-end (A .a .now) (A .b .now) (L .loop .i) (omega arith) (omega arith))
+returns-3 c = c .same-rest .ensures ∙ sym (c .before .before .loop .inv .1)
 
 pub same-bytes-spec : {M : Type 1} → statement M
 same-bytes-spec =
@@ -62,10 +74,12 @@ same-bytes-spec =
     μ-loop
     returns
     loop-holds
-    shared-slice-read-if2
-    shared-slice-read-if2-2
+    sub-loop
+    read-u32-requires
+    read-u32-requires-2
     returns-2
     add-i
     loop-less
     loop-again
+    same-rest-requires
     returns-3)
