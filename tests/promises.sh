@@ -23,6 +23,13 @@ while IFS='#' read -r path name; do
     bad=1
   fi
 done < <(grep -oE '\((\.\./)?crates/[^ )]+#[^ )]+\)' "$doc" | sed 's/^(\(\.\.\/\)\?//; s/)$//' | sort -u)
+# a fact named behind an edit is the one that the edit names: a function's part, or a case
+while IFS='`' read -r _ edit _ name fact; do
+  checked=$((checked + 1))
+  fact=${fact# }
+  grep -qE "^# falls at: proofs/(.*/)?($name/Proof\.antt $fact|Cases\.antt $name)$" "$edit" 2>/dev/null ||
+    { echo "$doc says that $edit falls at $name $fact, and the edit does not"; bad=1; }
+done < <(grep -oE '`crates/[^`]+\.edit`: (the case )?`[A-Za-z0-9_-]+`( [a-z0-9-]+)?' "$doc")
 [ "$checked" -gt 0 ] || { echo "$doc names nothing"; exit 1; }
 [ "$bad" -eq 0 ] && echo "$checked names of $doc are there"
 exit $bad
