@@ -7,8 +7,7 @@
 #   tests/falls.sh --list   the edits with their words and facts, as they are written
 set -u
 cd "$(dirname "$0")/.." || exit 2
-passed=0
-failed=0
+. tests/tally.sh
 
 # refused LOG: what the prover refused in itself, a line each: file, fact, reason. What only rests on it is left out.
 refused() {
@@ -54,5 +53,4 @@ for edit in crates/*/must-fail/*.edit; do
   fi
 done
 [ "${1:-}" = --list ] && exit
-echo "$passed passed, $failed failed"
-[ "$failed" -eq 0 ] && [ "$passed" -gt 0 ]
+tally

@@ -15,22 +15,9 @@ case $seed$count in *[!0-9]*) usage ;; esac
 [ "$count" -ge 3 ] || usage
 cd "$(dirname "$0")" || exit 2
 [ -x "$program" ] || { echo "$program is missing: run make" >&2; exit 2; }
-passed=0
-failed=0
+. ./tally.sh
 work=$(mktemp -d)
 trap 'rm -rf "$work"' EXIT
-
-# test_that WHAT COMMAND..
-test_that() {
-  local what=$1
-  shift
-  if "$@"; then
-    passed=$((passed + 1))
-  else
-    failed=$((failed + 1))
-    echo "FAILED: $what"
-  fi
-}
 
 echo "seed $seed, $count names of each size"
 php fnv.php names "$seed" "$count" >"$work/names" && cat fnv-published.txt "$work/names" >"$work/lines" || exit 2
@@ -49,5 +36,4 @@ passed=$((passed + ${last%% *}))
 last=${last##*, }
 failed=$((failed + ${last%% *}))
 [ "$status" -eq 0 ] || [ "$failed" -gt 0 ] || failed=1
-echo "$passed passed, $failed failed"
-[ "$failed" -eq 0 ]
+tally

@@ -25,20 +25,8 @@ plain() {
   gcc -std=c99 -O2 -Itests/reference $names -c "$2" -o "$work/$1.o" && ar rcs "$work/$1.a" "$work/$1.o" && links "$1" "$work/$1.a"
 }
 
-passed=0
-failed=0
+. tests/tally.sh
 
-# test_that WHAT COMMAND..
-test_that() {
-  local what=$1
-  shift
-  if "$@"; then
-    passed=$((passed + 1))
-  else
-    failed=$((failed + 1))
-    echo "FAILED: $what"
-  fi
-}
 finds() { ! "$work/$1" --seed 1 --lists 100 >"$work/said" && grep -q '^FAILED: list' "$work/said"; }
 
 links library "$lib" || exit 2
@@ -51,5 +39,4 @@ sed 's/^    close_hole(image, &v, slot);$//' tests/reference/plain.c >"$work/two
 plain two "$work/two.c" || exit 2
 test_that "the fault of version two is found" finds two
 
-echo "$passed passed, $failed failed"
-[ "$failed" -eq 0 ]
+tally

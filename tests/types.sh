@@ -6,8 +6,7 @@ set -u
 cd "$(dirname "$0")/.." || exit 2
 work=$(mktemp -d)
 trap 'rm -rf "$work"' EXIT
-passed=0
-failed=0
+. tests/tally.sh
 
 # refused CRATE FILE OLD NEW: the edit does not compile
 refused() {
@@ -37,5 +36,4 @@ refused table lib.rt 'Slot::new((h as usize) % slots)' 'Offset::new((h as usize)
 refused lookup lib.rt 'message_sound(image, shape, o)' 'message_sound(image, shape, slot)'
 refused delete lib.rt 'close(image, shape, i)' 'close(image, shape, o)'
 
-echo "$passed passed, $failed failed"
-[ "$failed" -eq 0 ]
+tally

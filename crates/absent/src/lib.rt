@@ -18,11 +18,11 @@ ghost use lib.ListN.{length};
 ghost use Rattle.bhtf.specs.Calls.{settled, add};
 ghost use Rattle.bhtf.specs.Image.{layoutOf};
 ghost use Rattle.bhtf.specs.Messages.{enter, inserted, freshText};
-ghost use Rattle.bhtf.specs.Questions.{openNumber, nameAllowed, modeKnown};
+ghost use Rattle.bhtf.specs.Questions.{openNumber, nameAllowed, modeKnown, placeNumber};
 ghost use Rattle.bhtf.specs.Search.{search, isMet};
 ghost use Rattle.layout.specs.Shapes.{shapeOf};
 ghost use Rattle.table.specs.Probes.{probeOf};
-ghost use Rattle.room.specs.Rooms.{roomNumber, placeNumber};
+ghost use Rattle.room.specs.Rooms.{roomNumber};
 
 // The entry is put into the slot, and C grows by 1.
 fn enter(image: &mut [u8], shape: Shape, slot: Slot, key: &[u8], o: Offset)
@@ -53,7 +53,7 @@ fn insert(image: &mut [u8], shape: Shape, slot: Slot, key: &[u8], bytes: &[u8])
 fn insert_fresh(image: &mut [u8], shape: Shape, slot: Slot, key: &[u8], bytes: &[u8]) -> u32
     requires { ⌜ (openNumber (now image) ≡ 0) × (shape ≡ shapeOf (now image)) × (slot .0 < shape .slots)
         × (length (now key) ≡ shape .key) ⌝ }
-    ensures { λ r. ⌜ (r ≡ placeNumber (now (image .entry)) (freshText (now (bytes .entry)) 1))
+    ensures { λ r. ⌜ (r ≡ placeNumber (layoutOf (now (image .entry))) (now (image .entry)) (freshText (now (bytes .entry)) 1))
         × (now (image .exit)
         ≡ settled r (now (image .entry))
         (inserted (layoutOf (now (image .entry))) (now (image .entry)) (slot .0) (now (key .entry)) (freshText (now (bytes .entry)) 1))) ⌝ }

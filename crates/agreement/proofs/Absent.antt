@@ -15,12 +15,12 @@ use Rattle.bhtf.specs.Limits.{pointsField, freeField}
 use Rattle.bhtf.specs.Image.{field, Layout, layoutOf, slot}
 use Rattle.bhtf.specs.Search.{empty, search, isMet}
 use Rattle.bhtf.specs.Messages.{shown, held, isActive, enter, inserted, freshText, addedAt, added}
-use Rattle.bhtf.specs.Questions.{Question, ask, firstNo, modeKnown, addNumber}
+use Rattle.bhtf.specs.Questions.{Question, ask, firstNo, modeKnown, addNumber, placeNumber}
 use Rattle.bhtf.specs.Calls.{add}
 use Rattle.bhtf.specs.Book.{Terms, Book, find, roomAsks, entered, addAbsent, addFound}
 use Rattle.bhtf.proofs.Tests.{by-bool, by-eq, not-both}
 use Rattle.bhtf.proofs.Opened.{firstNo-none, firstNo-yes, firstNo-no}
-use Rattle.bhtf.proofs.Outcomes.{roomOf, room-none, add-10-exhausted, add-10-full, add-fresh}
+use Rattle.bhtf.proofs.Outcomes.{room-none, add-10-exhausted, add-10-full, add-fresh}
 use Rattle.bhtf.proofs.Total.{total-same, total-const}
 use Rattle.bhtf.proofs.Table.{weight, weigh, Taken}
 use Rattle.bhtf.proofs.Probe.{by-search, search-exhausted}
@@ -70,11 +70,11 @@ module _ (g : Layout) (img : Bytes) (b : Book) (r : Reflects g img b) (key : Byt
     room = ltb-true _ _ lt
 
     -- 12 and 13 decide, of the text p to be placed
-    empty-number : (p : Option Bytes) → freshText bytes mode ≡ p → addNumber img key bytes mode ≡ roomOf g img p
+    empty-number : (p : Option Bytes) → freshText bytes mode ≡ p → addNumber img key bytes mode ≡ placeNumber g img p
     empty-number p q =
         rw (r .file .layout) at
         (add-fresh img key (open₀ g img b r key) bytes mode (rw (r .file .layout) a) k i (rw (r .file .layout) m) (rw (r .file .layout) lt))
-        ∙ ap (roomOf g img) q
+        ∙ ap (placeNumber g img) q
 
     book-ten : (more : List Question) → firstNo (ask 10 (ltb (length (b .entries)) (b .terms .N)) ∷ more) ≡ firstNo more
     book-ten more = firstNo-yes 10 _ more (book-10 ∙ lt)

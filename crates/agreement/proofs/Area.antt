@@ -18,13 +18,13 @@ use Rattle.bhtf.specs.Limits.{inactive, pointsField, freeField}
 use Rattle.bhtf.specs.Image.{field, setField, Layout, layoutOf, slotSize, slot, putSlot, offsetOf, slotBytes}
 use Rattle.bhtf.specs.Search.{met, empty, exhausted, search, isMet}
 use Rattle.bhtf.specs.Messages.{headSize, held, message, takeSpace, retire, overwrite, freshText, renewedText, enter, inserted, relocated, renewed, renewedAt, addedAt, added, deletedAt}
-use Rattle.bhtf.specs.Questions.{nameAllowed, modeKnown, messageSound, somePoint, lengthAllowed, spaceLeft, openNumber, addNumber, deleteNumber}
+use Rattle.bhtf.specs.Questions.{nameAllowed, modeKnown, messageSound, somePoint, lengthAllowed, spaceLeft, openNumber, addNumber, deleteNumber, placeNumber}
 use Rattle.bhtf.specs.Calls.{add, delete}
 use Rattle.bhtf.proofs.Tests.{by-bool, by-le, by-eq, and-left}
 use Rattle.bhtf.proofs.Bytes.{Apart, part-store-other, length-zeros}
 use Rattle.bhtf.proofs.Slots.{part-setField-other, part-putSlot-outside, length-putSlot, length-setField, length-entry}
 use Rattle.bhtf.proofs.Opened.{Opened, opened-facts, opened-room, firstNo-head, firstNo-tail}
-use Rattle.bhtf.proofs.Outcomes.{roomOf, settled-yes, delete-closed, delete-7, delete-14, delete-11, delete-accepted, delete-refused, add-closed, add-7, add-8, add-9, add-10-exhausted, add-10-full, add-11, add-renewed, add-fresh, add-refused}
+use Rattle.bhtf.proofs.Outcomes.{settled-yes, delete-closed, delete-7, delete-14, delete-11, delete-accepted, delete-refused, add-closed, add-7, add-8, add-9, add-10-exhausted, add-10-full, add-11, add-renewed, add-fresh, add-refused}
 use Rattle.bhtf.proofs.Probe.{search-met, search-empty, by-search}
 use Rattle.bhtf.proofs.Kept.{kept-layout}
 use Rattle.bhtf.proofs.Effects.{area-above, message-end, active-some, by-retire, retire-kept, retire-field, retire-opened, length-message, Spaced, spaced, space-kept, space-opened}
@@ -103,14 +103,14 @@ module _ (img : Bytes) (o : Opened img) (p n : ℕ) (low : layoutOf img .D ≤ p
     entry-size : (x : ℕ) → length (slotBytes key x) ≡ slotSize (layoutOf img)
     entry-size x = length-entry (layoutOf img) key x named
 
-    fits : (t : Bytes) → roomOf (layoutOf img) img (some t) ≡ 0 → field img freeField + headSize (layoutOf img) + length t ≤ length img
+    fits : (t : Bytes) → placeNumber (layoutOf img) img (some t) ≡ 0 → field img freeField + headSize (layoutOf img) + length t ≤ length img
     unfolding spaceLeft
     fits t h =
         leb-true _ _
         (firstNo-head 13 (leb (field img freeField + headSize (layoutOf img) + length t) (length img)) [] (λ z. omega arith)
         (firstNo-tail 12 (lengthAllowed (layoutOf img) (some t)) _ (λ z. omega arith) h))
 
-    insert-keeps : (t : Option Bytes) → roomOf (layoutOf img) img t ≡ 0 → part (inserted (layoutOf img) img i key t) p n ≡ part img p n
+    insert-keeps : (t : Option Bytes) → placeNumber (layoutOf img) img t ≡ 0 → part (inserted (layoutOf img) img i key t) p n ≡ part img p n
     unfolding inserted
     insert-keeps none h = enter-keeps img o p n low i key 0 l (entry-size 0)
     insert-keeps (some t) h =
@@ -121,7 +121,7 @@ module _ (img : Bytes) (o : Opened img) (p n : ℕ) (low : layoutOf img .D ≤ p
         ∙ space-keeps img o p n low t (fits t h) high
 
     module _ (at : ℕ) (s : messageSound (layoutOf img) img at ≡ true) (c : Off img at p n) where
-      relocate-keeps : (t : Bytes) → roomOf (layoutOf img) img (some t) ≡ 0
+      relocate-keeps : (t : Bytes) → placeNumber (layoutOf img) img (some t) ≡ 0
           → part (relocated (layoutOf img) img i at key t) p n ≡ part img p n
       unfolding relocated
       relocate-keeps t h =
@@ -137,7 +137,7 @@ module _ (img : Bytes) (o : Opened img) (p n : ℕ) (low : layoutOf img .D ≤ p
           ∙ retire-keeps img o p n low at s c
 
       renew-keeps : (bytes : Bytes) (mode : ℕ) (t : Option Bytes) → renewedText (layoutOf img) img at bytes mode ≡ t
-          → roomOf (layoutOf img) img t ≡ 0 → part (renewed (layoutOf img) img i at key bytes mode t) p n ≡ part img p n
+          → placeNumber (layoutOf img) img t ≡ 0 → part (renewed (layoutOf img) img i at key bytes mode t) p n ≡ part img p n
       unfolding renewed
       renew-keeps bytes mode (some t) q h = relocate-keeps t h
       renew-keeps bytes mode none q h =

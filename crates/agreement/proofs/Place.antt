@@ -16,11 +16,11 @@ use Rattle.bhtf.specs.Limits.{leastLength, pointsField, freeField}
 use Rattle.bhtf.specs.Image.{field, Layout, layoutOf, slot, putSlot, slotBytes, offsetOf}
 use Rattle.bhtf.specs.Search.{met, empty, search}
 use Rattle.bhtf.specs.Messages.{headSize, retire, takeSpace, enter, inserted, relocated}
-use Rattle.bhtf.specs.Questions.{ask, firstNo, lengthAllowed, spaceLeft}
+use Rattle.bhtf.specs.Questions.{ask, firstNo, lengthAllowed, spaceLeft, placeNumber}
 use Rattle.bhtf.specs.Book.{Terms, Book, find, roomAsks, entered, placed}
 use Rattle.bhtf.proofs.Tests.{by-le}
 use Rattle.bhtf.proofs.Opened.{firstNo-head, firstNo-tail}
-use Rattle.bhtf.proofs.Outcomes.{roomOf}
+use Rattle.bhtf.proofs.Outcomes.{}
 use Rattle.bhtf.proofs.Table.{entryOf}
 use Rattle.bhtf.proofs.Probe.{search-frame}
 use Rattle.bhtf.proofs.Insert.{entry-met, entry-empty}
@@ -42,7 +42,7 @@ leb-shift D U x L k e h =
     (λ l. lt-leb (x + k) L l ∙ sym (lt-leb (U + k) (L - D) (omega arith)))
 
 module _ (g : Layout) (img : Bytes) (b : Book) (r : Reflects g img b) (t : Bytes) where
-  pub room-both : roomOf g img (some t) ≡ firstNo (roomAsks b (length t))
+  pub room-both : placeNumber g img (some t) ≡ firstNo (roomAsks b (length t))
   unfolding lengthAllowed spaceLeft roomAsks
   room-both =
       ap₂ (λ (x y : Bool). firstNo (ask 12 x ∷ ask 13 y ∷ []))

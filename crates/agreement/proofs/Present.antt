@@ -15,12 +15,12 @@ use Rattle.bhtf.specs.Limits.{leastLength, pointsField, freeField}
 use Rattle.bhtf.specs.Image.{field, Layout, layoutOf, slot, offsetOf}
 use Rattle.bhtf.specs.Search.{met, search}
 use Rattle.bhtf.specs.Messages.{shown, held, retire, overwrite, renewedText, renewed, renewedAt, addedAt, added}
-use Rattle.bhtf.specs.Questions.{ask, firstNo, modeKnown, addNumber}
+use Rattle.bhtf.specs.Questions.{ask, firstNo, modeKnown, addNumber, placeNumber}
 use Rattle.bhtf.specs.Calls.{add}
 use Rattle.bhtf.specs.Book.{Entry, Book, find, withEntry, stepOf, roomAsks, entered, placed, replace, append, addPresent, addFound}
 use Rattle.bhtf.proofs.Tests.{by-eq, by-le, and-left, and-right}
 use Rattle.bhtf.proofs.Opened.{firstNo-none, firstNo-no}
-use Rattle.bhtf.proofs.Outcomes.{roomOf, room-none, add-9, add-renewed}
+use Rattle.bhtf.proofs.Outcomes.{room-none, add-9, add-renewed}
 use Rattle.bhtf.proofs.Table.{entryOf}
 use Rattle.bhtf.proofs.Insert.{entry-met}
 use Rattle.agreement.proofs.File.{Allowed, valueOf}
@@ -52,12 +52,12 @@ module _ (g : Layout) (img : Bytes) (b : Book) (r : Reflects g img b) (key : Byt
 
   -- in modes 2 and 3 questions 12 and 13 decide, of the text p to be placed
   present-number : (mode : ℕ) (p : Option Bytes) → modeKnown mode ≡ true → eqb mode 1 ≡ false → renewedText g img o bytes mode ≡ p
-      → addNumber img key bytes mode ≡ roomOf g img p
+      → addNumber img key bytes mode ≡ placeNumber g img p
   present-number mode p k h q =
       rw (r .file .layout) at
       (add-renewed img key (open₀ g img b r key) bytes mode (rw (r .file .layout) a) k i (rw (r .file .layout) m) h
       (rw (r .file .layout) (met-sound g img b r key a i m)))
-      ∙ ap (roomOf g img) q
+      ∙ ap (placeNumber g img) q
 
   after-present : (mode : ℕ) (p : Option Bytes) → renewedText g img o bytes mode ≡ p
       → added (layoutOf img) img key bytes mode ≡ renewed g img i o key bytes mode p

@@ -1,6 +1,6 @@
 -- What a call answers, case by case, on any image whose header is accepted; and the image that it leaves.
 --     lookup-7, lookup-14, lookup-11, lookup-0, and so for delete; add-7 to add-11, and add-renewed, add-fresh, where 12 and 13 decide
---     roomOf       the number of 12 and 13
+--     room-none    12 and 13 where nothing is placed
 --     offset-refused, offset-met, lookup-shows, lookup-refused      lookup's answer
 --     add-refused, delete-refused, delete-accepted      the image afterwards
 -- Assumes nothing.
@@ -18,7 +18,7 @@ use Rattle.bhtf.specs.Limits.{pointsField, freeField}
 use Rattle.bhtf.specs.Image.{field, Layout, layoutOf, slot, offsetOf}
 use Rattle.bhtf.specs.Search.{Probe, met, empty, exhausted, search, isMet, isEmpty, slotOf}
 use Rattle.bhtf.specs.Messages.{headSize, lengthAt, textAt, isActive, shown, held, freshText, renewedText, placedText, deleted, deletedAt}
-use Rattle.bhtf.specs.Questions.{ask, firstNo, nameAllowed, modeKnown, newInMode1, slotToTake, messageSound, metMessageSound, somePoint, lengthAllowed, spaceLeft, named, pointAsks, addAsks, lookupAsks, deleteAsks, openNumber, addNumber, deleteNumber, lookupNumber}
+use Rattle.bhtf.specs.Questions.{ask, firstNo, nameAllowed, modeKnown, newInMode1, slotToTake, messageSound, metMessageSound, somePoint, lengthAllowed, spaceLeft, named, pointAsks, addAsks, lookupAsks, deleteAsks, openNumber, addNumber, deleteNumber, lookupNumber, placeNumber}
 use Rattle.bhtf.specs.Calls.{plain, settled, add, delete, lookup, lookupOffset, lookupStart, lookupLength}
 use Rattle.bhtf.proofs.Tests.{by-bool, and-true, zero-yes, zero-no}
 use Rattle.bhtf.proofs.Bytes.{part-length}
@@ -37,10 +37,7 @@ settled-no n img x h = zero-no n x img h
 
 -- ---- 12 and 13, of the text to be placed
 
-abbrev pub roomOf : Layout → Bytes → Option Bytes → ℕ
-roomOf g img p = firstNo (ask 12 (lengthAllowed g p) ∷ ask 13 (spaceLeft g (field img freeField) (length img) p) ∷ [])
-
-pub room-none : (g : Layout) (img : Bytes) → roomOf g img none ≡ 0
+pub room-none : (g : Layout) (img : Bytes) → placeNumber g img none ≡ 0
 unfolding lengthAllowed spaceLeft
 room-none g img = firstNo-yes 12 true _ refl ∙ firstNo-yes 13 true [] refl ∙ firstNo-none
 
@@ -204,7 +201,7 @@ module _ (img key : Bytes) (open₀ : openNumber img ≡ 0) where
         add-11 h s = present h ∙ firstNo-no 11 _ _ s
 
         pub add-renewed : eqb mode 1 ≡ false → messageSound g img (offsetOf g (slot g img i)) ≡ true
-            → addNumber img key bytes mode ≡ roomOf g img (renewedText g img (offsetOf g (slot g img i)) bytes mode)
+            → addNumber img key bytes mode ≡ placeNumber g img (renewedText g img (offsetOf g (slot g img i)) bytes mode)
         add-renewed h s = present h ∙ firstNo-yes 11 _ _ s
 
       -- a point that is absent
@@ -225,7 +222,7 @@ module _ (img key : Bytes) (open₀ : openNumber img ≡ 0) where
         unfolding isMet isEmpty slotToTake
         add-10-full h = add-10 (ap isMet m) (ap (slotToTake (field img pointsField) (g .N)) m ∙ h)
 
-        pub add-fresh : ltb (field img pointsField) (g .N) ≡ true → addNumber img key bytes mode ≡ roomOf g img (freshText bytes mode)
+        pub add-fresh : ltb (field img pointsField) (g .N) ≡ true → addNumber img key bytes mode ≡ placeNumber g img (freshText bytes mode)
         unfolding pointAsks isMet isEmpty slotToTake metMessageSound placedText
         add-fresh h =
             add-point

@@ -138,6 +138,10 @@ unfoldable pub deleteAsks : Layout → Bytes → Probe → Bytes → List Questi
 deleteAsks g img s key =
     ask 7 (nameAllowed (g .K) key) ∷ ask 14 (isMet s) ∷ ask 11 (metMessageSound g img s && somePoint img) ∷ []
 
+-- 12 and 13 alone, of the text that is to be placed in new space, if any
+abbrev pub placeNumber : Layout → Bytes → Option Bytes → ℕ
+placeNumber g img p = firstNo (ask 12 (lengthAllowed g p) ∷ ask 13 (spaceLeft g (field img freeField) (length img) p) ∷ [])
+
 -- the number that each call is refused with, 0 where it is accepted
 unfoldable pub createNumber : ℕ → ℕ → ℕ → ℕ
 createNumber L K N = firstNo (createAsks L K N)

@@ -25,10 +25,10 @@ ghost use Rattle.bhtf.specs.Bytes.{part};
 ghost use Rattle.bhtf.specs.Calls.{settled, add};
 ghost use Rattle.bhtf.specs.Image.{field, layoutOf};
 ghost use Rattle.bhtf.specs.Messages.{relocated, renewedText, renewedAt};
-ghost use Rattle.bhtf.specs.Questions.{openNumber, nameAllowed, modeKnown, messageSound};
+ghost use Rattle.bhtf.specs.Questions.{openNumber, nameAllowed, modeKnown, messageSound, placeNumber};
 ghost use Rattle.bhtf.specs.Search.{met, search};
 ghost use Rattle.layout.specs.Shapes.{shapeOf};
-ghost use Rattle.room.specs.Rooms.{roomNumber, placeNumber, shownLength};
+ghost use Rattle.room.specs.Rooms.{roomNumber, shownLength};
 
 // The old message, if there is one, becomes inactive; the first `before` bytes of its text, and the bytes, are placed in new
 // space, where the point's entry then points.
@@ -62,7 +62,7 @@ fn replace(image: &mut [u8], shape: Shape, slot: Slot, o: Offset, key: &[u8], by
     requires { ⌜ (openNumber (now image) ≡ 0) × (shape ≡ shapeOf (now image)) × (slot .0 < shape .slots)
         × (length (now key) ≡ shape .key)
         × (messageSound (layoutOf (now image)) (now image) (o .0) ≡ true) ⌝ }
-    ensures { λ r. ⌜ (r ≡ placeNumber (now (image .entry)) (renewedText (layoutOf (now (image .entry))) (now (image .entry)) (o .0) (now (bytes .entry)) 2))
+    ensures { λ r. ⌜ (r ≡ placeNumber (layoutOf (now (image .entry))) (now (image .entry)) (renewedText (layoutOf (now (image .entry))) (now (image .entry)) (o .0) (now (bytes .entry)) 2))
         × (now (image .exit)
         ≡ settled r (now (image .entry))
         (renewedAt (layoutOf (now (image .entry))) (now (image .entry)) (slot .0) (o .0) (now (key .entry)) (now (bytes .entry)) 2)) ⌝ }
@@ -99,7 +99,7 @@ fn append(image: &mut [u8], shape: Shape, slot: Slot, o: Offset, key: &[u8], byt
     requires { ⌜ (openNumber (now image) ≡ 0) × (shape ≡ shapeOf (now image)) × (slot .0 < shape .slots)
         × (length (now key) ≡ shape .key)
         × (messageSound (layoutOf (now image)) (now image) (o .0) ≡ true) ⌝ }
-    ensures { λ r. ⌜ (r ≡ placeNumber (now (image .entry)) (renewedText (layoutOf (now (image .entry))) (now (image .entry)) (o .0) (now (bytes .entry)) 3))
+    ensures { λ r. ⌜ (r ≡ placeNumber (layoutOf (now (image .entry))) (now (image .entry)) (renewedText (layoutOf (now (image .entry))) (now (image .entry)) (o .0) (now (bytes .entry)) 3))
         × (now (image .exit)
         ≡ settled r (now (image .entry))
         (renewedAt (layoutOf (now (image .entry))) (now (image .entry)) (slot .0) (o .0) (now (key .entry)) (now (bytes .entry)) 3)) ⌝ }

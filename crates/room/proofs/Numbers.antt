@@ -17,12 +17,12 @@ use Rattle.bhtf.specs.Limits.{mostLength, pointsField, freeField}
 use Rattle.bhtf.specs.Image.{field, Layout, layoutOf, slot, offsetOf}
 use Rattle.bhtf.specs.Search.{Probe, met, empty, search}
 use Rattle.bhtf.specs.Messages.{headSize, freshText, inserted, renewedText, renewedAt, addedAt, added}
-use Rattle.bhtf.specs.Questions.{ask, firstNo, nameAllowed, modeKnown, messageSound, lengthAllowed, spaceLeft, openNumber, addNumber}
+use Rattle.bhtf.specs.Questions.{ask, firstNo, nameAllowed, modeKnown, messageSound, lengthAllowed, spaceLeft, openNumber, addNumber, placeNumber}
 use Rattle.bhtf.specs.Calls.{plain, settled, add}
 use Rattle.bhtf.proofs.Tests.{by-eq, and-left, and-right}
 use Rattle.bhtf.proofs.Opened.{firstNo-none, firstNo-yes, firstNo-no, firstNo-head, firstNo-tail}
 use Rattle.bhtf.proofs.Outcomes.{settled-yes, settled-no, add-refused, add-fresh, add-renewed}
-use Rattle.room.specs.Rooms.{roomNumber, placeNumber}
+use Rattle.room.specs.Rooms.{roomNumber}
 
 -- ---- a length
 module _ (img : Bytes) (m : ℕ) where
@@ -51,24 +51,24 @@ module _ (img : Bytes) (m : ℕ) where
 
 -- ---- the text that is to be placed
 module _ (img : Bytes) (p : Option Bytes) where
-  pub place-none : p ≡ none → 0 ≡ placeNumber img p
-  unfolding placeNumber lengthAllowed spaceLeft firstNo ask
+  pub place-none : p ≡ none → 0 ≡ placeNumber (layoutOf img) img p
+  unfolding lengthAllowed spaceLeft firstNo ask
   place-none e = rw e refl
 
-  pub place-some : (t : Bytes) (m : ℕ) → p ≡ some t → length t ≡ m → placeNumber img p ≡ roomNumber img m
-  unfolding placeNumber roomNumber lengthAllowed spaceLeft layoutOf headSize
+  pub place-some : (t : Bytes) (m : ℕ) → p ≡ some t → length t ≡ m → placeNumber (layoutOf img) img p ≡ roomNumber img m
+  unfolding roomNumber lengthAllowed spaceLeft layoutOf headSize
   place-some t m e l = rw (e, l) refl
 
   -- the code's number of a text's length
   module _ (t : Bytes) (m : ℕ) (e : p ≡ some t) (l : length t ≡ m) (r : ℕ) (is : r ≡ roomNumber img m) (x : Bytes) where
-    pub place-refused : (r ≡ 0 → ⊥) → (r ≡ placeNumber img p) × (img ≡ settled r img x)
+    pub place-refused : (r ≡ 0 → ⊥) → (r ≡ placeNumber (layoutOf img) img p) × (img ≡ settled r img x)
     place-refused n = (is ∙ sym (place-some t m e l), sym (settled-no r img x n))
 
-    pub place-done : r ≡ 0 → (after : Bytes) → after ≡ x → (0 ≡ placeNumber img p) × (after ≡ settled 0 img x)
+    pub place-done : r ≡ 0 → (after : Bytes) → after ≡ x → (0 ≡ placeNumber (layoutOf img) img p) × (after ≡ settled 0 img x)
     place-done z after h = (sym z ∙ is ∙ sym (place-some t m e l), h ∙ sym (settled-yes 0 img x refl))
 
   -- nothing is placed
-  pub place-nothing : p ≡ none → (x after : Bytes) → after ≡ x → (0 ≡ placeNumber img p) × (after ≡ settled 0 img x)
+  pub place-nothing : p ≡ none → (x after : Bytes) → after ≡ x → (0 ≡ placeNumber (layoutOf img) img p) × (after ≡ settled 0 img x)
   place-nothing e x after h = (place-none e, h ∙ sym (settled-yes 0 img x refl))
 
 -- ---- what add answers
@@ -94,23 +94,23 @@ module _ (img key bytes : Bytes) (mode : ℕ) (open₀ : openNumber img ≡ 0) (
   says x is h e =
       (add-says img key bytes mode r is, h ∙ ap (λ (n : ℕ). settled n img x) is ∙ ap (settled (addNumber img key bytes mode) img) (sym e))
 
-  pub absent-done : search g img key ≡ empty i → field img pointsField < g .N → r ≡ placeNumber img (freshText bytes 1)
+  pub absent-done : search g img key ≡ empty i → field img pointsField < g .N → r ≡ placeNumber (layoutOf img) img (freshText bytes 1)
       → after ≡ settled r img (inserted g img i key (freshText bytes 1)) → Says
-  unfolding placeNumber freshText added addedAt
+  unfolding freshText added addedAt
   absent-done m l is h =
       says (inserted g img i key (freshText bytes mode))
       (is ∙ sym (add-fresh img key open₀ bytes mode a k i m (lt-ltb (field img pointsField) (g .N) l)))
       h (ap (λ (s : Probe). addedAt g img s key bytes mode) m)
 
   pub present-done : (o : ℕ) → o ≡ offsetOf g (slot g img i) → search g img key ≡ met i → (mode ≡ 1 → ⊥)
-      → messageSound g img o ≡ true → (mode′ : ℕ) → mode ≡ mode′ → r ≡ placeNumber img (renewedText g img o bytes mode′)
+      → messageSound g img o ≡ true → (mode′ : ℕ) → mode ≡ mode′ → r ≡ placeNumber (layoutOf img) img (renewedText g img o bytes mode′)
       → after ≡ settled r img (renewedAt g img i o key bytes mode′) → Says
-  unfolding placeNumber added addedAt
+  unfolding added addedAt
   present-done o eo m n s mode′ em is h =
       let at = offsetOf g (slot g img i) in
       says (renewedAt g img i at key bytes mode)
       (is
-      ∙ ap₂ (λ (p q : ℕ). placeNumber img (renewedText g img p bytes q)) eo (sym em)
+      ∙ ap₂ (λ (p q : ℕ). placeNumber (layoutOf img) img (renewedText g img p bytes q)) eo (sym em)
       ∙ sym (add-renewed img key open₀ bytes mode a k i m (ne-eqb mode 1 n) (ap (messageSound g img) (sym eo) ∙ s)))
       (h ∙ ap₂ (λ (p q : ℕ). settled r img (renewedAt g img i p key bytes q)) eo (sym em))
       (ap (λ (s : Probe). addedAt g img s key bytes mode) m)

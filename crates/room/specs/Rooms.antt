@@ -16,12 +16,6 @@ use Rattle.bhtf.specs.Questions.{ask, firstNo, lengthAllowed, spaceLeft}
 unfoldable pub roomNumber : Bytes → ℕ → ℕ
 roomNumber img m = firstNo (ask 12 (leb m mostLength) ∷ ask 13 (leb (field img freeField + 4 + m) (length img)) ∷ [])
 
--- of the text that is to be placed in new space, if any
-unfoldable pub placeNumber : Bytes → Option Bytes → ℕ
-placeNumber img p =
-    firstNo
-    (ask 12 (lengthAllowed (layoutOf img) p) ∷ ask 13 (spaceLeft (layoutOf img) (field img freeField) (length img) p) ∷ [])
-
 -- the length of an active message's text, else 0
 unfoldable pub shownLength : Bytes → ℕ → ℕ
 shownLength img o = cond (isActive img o) (lengthAt (layoutOf img) img o) 0
