@@ -2,10 +2,10 @@
 // run upwards).
 use layout::places::Slot;
 use layout::shape::Shape;
-use runs::all_zero;
 use runs::copy_apart;
 use runs::zero;
 use table::home;
+use table::is_vacant;
 use table::key_of;
 ghost use mathlib.Core.Path.{_≡_};
 ghost use Prim.Native.Nat.{_≤_, _<_};
@@ -15,7 +15,7 @@ ghost use Rattle.bhtf.specs.Messages.{among, moved, closed};
 ghost use Rattle.bhtf.specs.Questions.{openNumber};
 ghost use Rattle.bhtf.specs.Search.{next, dist};
 ghost use Rattle.layout.specs.Shapes.{shapeOf};
-ghost use Rattle.table.specs.Slots.{vacantIn, homeIn, clearedIn, Placed};
+ghost use Rattle.table.specs.Slots.{homeIn, clearedIn, Placed};
 ghost use Rattle.closing.specs.Walks.{Beside, Looked};
 
 // Steps upwards, with wrap, from slot a to slot b.
@@ -61,14 +61,6 @@ fn move_slot(image: &mut [u8], shape: Shape, hole: Slot, j: Slot)
     let to = hole.start(size).at();
     copy_apart(image, from, to, size + 4);
     clear_slot(image, shape, j);
-}
-
-// Whether slot i is empty.
-fn is_vacant(image: &[u8], shape: Shape, i: Slot) -> bool
-    requires { ⌜ (openNumber (now image) ≡ 0) × (shape ≡ shapeOf (now image)) × (i .0 < shape .slots) ⌝ }
-    ensures { λ r. ⌜ r ≡ vacantIn (now (image .entry)) (i .0) ⌝ }
-{
-    all_zero(key_of(image, shape, i))
 }
 
 // The home of the entry in slot i.

@@ -17,7 +17,7 @@ ghost use Rattle.bhtf.specs.Questions.{openNumber};
 ghost use Rattle.bhtf.specs.Search.{search};
 ghost use Rattle.layout.specs.Shapes.{shapeOf};
 ghost use Rattle.table.specs.Probes.{probeOf};
-ghost use Rattle.table.specs.Slots.{keyIn, offsetIn, Placed};
+ghost use Rattle.table.specs.Slots.{keyIn, offsetIn, Placed, vacantIn};
 
 // How a search ended: the key was met, an empty slot was met, or all slots were read.
 pub enum Found {
@@ -65,6 +65,14 @@ pub fn offset_of(image: &[u8], shape: Shape, i: Slot) -> Offset
     let size = shape.key;
     let a = i.start(size).at();
     Offset::new(read_u32(image, a + size) as usize)
+}
+
+// Whether slot i is empty.
+pub fn is_vacant(image: &[u8], shape: Shape, i: Slot) -> bool
+    requires { ⌜ (openNumber (now image) ≡ 0) × (shape ≡ shapeOf (now image)) × (i .0 < shape .slots) ⌝ }
+    ensures { λ r. ⌜ r ≡ vacantIn (now (image .entry)) (i .0) ⌝ }
+{
+    all_zero(key_of(image, shape, i))
 }
 
 // From home upwards, wrapping, until the key is met, an empty slot is met, or all slots were read.

@@ -3,7 +3,7 @@ use layout::places::Slot;
 use layout::shape::Shape;
 use layout::shape::read_shape;
 use questions::open_number;
-use runs::all_zero;
+use table::is_vacant;
 use table::key_of;
 ghost use mathlib.Core.Path.{_≡_};
 ghost use Prim.Native.Nat.{_<_};
@@ -25,7 +25,7 @@ pub fn is_taken(image: &[u8], shape: Shape, i: Slot) -> bool
     requires { ⌜ (openNumber (now image) ≡ 0) × (shape ≡ shapeOf (now image)) × (i .0 < shape .slots) ⌝ }
     ensures { λ r. ⌜ r ≡ taken (layoutOf (now (image .entry))) (now (image .entry)) (i .0) ⌝ }
 {
-    !all_zero(key_of(image, shape, i))
+    !is_vacant(image, shape, i)
 }
 
 // The lowest taken slot at or above a number.

@@ -1,4 +1,4 @@
--- `table::walk::clear_slot` meets its contract: the slot's part is lent to `zero`, and comes back as a blank.
+-- `closing::clear_slot` meets its contract: the slot's part is lent to `zero`, and comes back as a blank.
 -- Assumes nothing.
 use Prim.Native.Nat.{_+_, _-_}
 use native.Mathlib.Omega.{arith}

@@ -1,4 +1,4 @@
--- `table::walk::close` meets its contract: from every slot looked at, the walk goes on as from the start; its measure is
+-- `closing::close` meets its contract: from every slot looked at, the walk goes on as from the start; its measure is
 -- `left`, which falls with every look, so that it ends for any bytes.
 -- Assumes nothing.
 use native.Mathlib.Omega.{arith}

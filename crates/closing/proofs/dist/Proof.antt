@@ -1,4 +1,4 @@
--- `table::walk::dist` meets its contract: one comparison.
+-- `closing::dist` meets its contract: one comparison.
 -- Assumes nothing.
 use native.Mathlib.Omega.{arith}
 use Rattle.bhtf.proofs.Cyclic.{dist-up, dist-wrap}

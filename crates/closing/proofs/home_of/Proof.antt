@@ -1,4 +1,4 @@
--- `table::walk::home_of` meets its contract.
+-- `closing::home_of` meets its contract.
 -- Assumes nothing.
 use mathlib.Core.Path.{ap, _∙_}
 use Rattle.bhtf.specs.Image.{layoutOf, home}

@@ -1,4 +1,4 @@
--- `table::walk::look` meets its contract: the test, and the move where it fails.
+-- `closing::look` meets its contract: the test, and the move where it fails.
 -- Assumes nothing.
 use native.Mathlib.Omega.{arith}
 use mathlib.Core.Path.{sym, _∙_}

@@ -1,4 +1,4 @@
--- `table::walk::move_slot` meets its contract: the slot's bytes copied into the hole, and the slot zeroed.
+-- `closing::move_slot` meets its contract: the slot's bytes copied into the hole, and the slot zeroed.
 -- Assumes nothing.
 use native.Mathlib.Omega.{arith}
 use mathlib.Core.Path.{_≡_, _∙_}

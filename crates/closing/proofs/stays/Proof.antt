@@ -1,4 +1,4 @@
--- `table::walk::stays` meets its contract: `among` by two distances from the slot after the hole.
+-- `closing::stays` meets its contract: `among` by two distances from the slot after the hole.
 -- Assumes nothing.
 use Prim.Native.Nat.{ℕ}
 use mathlib.Core.Path.{ap, ap₂, _∙_}

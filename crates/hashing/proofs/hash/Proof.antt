@@ -1,4 +1,4 @@
--- `words::hashing::hash` meets its contract: after i turns the hash goes on from h with the bytes left.
+-- `hashing::hash` meets its contract: after i turns the hash goes on from h with the bytes left.
 -- Assumes nothing.
 use Prim.Native.Nat.{_≤_, _-_}
 use native.Mathlib.Omega.{arith}

@@ -1,4 +1,4 @@
--- `words::hashing::hash_step` meets its contract: a byte below, above or within the scrambled characters.
+-- `hashing::hash_step` meets its contract: a byte below, above or within the scrambled characters.
 -- Assumes nothing.
 use borrow.Author.Needs.{needs}
 use Rattle.hashing.proofs.Hashed.{hashStep-below, hashStep-above, hashStep-within}

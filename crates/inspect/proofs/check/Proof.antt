@@ -1,4 +1,4 @@
--- `inspect::check::check` meets its contract: questions 1, 5 and 6, then the table.
+-- `inspect::check` meets its contract: questions 1, 5 and 6, then the table.
 -- Assumes nothing.
 use native.Mathlib.Omega.{arith}
 use mathlib.Core.Path.{sym, _∙_}

@@ -1,4 +1,4 @@
--- `inspect::check::slot_sound` meets its contract.
+-- `inspect::slot_sound` meets its contract.
 -- Assumes nothing.
 use mathlib.Core.Path.{sym, _∙_}
 use Rattle.bhtf.specs.Image.{layoutOf}

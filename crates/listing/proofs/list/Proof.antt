@@ -1,4 +1,4 @@
--- `listing::lines::list` meets its contract: refused, or the heading and the lines.
+-- `listing::list` meets its contract: refused, or the heading and the lines.
 -- Assumes nothing.
 use native.Mathlib.Omega.{arith}
 use mathlib.Core.Path.{refl, sym, ap, _∙_}

@@ -1,4 +1,4 @@
--- `listing::lines::print` meets its contract.
+-- `listing::print` meets its contract.
 -- Assumes nothing.
 use native.Mathlib.Omega.{arith}
 use mathlib.Core.Path.{sym}

@@ -1,4 +1,4 @@
--- `listing::lines::put_length` meets its contract: the message that stands in the slot, by question 11 and its letter.
+-- `listing::put_length` meets its contract: the message that stands in the slot, by question 11 and its letter.
 -- Assumes nothing.
 use native.Mathlib.Omega.{arith}
 use mathlib.Core.Path.{_≡_, sym, ap, _∙_}

@@ -1,4 +1,4 @@
--- `listing::lines::put_line` meets its contract: six pieces, one behind the other.
+-- `listing::put_line` meets its contract: six pieces, one behind the other.
 -- Assumes nothing.
 use Prim.Native.Nat.{ℕ, _+_, _≤_}
 use native.Mathlib.Omega.{arith}

@@ -1,4 +1,4 @@
--- `listing::lines::put_lines` meets its contract: the lines from slot i on are left to be put.
+-- `listing::put_lines` meets its contract: the lines from slot i on are left to be put.
 -- Assumes nothing.
 use Prim.Native.Nat.{ℕ, _+_, _-_, _≤_}
 use native.Mathlib.Omega.{arith}

@@ -1,4 +1,4 @@
--- `listing::lines::put_refused` meets its contract.
+-- `listing::put_refused` meets its contract.
 -- Assumes nothing.
 use native.Mathlib.Omega.{arith}
 use Rattle.listing.specs.Listed.{refusedText}

@@ -1,4 +1,4 @@
--- `listing::lines::put_row` meets its contract.
+-- `listing::put_row` meets its contract.
 -- Assumes nothing.
 use native.Mathlib.Omega.{arith}
 use mathlib.Core.Path.{sym, ap}

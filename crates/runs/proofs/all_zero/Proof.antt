@@ -1,4 +1,4 @@
--- `words::runs::all_zero` meets its contract: after i turns what is left decides.
+-- `runs::all_zero` meets its contract: after i turns what is left decides.
 -- Assumes nothing.
 use Prim.Native.Nat.{_≤_, _-_}
 use native.Mathlib.Omega.{arith}

@@ -1,4 +1,4 @@
--- `words::runs::copy_apart` meets its contract: i bytes are written, and none that is still to be read.
+-- `runs::copy_apart` meets its contract: i bytes are written, and none that is still to be read.
 -- Assumes nothing.
 use Prim.Native.Nat.{ℕ, _+_, _≤_, _-_}
 use native.Mathlib.Omega.{arith}

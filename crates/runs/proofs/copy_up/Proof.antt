@@ -1,4 +1,4 @@
--- `words::runs::copy_up` meets its contract: a run and one above it do not meet.
+-- `runs::copy_up` meets its contract: a run and one above it do not meet.
 -- Assumes nothing.
 use native.Mathlib.Omega.{arith}
 use mathlib.Core.Logic.{inl}

@@ -1,4 +1,4 @@
--- `table::search::home` meets its contract: the scramble's part is handed to the hash, whose result is taken modulo N.
+-- `table::home` meets its contract: the scramble's part is handed to the hash, whose result is taken modulo N.
 -- Assumes nothing.
 use borrow.Author.Needs.{needs}
 use native.Mathlib.Omega.{arith}

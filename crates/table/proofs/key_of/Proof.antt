@@ -1,4 +1,4 @@
--- `table::search::key_of` meets its contract: the bytes from the slot's start on are its key.
+-- `table::key_of` meets its contract: the bytes from the slot's start on are its key.
 -- Assumes nothing.
 use Prim.Native.Nat.{_+_}
 use native.Mathlib.Omega.{arith}

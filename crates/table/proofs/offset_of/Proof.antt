@@ -1,4 +1,4 @@
--- `table::search::offset_of` meets its contract: the number behind the slot's key is its offset.
+-- `table::offset_of` meets its contract: the number behind the slot's key is its offset.
 -- Assumes nothing.
 use native.Mathlib.Omega.{arith}
 use mathlib.Core.Path.{_∙_}

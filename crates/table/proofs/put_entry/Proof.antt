@@ -1,4 +1,4 @@
--- `table::search::put_entry` meets its contract: the slot's part is lent to `write_entry`, and comes back as the entry.
+-- `table::put_entry` meets its contract: the slot's part is lent to `write_entry`, and comes back as the entry.
 -- Assumes nothing.
 use Prim.Native.Nat.{ℕ, _+_, _-_}
 use native.Mathlib.Omega.{arith}

@@ -1,4 +1,4 @@
--- `table::search::search` meets its contract: with `left` slots left to read, the search goes on from slot i.
+-- `table::search` meets its contract: with `left` slots left to read, the search goes on from slot i.
 -- Assumes nothing.
 use Prim.Native.Nat.{ℕ, _-_, _<_}
 use native.Mathlib.Omega.{arith}

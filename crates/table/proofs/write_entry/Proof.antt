@@ -1,4 +1,4 @@
--- `table::search::write_entry` meets its contract: the key, then the offset's digits.
+-- `table::write_entry` meets its contract: the key, then the offset's digits.
 -- Assumes nothing.
 use Prim.Native.Nat.{ℕ}
 use native.Mathlib.Omega.{arith}

@@ -1,4 +1,4 @@
--- `listing::text::put_decimal` meets its contract: the tens, then the last digit. Its measure is the number.
+-- `text::+put_decimal` meets its contract: the tens, then the last digit. Its measure is the number.
 -- Assumes nothing.
 use native.Mathlib.Omega.{arith}
 use mathlib.Core.Path.{sym, _∙_}

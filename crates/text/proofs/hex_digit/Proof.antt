@@ -1,4 +1,4 @@
--- `listing::text::hex_digit` meets its contract.
+-- `text::hex_digit` meets its contract.
 -- Assumes nothing.
 use mathlib.Core.Path.{refl, sym}
 use borrow.Author.Tests.{lt-ltb, le-ltb}

@@ -1,4 +1,4 @@
--- `listing::text::put_byte` meets its contract.
+-- `text::put_byte` meets its contract.
 -- Assumes nothing.
 use mathlib.Core.Path.{refl}
 use Rattle.words.proofs.Numbers.{set-store}

@@ -1,4 +1,4 @@
--- `listing::text::put_bytes` meets its contract.
+-- `text::put_bytes` meets its contract.
 -- Assumes nothing.
 use Prim.Native.Nat.{_+_, _-_}
 use native.Mathlib.Omega.{arith}

@@ -1,4 +1,4 @@
--- `listing::text::put_hex` meets its contract: two digits, one behind the other.
+-- `text::put_hex` meets its contract: two digits, one behind the other.
 -- Assumes nothing.
 use Prim.Native.Nat.{ℕ}
 use native.Mathlib.Omega.{arith}

@@ -1,4 +1,4 @@
--- `listing::text::put_key` meets its contract: the key's bytes from i on are left to be put.
+-- `text::put_key` meets its contract: the key's bytes from i on are left to be put.
 -- Assumes nothing.
 use Prim.Native.Nat.{_+_, _-_, _≤_}
 use native.Mathlib.Omega.{arith}

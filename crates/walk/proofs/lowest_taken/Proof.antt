@@ -1,4 +1,4 @@
--- `inspect::walk::lowest_taken` meets its contract: the lowest taken slot from i on is the one from the start on.
+-- `walk::lowest_taken` meets its contract: the lowest taken slot from i on is the one from the start on.
 -- Assumes nothing.
 use Prim.Native.Nat.{_-_}
 use native.Mathlib.Omega.{arith}

@@ -1,4 +1,4 @@
--- `inspect::walk::next_taken` meets its contract: questions 1, 5 and 6, then the lowest taken slot.
+-- `walk::next_taken` meets its contract: questions 1, 5 and 6, then the lowest taken slot.
 -- Assumes nothing.
 use native.Mathlib.Omega.{arith}
 use mathlib.Core.Path.{sym, _∙_}

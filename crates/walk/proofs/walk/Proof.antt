@@ -1,4 +1,4 @@
--- `inspect::walk::walk` meets its contract: each of the walk's ends, and what it hands back.
+-- `walk::walk` meets its contract: each of the walk's ends, and what it hands back.
 -- Assumes nothing.
 use Prim.Native.Nat.{ℕ, _<_}
 use native.Mathlib.Omega.{arith}

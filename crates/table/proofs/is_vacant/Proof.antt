@@ -1,11 +1,11 @@
--- `table::walk::is_vacant` meets its contract.
+-- `table::is_vacant` meets its contract.
 -- Assumes nothing.
 use mathlib.Core.Path.{ap, _∙_}
 use Rattle.bhtf.specs.Bytes.{allZero}
 use Rattle.bhtf.specs.Image.{vacant}
 use borrow.Author.Needs.{needs}
-use Rattle.closing.proofs.is_vacant.Statement.{statement}
-use Rattle.closing.proofs.is_vacant.Tie as tie
+use Rattle.table.proofs.is_vacant.Statement.{statement}
+use Rattle.table.proofs.is_vacant.Tie as tie
 
 key-of-requires : tie.Need-key-of-requires
 key-of-requires c κs = search needs
