@@ -17,7 +17,8 @@ use Rattle.bhtf.specs.Bytes.{Bytes, part, zeros}
 use Rattle.bhtf.specs.Limits.{inactive, pointsField, freeField}
 use Rattle.bhtf.specs.Image.{field, setField, Layout, layoutOf, slotSize, slot, putSlot, offsetOf, slotBytes}
 use Rattle.bhtf.specs.Search.{met, empty, exhausted, search, isMet}
-use Rattle.bhtf.specs.Messages.{headSize, held, message, takeSpace, retire, overwrite, freshText, renewedText, enter, inserted, relocated, renewed, renewedAt, addedAt, added, deletedAt}
+use Rattle.bhtf.specs.Messages.{headSize, held, message, takeSpace, retire, overwrite, freshText, renewedText, enter, inserted, relocated, renewed, renewedAt, addedAt, added}
+use Rattle.bhtf.specs.Delete.{deletedAt}
 use Rattle.bhtf.specs.Questions.{nameAllowed, modeKnown, messageSound, somePoint, lengthAllowed, spaceLeft, openNumber, addNumber, deleteNumber, placeNumber}
 use Rattle.bhtf.specs.Calls.{add, delete}
 use Rattle.bhtf.proofs.Tests.{by-bool, by-le, by-eq, and-left}
@@ -60,8 +61,8 @@ module _ (img : Bytes) (o : Opened img) (p n : ℕ) (low : layoutOf img .D ≤ p
       → part (overwrite g img at t) p n ≡ part img p n
   unfolding overwrite
   overwrite-keeps at s c z t le =
-      let len : length (message g t ++ zeros (held g img at - length t)) ≡ size g img at =
-      length-append (message g t) (zeros (held g img at - length t))
+      let len : length (message (g .W) t ++ zeros (held g img at - length t)) ≡ size g img at =
+      length-append (message (g .W) t) (zeros (held g img at - length t))
       ∙ ap₂ _+_ (length-message g t) (length-zeros (held g img at - length t))
       ∙ omega (arith, held-some g img at z, le) in
       part-store-other img at _ p n (rw len (omega (arith, message-end img o at s z, o .free-high))) (rw len (c z))

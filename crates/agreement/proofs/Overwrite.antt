@@ -29,7 +29,7 @@ module _ (g : Layout) (img : Bytes) (f : File g img) (key s : Bytes) (a : Allowe
     (z : offsetOf g s ≡ 0 → ⊥) (t : Bytes) (small : length t < 256 ^ g .W) (least : leastLength ≤ length t)
     (le : length t ≤ held g img (offsetOf g s)) where
   bytes : Bytes
-  bytes = message g t ++ zeros (held g img (offsetOf g s) - length t)
+  bytes = message (g .W) t ++ zeros (held g img (offsetOf g s) - length t)
 
   lies : Lies g img (offsetOf g s)
   lies = point-lies g img f key s a e z
@@ -37,20 +37,20 @@ module _ (g : Layout) (img : Bytes) (f : File g img) (key s : Bytes) (a : Allowe
   length-bytes : length bytes ≡ size g img (offsetOf g s)
   unfolding bytes
   length-bytes =
-      length-append (message g t) (zeros (held g img (offsetOf g s) - length t))
+      length-append (message (g .W) t) (zeros (held g img (offsetOf g s) - length t))
       ∙ ap₂ _+_ (length-message g t) (length-zeros (held g img (offsetOf g s) - length t))
       ∙ omega (arith, held-some g img (offsetOf g s) z, le)
 
   fits : offsetOf g s + length bytes ≤ length img
   fits = rw length-bytes (point-end g img f key s a e z)
 
-  there : part (store img (offsetOf g s) bytes) (offsetOf g s) (headSize g + length t) ≡ message g t
+  there : part (store img (offsetOf g s) bytes) (offsetOf g s) (headSize g + length t) ≡ message (g .W) t
   unfolding bytes part
   there =
       ap (λ (x : ℕ). part (store img (offsetOf g s) bytes) x (headSize g + length t)) (sym (add-zero (offsetOf g s)))
       ∙ part-store-inside img (offsetOf g s) bytes 0 (headSize g + length t) (omega (arith, fits))
       (rw length-bytes (omega (arith, held-some g img (offsetOf g s) z, le)))
-      ∙ take-at (message g t) (zeros (held g img (offsetOf g s) - length t)) (headSize g + length t) (length-message g t)
+      ∙ take-at (message (g .W) t) (zeros (held g img (offsetOf g s) - length t)) (headSize g + length t) (length-message g t)
 
   now-written : Written g (store img (offsetOf g s) bytes) (offsetOf g s) t
   now-written = written g (store img (offsetOf g s) bytes) (offsetOf g s) t small there

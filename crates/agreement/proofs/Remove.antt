@@ -10,7 +10,7 @@ use lib.ListN.{length}
 use Rattle.bhtf.specs.Bytes.{Bytes}
 use Rattle.bhtf.specs.Limits.{slotsField, pointsField, freeField}
 use Rattle.bhtf.specs.Image.{field, setField, Layout, slot, keyOf, vacant}
-use Rattle.bhtf.specs.Messages.{closed}
+use Rattle.bhtf.specs.Delete.{closed}
 use Rattle.bhtf.specs.Search.{search, met}
 use Rattle.bhtf.proofs.Slots.{Room, slot-setField}
 use Rattle.bhtf.proofs.Kept.{Kept, kept-trans}

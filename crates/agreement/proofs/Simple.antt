@@ -13,7 +13,8 @@ use Rattle.bhtf.specs.Bytes.{Bytes}
 use Rattle.bhtf.specs.Limits.{pointsField, freeField}
 use Rattle.bhtf.specs.Image.{field, setField, Layout, slot, offsetOf}
 use Rattle.bhtf.specs.Search.{met, search, isMet}
-use Rattle.bhtf.specs.Messages.{shown, retire, closed, deleted, deletedAt}
+use Rattle.bhtf.specs.Messages.{shown, retire}
+use Rattle.bhtf.specs.Delete.{closed, deleted, deletedAt}
 use Rattle.bhtf.specs.Questions.{Question, ask, firstNo, nameAllowed, messageSound, somePoint, openNumber, lookupNumber, deleteNumber}
 use Rattle.bhtf.specs.Calls.{Outcome, plain, settled, delete, lookup, count, countOf}
 use Rattle.bhtf.specs.Book.{Book, find, without, stepOf, guarded, bookDelete, deleteFound, bookLookup, lookupFound, bookCount}

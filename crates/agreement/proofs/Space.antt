@@ -34,8 +34,8 @@ pub record Written (g : Layout) (img : Bytes) (p : ℕ) (t : Bytes) : Type 0 whe
 
 -- what is read of a message's bytes, wherever they stand
 module _ (g : Layout) (img : Bytes) (p : ℕ) (t : Bytes) (small : length t < 256 ^ g .W)
-    (there : part img p (headSize g + length t) ≡ message g t) where
-  inside : (q m : ℕ) → q + m ≤ headSize g + length t → part img (p + q) m ≡ part (message g t) q m
+    (there : part img p (headSize g + length t) ≡ message (g .W) t) where
+  inside : (q m : ℕ) → q + m ≤ headSize g + length t → part img (p + q) m ≡ part (message (g .W) t) q m
   inside q m h = sym (part-part img p (headSize g + length t) q m h) ∙ ap (λ (l : Bytes). part l q m) there
 
   pub written : Written g img p t

@@ -15,7 +15,8 @@ use Rattle.bhtf.specs.Bytes.{Bytes, part, store, number, digits, zeros, 
 use Rattle.bhtf.specs.Image.{Layout, field, setField, roundUp, dataStart, lastPage, hashStep, hashFrom, scramble, hash, layoutOf, home, slotSize, slotStart, slot, putSlot, keyOf, offsetOf, slotBytes, blank, vacant}
 use Rattle.bhtf.specs.Create.{step, state, drawn, drawnBytes, slotsAsked, freshHeader, freshImage}
 use Rattle.bhtf.specs.Search.{met, next, dist, probe, search, isMet, isEmpty, slotOf}
-use Rattle.bhtf.specs.Messages.{headSize, letterAt, lengthAt, textAt, isActive, shown, held, message, setFree, takeSpace, retire, overwrite, freshText, renewedText, placedText, enter, inserted, relocated, renewed, renewedAt, addedAt, added, among, moved, walk, closed, deletedAt, deleted}
+use Rattle.bhtf.specs.Messages.{headSize, letterAt, lengthAt, textAt, isActive, shown, held, message, setFree, takeSpace, retire, overwrite, freshText, renewedText, placedText, enter, inserted, relocated, renewed, renewedAt, addedAt, added}
+use Rattle.bhtf.specs.Delete.{among, moved, closeFrom, closed, deletedAt, deleted}
 use Rattle.bhtf.specs.Questions.{ask, firstNo, sizeAllowed, keyAllowed, slotsAllowed, tableFits, versionKnown, headerSound, nameAllowed, modeKnown, newInMode1, slotToTake, messageSound, metMessageSound, somePoint, lengthAllowed, spaceLeft, createAsks, opened, named, pointAsks, addAsks, lookupAsks, deleteAsks, createNumber, openNumber, addNumber, deleteNumber, lookupNumber}
 use Rattle.bhtf.specs.Calls.{Call, adding, deleting, looking, counting, Answer, plain, settled, create, add, delete, lookupOffset, lookupStart, lookupLength, lookup, countOf, count, perform, answers, stateAfter}
 use Rattle.bhtf.specs.Book.{Book, newBook, find, without, withEntry, stepOf, roomAsks, entered, placed, addAbsent, replace, append, addPresent, addFound, guarded, bookAdd, deleteFound, bookDelete, lookupFound, bookLookup, bookCount, bookStep}
@@ -25,7 +26,7 @@ use Rattle.bhtf.specs.Demand.{fileText, textOf, bookText, termsOf}
 
 -- unfolding this unfolds all that the table computes with
 pub definitions : ℕ
-unfolding part store number digits zeros allZero same field setField roundUp dataStart lastPage hashStep hashFrom scramble hash layoutOf home slotSize slotStart slot putSlot keyOf offsetOf slotBytes blank vacant step state drawn drawnBytes slotsAsked freshHeader freshImage next dist probe search isMet isEmpty slotOf headSize letterAt lengthAt textAt isActive shown held message setFree takeSpace retire overwrite freshText renewedText placedText enter inserted relocated renewed renewedAt addedAt added among moved walk closed deletedAt deleted ask firstNo sizeAllowed keyAllowed slotsAllowed tableFits versionKnown headerSound nameAllowed modeKnown newInMode1 slotToTake messageSound metMessageSound somePoint lengthAllowed spaceLeft createAsks opened named pointAsks addAsks lookupAsks deleteAsks createNumber openNumber addNumber deleteNumber lookupNumber plain settled create add delete lookupOffset lookupStart lookupLength lookup countOf count perform answers stateAfter newBook find without withEntry stepOf roomAsks entered placed addAbsent replace append addPresent addFound guarded bookAdd deleteFound bookDelete lookupFound bookLookup bookCount bookStep fileText textOf bookText termsOf
+unfolding part store number digits zeros allZero same field setField roundUp dataStart lastPage hashStep hashFrom scramble hash layoutOf home slotSize slotStart slot putSlot keyOf offsetOf slotBytes blank vacant step state drawn drawnBytes slotsAsked freshHeader freshImage next dist probe search isMet isEmpty slotOf headSize letterAt lengthAt textAt isActive shown held message setFree takeSpace retire overwrite freshText renewedText placedText enter inserted relocated renewed renewedAt addedAt added among moved closeFrom closed deletedAt deleted ask firstNo sizeAllowed keyAllowed slotsAllowed tableFits versionKnown headerSound nameAllowed modeKnown newInMode1 slotToTake messageSound metMessageSound somePoint lengthAllowed spaceLeft createAsks opened named pointAsks addAsks lookupAsks deleteAsks createNumber openNumber addNumber deleteNumber lookupNumber plain settled create add delete lookupOffset lookupStart lookupLength lookup countOf count perform answers stateAfter newBook find without withEntry stepOf roomAsks entered placed addAbsent replace append addPresent addFound guarded bookAdd deleteFound bookDelete lookupFound bookLookup bookCount bookStep fileText textOf bookText termsOf
 definitions = 0
 
 pub fresh : ℕ → ℕ → Bytes

@@ -9,7 +9,7 @@ use native.Mathlib.Omega.{arith}
 use lib.Dec.{ltb}
 use borrow.Author.Tests.{lt-ltb, le-ltb, le-leb, lt-leb}
 use Rattle.bhtf.specs.Search.{next, dist}
-use Rattle.bhtf.specs.Messages.{among}
+use Rattle.bhtf.specs.Delete.{among}
 use Rattle.bhtf.proofs.Tests.{by-le, by-eq}
 
 -- ---- the two definitions, by cases

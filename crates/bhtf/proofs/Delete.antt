@@ -13,14 +13,14 @@ use lib.ListN.{length}
 use Rattle.bhtf.specs.Bytes.{Bytes}
 use Rattle.bhtf.specs.Image.{Layout, slot, putSlot, keyOf, blank, vacant, home}
 use Rattle.bhtf.specs.Search.{next, dist}
-use Rattle.bhtf.specs.Messages.{moved, closed}
+use Rattle.bhtf.specs.Delete.{stays, moved, closed}
 use Rattle.bhtf.proofs.Tests.{by-le, by-eq, not-both}
 use Rattle.bhtf.proofs.Slots.{Room}
 use Rattle.bhtf.proofs.Cyclic.{dist-lt, dist-self, dist-zero, dist-same, dist-back, dist-from-next, dist-next-self, round3}
 use Rattle.bhtf.proofs.Table.{Taken, keyAt, homeAt, Sound}
 use Rattle.bhtf.proofs.Spread.{slot-moved-hole, slot-moved-other}
 use Rattle.bhtf.proofs.Probe.{home-lt}
-use Rattle.bhtf.proofs.Walk.{Going, stays, hole-other, stays-near, goes-far, closed-induct}
+use Rattle.bhtf.proofs.Closing.{Going, hole-other, stays-near, goes-far, closed-induct}
 use Rattle.bhtf.proofs.Frames.{taken-same, by-moved, stands-walked, zeroed-other, zeroed-same, zeroed-taken}
 use Rattle.bhtf.proofs.Insert.{Stands}
 

@@ -121,7 +121,7 @@ module _ (img : Bytes) (o : Opened img) (n : ℕ) (l : n ≤ field img slotsFiel
 
 -- ---- new space
 
-pub length-message : (g : Layout) (t : Bytes) → length (message g t) ≡ headSize g + length t
+pub length-message : (g : Layout) (t : Bytes) → length (message (g .W) t) ≡ headSize g + length t
 unfolding message headSize
 length-message g t =
     length-append (active ∷ digits (g .W) (length t)) t ∙ omega (arith, length-digits (g .W) (length t))
@@ -133,7 +133,7 @@ pub record Spaced (g : Layout) (img t : Bytes) : Type 0 where
   pub slots : (k : ℕ) → k < g .N → slot g (takeSpace g img t) k ≡ slot g img k
   -- other messages end at or below X, and the new one stands there
   pub below : (p m : ℕ) → g .D ≤ p → p + m ≤ field img freeField → part (takeSpace g img t) p m ≡ part img p m
-  pub there : part (takeSpace g img t) (field img freeField) (headSize g + length t) ≡ message g t
+  pub there : part (takeSpace g img t) (field img freeField) (headSize g + length t) ≡ message (g .W) t
 
 module _ (img : Bytes) (o : Opened img) (t : Bytes)
     (fits : field img freeField + headSize (layoutOf img) + length t ≤ length img) where
@@ -144,7 +144,7 @@ module _ (img : Bytes) (o : Opened img) (t : Bytes)
   x = field img freeField
 
   abbrev placed : Bytes
-  placed = store img x (message g t)
+  placed = store img x (message (g .W) t)
 
   abbrev ends : ℕ
   ends = x + headSize g + length t
@@ -152,7 +152,7 @@ module _ (img : Bytes) (o : Opened img) (t : Bytes)
   abbrev first : Bytes
   first = setField placed freeField ends
 
-  in-image : x + length (message g t) ≤ length img
+  in-image : x + length (message (g .W) t) ≤ length img
   in-image = rw (length-message g t) (omega (arith, fits))
 
   low : g .D ≤ x
@@ -163,7 +163,7 @@ module _ (img : Bytes) (o : Opened img) (t : Bytes)
   above = omega (arith, opened-room img o .table)
 
   long-placed : 60 ≤ length placed
-  long-placed = rw (length-store img x (message g t) in-image) (omega (arith, o .size-low))
+  long-placed = rw (length-store img x (message (g .W) t) in-image) (omega (arith, o .size-low))
 
   long-first : 60 ≤ length first
   long-first = rw (length-setField placed freeField ends (omega (arith, long-placed))) long-placed
@@ -188,14 +188,14 @@ module _ (img : Bytes) (o : Opened img) (t : Bytes)
   unfolding slot
   slots₁ k l =
       behind (slotStart g k) (slotSize g) (slot-above g k)
-      ∙ slot-store-data g img (opened-room img o) x (message g t) k l low in-image
+      ∙ slot-store-data g img (opened-room img o) x (message (g .W) t) k l low in-image
 
   pub spaced : Spaced g img t
   spaced =
       record {
         kept =
             rw is-space
-            (kept-trans (kept-store img x (message g t) in-image (omega (arith, low, above)))
+            (kept-trans (kept-store img x (message (g .W) t) in-image (omega (arith, low, above)))
             (kept-trans (kept-free placed ends long-placed) (kept-page first (lastPage (g .D) ends) long-first)));
         free =
             not-page freeField (omega arith)
@@ -203,14 +203,14 @@ module _ (img : Bytes) (o : Opened img) (t : Bytes)
         points =
             not-page pointsField (omega arith)
             ∙ field-setField-other placed freeField ends pointsField (omega (arith, long-placed)) (inl (omega arith))
-            ∙ field-store-other img x (message g t) pointsField in-image (inl (omega (arith, low, above)));
+            ∙ field-store-other img x (message (g .W) t) pointsField in-image (inl (omega (arith, low, above)));
         slots = slots₁;
         below =
-            λ p m lo hi. behind p m (omega (arith, above)) ∙ part-store-below img x (message g t) p m (o .free-high) hi;
+            λ p m lo hi. behind p m (omega (arith, above)) ∙ part-store-below img x (message (g .W) t) p m (o .free-high) hi;
         there =
             behind x (headSize g + length t) (omega (arith, low, above))
             ∙ ap (part placed x) (sym (length-message g t))
-            ∙ part-store-same img x (message g t) (o .free-high);
+            ∙ part-store-same img x (message (g .W) t) (o .free-high);
       }
 
   pub space-kept : Kept img (takeSpace g img t)

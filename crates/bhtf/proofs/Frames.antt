@@ -12,13 +12,13 @@ use lib.ListN.{length}
 use Rattle.bhtf.specs.Bytes.{Bytes, part, number}
 use Rattle.bhtf.specs.Limits.{tableStart}
 use Rattle.bhtf.specs.Image.{field, Layout, slot, putSlot, keyOf, blank, vacant}
-use Rattle.bhtf.specs.Messages.{moved, closed}
+use Rattle.bhtf.specs.Delete.{moved, closed}
 use Rattle.bhtf.proofs.Tests.{by-eq, not-both}
 use Rattle.bhtf.proofs.Slots.{Room, length-slot, slot-putSlot-same, slot-putSlot-other, Outside, part-putSlot-outside, length-blank, vacant-blank}
 use Rattle.bhtf.proofs.Kept.{Kept}
 use Rattle.bhtf.proofs.Table.{Taken, keyAt, weigh, weight}
 use Rattle.bhtf.proofs.Spread.{over, over-moved, room-half, slot-moved-from, slot-moved-hole, slot-moved-other}
-use Rattle.bhtf.proofs.Walk.{Going, hole-other, closed-induct, length-closed}
+use Rattle.bhtf.proofs.Closing.{Going, hole-other, closed-induct, length-closed}
 use Rattle.bhtf.proofs.Insert.{Stands, weigh-taken, weigh-vacant, weight-putSlot}
 
 -- ---- the bytes outside the table

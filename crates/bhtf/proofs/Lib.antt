@@ -11,7 +11,7 @@ pub mod Fresh
 pub mod Kept
 pub mod Cases
 pub mod Spread
-pub mod Walk
+pub mod Closing
 pub mod Frames
 pub mod Delete
 pub mod Probe

@@ -17,7 +17,8 @@ use Rattle.bhtf.specs.Bytes.{Bytes, part}
 use Rattle.bhtf.specs.Limits.{pointsField, freeField}
 use Rattle.bhtf.specs.Image.{field, Layout, layoutOf, slot, offsetOf}
 use Rattle.bhtf.specs.Search.{Probe, met, empty, exhausted, search, isMet, isEmpty, slotOf}
-use Rattle.bhtf.specs.Messages.{headSize, lengthAt, textAt, isActive, shown, held, freshText, renewedText, placedText, deleted, deletedAt}
+use Rattle.bhtf.specs.Messages.{headSize, lengthAt, textAt, isActive, shown, held, freshText, renewedText, placedText}
+use Rattle.bhtf.specs.Delete.{deleted, deletedAt}
 use Rattle.bhtf.specs.Questions.{ask, firstNo, nameAllowed, modeKnown, newInMode1, slotToTake, messageSound, metMessageSound, somePoint, lengthAllowed, spaceLeft, named, pointAsks, addAsks, lookupAsks, deleteAsks, openNumber, addNumber, deleteNumber, lookupNumber, placeNumber}
 use Rattle.bhtf.specs.Calls.{plain, settled, add, delete, lookup, lookupOffset, lookupStart, lookupLength}
 use Rattle.bhtf.proofs.Tests.{by-bool, and-true, zero-yes, zero-no}

@@ -12,7 +12,7 @@ use lib.ListN.{length}
 use Rattle.bhtf.specs.Bytes.{Bytes}
 use Rattle.bhtf.specs.Image.{Layout, slotSize, slot, putSlot, keyOf, blank, vacant, home}
 use Rattle.bhtf.specs.Search.{dist}
-use Rattle.bhtf.specs.Messages.{moved}
+use Rattle.bhtf.specs.Delete.{moved}
 use Rattle.bhtf.proofs.Slots.{Room, length-slot, length-putSlot, slot-putSlot-same, slot-putSlot-other, length-blank, vacant-blank}
 use Rattle.bhtf.proofs.Cyclic.{dist-lt, round3}
 use Rattle.bhtf.proofs.Probe.{home-lt}

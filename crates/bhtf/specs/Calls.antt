@@ -14,7 +14,8 @@ use Rattle.bhtf.specs.Limits.{pointsField}
 use Rattle.bhtf.specs.Image.{field, Layout, layoutOf, slot, offsetOf}
 use Rattle.bhtf.specs.Create.{slotsAsked, freshImage}
 use Rattle.bhtf.specs.Search.{search, slotOf}
-use Rattle.bhtf.specs.Messages.{headSize, isActive, held, added, deleted}
+use Rattle.bhtf.specs.Messages.{headSize, isActive, held, added}
+use Rattle.bhtf.specs.Delete.{deleted}
 use Rattle.bhtf.specs.Questions.{createNumber, openNumber, addNumber, deleteNumber, lookupNumber}
 
 pub record Answer : Type 0 where

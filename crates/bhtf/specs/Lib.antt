@@ -4,6 +4,7 @@ pub mod Image
 pub mod Create
 pub mod Search
 pub mod Messages
+pub mod Delete
 pub mod Questions
 pub mod Calls
 pub mod Inspect

@@ -1,8 +1,8 @@
--- Document 01, "Messages": a message in the image, new space, and what an accepted add or delete leaves.
--- The questions that come before stand in `Questions`; the calls, questions and effect together, in `Calls`.
+-- Document 01, "Messages": a message in the image, new space, and what an accepted add leaves. Delete stands in `Delete`, the
+-- questions that come before in `Questions`; the calls, questions and effect together, in `Calls`.
 --     shown g img o           the text of the active message at offset o, nothing where there is none
 --     takeSpace g img t       the image with a new message t at X
---     added g img key data mode, deleted g img probe       the image that an accepted add or delete leaves
+--     added g img key data mode       the image that an accepted add leaves
 -- Assumes nothing.
 use Prim.Native.Nat.{ℕ, zero, suc, _+_, _-_, _*_}
 use mathlib.Core.Bool.{Bool, true, false, cond, not, _&&_}
@@ -40,21 +40,21 @@ shown g img o = cond (isActive img o) (textAt g img o) []
 unfoldable pub held : Layout → Bytes → ℕ → ℕ
 held g img o = cond (eqb o 0) 0 (lengthAt g img o)
 
--- the bytes of an active message with the text t
-unfoldable pub message : Layout → Bytes → Bytes
-message g t = (active ∷ digits (g .W) (length t)) ++ t
+-- the bytes of an active message with the text t, its length in W bytes
+unfoldable pub message : ℕ → Bytes → Bytes
+message W t = (active ∷ digits W (length t)) ++ t
 
 -- ---- effects
 
 -- "A call that changes X rewrites M"
-unfoldable pub setFree : Layout → Bytes → ℕ → Bytes
-setFree g img x = setField (setField img freeField x) pageField (lastPage (g .D) x)
+unfoldable pub setFree : ℕ → Bytes → ℕ → Bytes
+setFree D img x = setField (setField img freeField x) pageField (lastPage D x)
 
 -- "New space for m bytes is taken at X, and X grows by 4 + m."
 unfoldable pub takeSpace : Layout → Bytes → Bytes → Bytes
 takeSpace g img t =
     let x : ℕ = field img freeField in
-    setFree g (store img x (message g t)) (x + headSize g + length t)
+    setFree (g .D) (store img x (message (g .W) t)) (x + headSize g + length t)
 
 -- "The message header, if active, becomes "d""
 unfoldable pub retire : Bytes → ℕ → Bytes
@@ -62,7 +62,7 @@ retire img o = cond (isActive img o) (store img o (inactive ∷ [])) img
 
 -- "is written there as active, with the rest of the old bytes zeroed"
 unfoldable pub overwrite : Layout → Bytes → ℕ → Bytes → Bytes
-overwrite g img o t = store img o (message g t ++ zeros (held g img o - length t))
+overwrite g img o t = store img o (message (g .W) t ++ zeros (held g img o - length t))
 
 -- The message to be placed in new space, if any: of a point that is absent. "Data of length 0 gives offset 0."
 unfoldable pub freshText : Bytes → ℕ → Option Bytes
@@ -111,46 +111,3 @@ addedAt g img exhausted key data′ mode = img
 
 unfoldable pub added : Layout → Bytes → Bytes → Bytes → ℕ → Bytes
 added g img key data′ mode = addedAt g img (search g img key) key data′ mode
-
--- ---- delete: Knuth's Algorithm R, run upwards
-
--- "An entry whose home is not among the slots from the one after the hole up to its own": i is among the slots from a up to b
-unfoldable pub among : ℕ → ℕ → ℕ → ℕ → Bool
-among N a b i = leb (dist N a i) (dist N a b)
-
--- the walk's state: the image, and the slot that is looked at next
-pub record Walked : Type 0 where
-  pub image : Bytes
-  pub at : ℕ
-
--- "moves into the hole, and its old slot, zeroed, is the new hole"
-unfoldable pub moved : Layout → Bytes → ℕ → ℕ → Bytes
-moved g img hole j = putSlot g (putSlot g img hole (slot g img j)) j (blank g)
-
--- "Look at the slots after it in turn, wrapping. .. The walk ends at the first empty slot, which may be the hole itself."
--- The first number bounds the slots looked at; `walk-ends` shows that it is never what ends the walk.
-unfoldable pub walk : ℕ → Layout → Bytes → ℕ → ℕ → Walked
-walk zero g img hole j = record { image = img; at = j }
-walk (suc looks) g img hole j =
-    elim (vacant g (slot g img j)) [
-      | true ↦ record { image = img; at = j }
-      | false ↦
-          elim (among (g .N) (next (g .N) hole) j (home g (keyOf g (slot g img j)))) [
-            | true ↦ walk looks g img hole (next (g .N) j)
-            | false ↦ walk looks g (moved g img hole j) j (next (g .N) j)
-          ]
-    ]
-
--- "the slot is zeroed and is the hole", and the walk from the slot after it
-unfoldable pub closed : Layout → Bytes → ℕ → Bytes
-closed g img i = walk (g .N * g .N) g (putSlot g img i (blank g)) i (next (g .N) i) .image
-
--- "Delete: the message header, if active, becomes "d"; C falls by 1; the slot is zeroed and is the hole."
-unfoldable pub deletedAt : Layout → Bytes → ℕ → Bytes
-deletedAt g img i =
-    closed g (setField (retire img (offsetOf g (slot g img i))) pointsField (field img pointsField - 1)) i
-
-unfoldable pub deleted : Layout → Bytes → Probe → Bytes
-deleted g img (met i) = deletedAt g img i
-deleted g img (empty i) = img
-deleted g img exhausted = img

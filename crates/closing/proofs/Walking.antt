@@ -11,19 +11,19 @@ use mathlib.Core.Bool.{Bool, true, false, cond}
 use mathlib.Core.Logic.{inl, inr}
 use Rattle.bhtf.specs.Bytes.{Bytes, part, store}
 use Rattle.bhtf.specs.Image.{Layout, layoutOf, slotStart, slot, putSlot, blank, vacant}
-use Rattle.bhtf.specs.Messages.{Walked, among, moved, walk, closed}
+use Rattle.bhtf.specs.Delete.{Closing, among, stays, moved, closeFrom, closed}
 use Rattle.bhtf.specs.Questions.{openNumber}
 use Rattle.bhtf.specs.Search.{next}
 use Rattle.bhtf.proofs.Tests.{by-bool}
 use Rattle.bhtf.proofs.Bytes.{Apart}
 use Rattle.bhtf.proofs.Slots.{slots-apart, length-blank}
 use Rattle.bhtf.proofs.Table.{Taken}
-use Rattle.bhtf.proofs.Walk.{Going, stays, left, looks, going-closed, going-skip, going-move, left-skip, left-move}
-use Rattle.bhtf.proofs.Walk.{turn-image, turn-skip, turn-move, closed-looks, hole-other}
+use Rattle.bhtf.proofs.Closing.{Going, left, looks, going-closed, going-skip, going-move, left-skip, left-move}
+use Rattle.bhtf.proofs.Closing.{turn-image, turn-skip, turn-move, closed-looks, hole-other}
 use Rattle.layout.specs.Shapes.{shapeOf}
 use Rattle.layout.specs.declared.shape.Shape.{Shape}
 use Rattle.table.specs.Slots.{Placed, homeIn}
-use Rattle.closing.specs.Walks.{staysAt, Beside, lookedImage, lookedHole}
+use Rattle.closing.specs.Walks.{Beside, lookedImage, lookedHole}
 use Rattle.table.proofs.Headers.{layout-slots, slot-place, slot-room, room, placed-opened}
 use Rattle.table.proofs.Heads.{SameHead, head-trans, head-putSlot, head-half, head-moved}
 
@@ -68,16 +68,16 @@ placed-code img b s hole j h is d e =
 
 -- ---- a look
 pub stays-code : (img : Bytes) (s : Shape) → s ≡ shapeOf img → (hole j home′ : ℕ) → home′ ≡ homeIn img j
-    → among (s .slots) (next (s .slots) hole) j home′ ≡ staysAt (layoutOf img) img hole j
+    → among (s .slots) (next (s .slots) hole) j home′ ≡ stays (layoutOf img) img hole j
 stays-code img s is hole j home′ e = ap₂ (λ (n k : ℕ). among n (next n hole) j k) (sym (layout-slots img s is)) e
 
 module _ (g : Layout) (img : Bytes) (hole j : ℕ) where
-  pub looked-stays : staysAt g img hole j ≡ true → (lookedHole g img hole j ≡ hole) × (lookedImage g img hole j ≡ img)
+  pub looked-stays : stays g img hole j ≡ true → (lookedHole g img hole j ≡ hole) × (lookedImage g img hole j ≡ img)
   unfolding lookedHole lookedImage
   looked-stays e =
       (ap (λ (b : Bool). cond b hole j) e, ap (λ (b : Bool). cond b img (moved g img hole j)) e)
 
-  pub looked-moves : staysAt g img hole j ≡ false → (lookedHole g img hole j ≡ j) × (lookedImage g img hole j ≡ moved g img hole j)
+  pub looked-moves : stays g img hole j ≡ false → (lookedHole g img hole j ≡ j) × (lookedImage g img hole j ≡ moved g img hole j)
   unfolding lookedHole lookedImage
   looked-moves e =
       (ap (λ (b : Bool). cond b hole j) e, ap (λ (b : Bool). cond b img (moved g img hole j)) e)
@@ -87,8 +87,8 @@ pub record Walking (start : Bytes) (s : Shape) (h₀ j₀ : ℕ) (img : Bytes) (
   pub head : SameHead start img
   pub shape : s ≡ shapeOf img
   pub going : Going (layoutOf start) img h j
-  pub same : walk (looks (layoutOf start) start h₀ j₀) (layoutOf start) start h₀ j₀ .image
-      ≡ walk (looks (layoutOf start) img h j) (layoutOf start) img h j .image
+  pub same : closeFrom (looks (layoutOf start) start h₀ j₀) (layoutOf start) start h₀ j₀ .image
+      ≡ closeFrom (looks (layoutOf start) img h j) (layoutOf start) img h j .image
 
 module _ {start : Bytes} {s : Shape} {h₀ j₀ : ℕ} {img : Bytes} {h j : ℕ} (w : Walking start s h₀ j₀ img h j) where
   pub walking-slots : layoutOf start .N ≡ s .slots
@@ -121,7 +121,7 @@ module _ {start : Bytes} {s : Shape} {h₀ j₀ : ℕ} {img : Bytes} {h j : ℕ}
       head = w .head;
       shape = w .shape;
       going = going-skip (layoutOf start) img h j (w .going) t;
-      same = w .same ∙ ap (λ (x : Walked). x .image) (turn-skip (layoutOf start) img h j (w .going) t a);
+      same = w .same ∙ ap (λ (x : Closing). x .image) (turn-skip (layoutOf start) img h j (w .going) t a);
     },
     omega (arith, left-skip (layoutOf start) img h j (w .going) t),
   )
@@ -135,7 +135,7 @@ module _ {start : Bytes} {s : Shape} {h₀ j₀ : ℕ} {img : Bytes} {h j : ℕ}
           head = head-trans (w .head) head′;
           shape = w .shape ∙ sym (head′ .shape);
           going = going-move g img h j (w .going) t;
-          same = w .same ∙ ap (λ (x : Walked). x .image) (turn-move g img h j (w .going) t a);
+          same = w .same ∙ ap (λ (x : Closing). x .image) (turn-move g img h j (w .going) t a);
         },
         omega (arith, left-move g img h j (w .going) t a),
       )
@@ -159,7 +159,7 @@ module _ {start : Bytes} {s : Shape} {h₀ j₀ : ℕ} {img : Bytes} {h j : ℕ}
 
   -- at a vacant slot the walk has ended
   pub walking-end : vacant (layoutOf img) (slot (layoutOf img) img j) ≡ true
-      → img ≡ walk (looks (layoutOf start) start h₀ j₀) (layoutOf start) start h₀ j₀ .image
+      → img ≡ closeFrom (looks (layoutOf start) start h₀ j₀) (layoutOf start) start h₀ j₀ .image
   walking-end v =
       sym (w .same ∙ turn-image (layoutOf start) img h j (sym (ap (λ (g : Layout). vacant g (slot g img j)) (w .head .layout)) ∙ v))
 
@@ -191,11 +191,11 @@ module _ (img : Bytes) (s : Shape) (o : openNumber img ≡ 0) (is : s ≡ shapeO
       }))
 
   pub walking-closed : (b : Bytes) (j : ℕ) → b ≡ putSlot (layoutOf img) img i (blank (layoutOf img)) → j ≡ next (s .slots) i
-      → walk (looks (layoutOf b) b i j) (layoutOf b) b i j .image ≡ closed (layoutOf img) img i
+      → closeFrom (looks (layoutOf b) b i j) (layoutOf b) b i j .image ≡ closed (layoutOf img) img i
   unfolding cleared
   walking-closed b j e ej =
-      ap₂ (λ (x : Bytes) (k : ℕ). walk (looks (layoutOf x) x i k) (layoutOf x) x i k .image) e
+      ap₂ (λ (x : Bytes) (k : ℕ). closeFrom (looks (layoutOf x) x i k) (layoutOf x) x i k .image) e
       (ej ∙ ap (λ (n : ℕ). next n i) (sym (layout-slots img s is)))
-      ∙ ap (λ (g : Layout). walk (looks g cleared i (next (layoutOf img .N) i)) g cleared i (next (layoutOf img .N) i) .image)
+      ∙ ap (λ (g : Layout). closeFrom (looks g cleared i (next (layoutOf img .N) i)) g cleared i (next (layoutOf img .N) i) .image)
       (cleared-head .layout)
       ∙ sym (closed-looks (layoutOf img) img (room img o) i slot-lt)

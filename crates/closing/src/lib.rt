@@ -11,7 +11,7 @@ ghost use mathlib.Core.Path.{_≡_};
 ghost use Prim.Native.Nat.{_≤_, _<_};
 ghost use Rattle.bhtf.specs.Limits.{mostSlots};
 ghost use Rattle.bhtf.specs.Image.{layoutOf};
-ghost use Rattle.bhtf.specs.Messages.{among, moved, closed};
+ghost use Rattle.bhtf.specs.Delete.{among, moved, closed};
 ghost use Rattle.bhtf.specs.Questions.{openNumber};
 ghost use Rattle.bhtf.specs.Search.{next, dist};
 ghost use Rattle.layout.specs.Shapes.{shapeOf};

@@ -13,7 +13,8 @@ use borrow.Author.Tests.{le-leb}
 use Rattle.bhtf.specs.Bytes.{Bytes}
 use Rattle.bhtf.specs.Limits.{slotsField, pointsField}
 use Rattle.bhtf.specs.Image.{field, setField, Layout, layoutOf, slot, offsetOf}
-use Rattle.bhtf.specs.Messages.{retire, closed, deletedAt}
+use Rattle.bhtf.specs.Messages.{retire}
+use Rattle.bhtf.specs.Delete.{closed, deletedAt}
 use Rattle.bhtf.specs.Questions.{openNumber, messageSound, somePoint, deleteNumber}
 use Rattle.bhtf.specs.Calls.{plain, delete}
 use Rattle.bhtf.proofs.Opened.{Opened, opened-facts}

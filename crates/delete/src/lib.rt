@@ -20,7 +20,7 @@ ghost use Prim.Native.Nat.{_≤_, _<_};
 ghost use Rattle.bhtf.specs.Limits.{pointsField};
 ghost use Rattle.bhtf.specs.Calls.{delete};
 ghost use Rattle.bhtf.specs.Image.{field, layoutOf, slot, offsetOf};
-ghost use Rattle.bhtf.specs.Messages.{deletedAt};
+ghost use Rattle.bhtf.specs.Delete.{deletedAt};
 ghost use Rattle.bhtf.specs.Questions.{openNumber, messageSound};
 ghost use Rattle.layout.specs.Shapes.{shapeOf};
 

@@ -1,5 +1,5 @@
 -- The bytes of a message, and an image with a message written in it, as the leaves write them.
---     message-written, setFree-set      the specification's definitions, by the leaves'
+--     layout-width                      the width of a length
 --     retire-active, retire-other       a letter
 --     written-steps                     header and bytes, written around the first bytes of the text
 --     overwrite-steps                   a message and zeros, over an old message
@@ -14,23 +14,18 @@ use lib.ListN.{length, take, drop, set, length-append}
 use lib.Seq.{take-append-add}
 use borrow.Rule.Slice.PartMut.{midOf, putMid, mid-len}
 use Rattle.bhtf.specs.Bytes.{Bytes, part, store, digits, zeros}
-use Rattle.bhtf.specs.Limits.{active, inactive, freeField}
+use Rattle.bhtf.specs.Limits.{active, inactive, freeField, lengthWidth}
 use Rattle.bhtf.specs.Image.{field, layoutOf}
 use Rattle.bhtf.specs.Messages.{headSize, lengthAt, isActive, message, held, setFree, takeSpace, retire, overwrite}
 use Rattle.bhtf.proofs.Bytes.{part-length, length-part-append, part-part, part-store-same, length-store, length-digits, length-zeros}
 use Rattle.bhtf.proofs.Stores.{store-inner, store-append, store-end, store-lent}
 use Rattle.bhtf.proofs.Stretch.{held-some}
 use Rattle.words.proofs.Numbers.{set-store}
-use Rattle.storing.specs.Written.{written, freeSet}
 use Rattle.messages.proofs.Sound.{head-four}
 
-pub message-written : (img t : Bytes) → message (layoutOf img) t ≡ written t
-unfolding message written layoutOf
-message-written img t = refl
-
-pub setFree-set : (img b : Bytes) (x : ℕ) → setFree (layoutOf img) b x ≡ freeSet (layoutOf img .D) b x
-unfolding setFree freeSet
-setFree-set img b x = refl
+pub layout-width : (img : Bytes) → layoutOf img .W ≡ lengthWidth
+unfolding layoutOf
+layout-width img = refl
 
 -- ---- a letter
 pub retire-active : (img : Bytes) (o at : ℕ) → at ≡ o → o < length img → isActive img o ≡ true
@@ -50,8 +45,8 @@ length-header : (m : ℕ) → length (header m) ≡ 4
 unfolding header
 length-header m = ap suc (length-digits 3 m)
 
-pub length-written : (t : Bytes) → length (written t) ≡ 4 + length t
-unfolding written header
+pub length-written : (t : Bytes) → length (message lengthWidth t) ≡ 4 + length t
+unfolding message header
 length-written t = length-append (header (length t)) t ∙ ap (λ (n : ℕ). n + length t) (length-header (length t))
 
 -- the letter and the length are one header
@@ -63,8 +58,8 @@ header-steps s m h =
 
 -- with n bytes of text already behind the header, and the bytes v behind them up to the end
 pub written-steps : (s v : Bytes) (n : ℕ) → length s ≡ 4 + n + length v
-    → store (store (set s 0 active) 1 (digits 3 (n + length v))) (4 + n) v ≡ written (part s 4 n ++ v)
-unfolding store written header part digits
+    → store (store (set s 0 active) 1 (digits 3 (n + length v))) (4 + n) v ≡ message lengthWidth (part s 4 n ++ v)
+unfolding store message header part digits
 written-steps s v n h =
     let m = n + length v in
     let top = header m in
@@ -86,19 +81,19 @@ written-steps s v n h =
 module _ (img v : Bytes) (o m : ℕ) (some′ : 0 < o) (is-m : m ≡ lengthAt (layoutOf img) img o) (short : length v ≤ m)
     (room : o + 4 + m ≤ length img) where
   -- the message, and zeros up to the old end, are one store
-  overwrite-store : store (store img o (written v)) (o + 4 + length v) (zeros (m - length v))
+  overwrite-store : store (store img o (message lengthWidth v)) (o + 4 + length v) (zeros (m - length v))
       ≡ overwrite (layoutOf img) img o v
   unfolding overwrite
   overwrite-store =
       let rest = zeros (m - length v) in
-      let behind : o + 4 + length v ≡ o + length (written v) = omega (arith, length-written v) in
+      let behind : o + 4 + length v ≡ o + length (message lengthWidth v) = omega (arith, length-written v) in
       let is-held : m ≡ held (layoutOf img) img o = is-m ∙ sym (held-some (layoutOf img) img o (λ q. omega arith)) in
-      ap (λ (p : ℕ). store (store img o (written v)) p rest) behind
-      ∙ store-append img o (written v) rest (omega (arith, length-written v, length-zeros (m - length v)))
-      ∙ ap₂ (λ (t : Bytes) (k : ℕ). store img o (t ++ zeros (k - length v))) (sym (message-written img v)) is-held
+      ap (λ (p : ℕ). store (store img o (message lengthWidth v)) p rest) behind
+      ∙ store-append img o (message lengthWidth v) rest (omega (arith, length-written v, length-zeros (m - length v)))
+      ∙ ap₂ (λ (w k : ℕ). store img o (message w v ++ zeros (k - length v))) (sym (layout-width img)) is-held
 
   -- as the two lent parts come back
-  pub overwrite-steps : (w z : Bytes) (at : ℕ) → at ≡ o → w ≡ written v
+  pub overwrite-steps : (w z : Bytes) (at : ℕ) → at ≡ o → w ≡ message lengthWidth v
       → z
       ≡ zeros (length (midOf (at + 4 + length v) (at + 4 + m - (at + 4 + length v)) (putMid at (at + 4 + length v - at) img w)))
       → putMid (at + 4 + length v) (at + 4 + m - (at + 4 + length v)) (putMid at (at + 4 + length v - at) img w) z
@@ -106,16 +101,16 @@ module _ (img v : Bytes) (o m : ℕ) (some′ : 0 < o) (is-m : m ≡ lengthAt (l
   overwrite-steps w z at ea ew ez =
       let end = at + 4 + length v in
       let one = putMid at (end - at) img w in
-      let first : one ≡ store img at (written v) =
+      let first : one ≡ store img at (message lengthWidth v) =
       store-lent img at end w (ap length ew ∙ omega (arith, length-written v)) ∙ ap (store img at) ew in
       let long : length one ≡ length img =
-      ap length first ∙ length-store img at (written v) (omega (arith, length-written v)) in
+      ap length first ∙ length-store img at (message lengthWidth v) (omega (arith, length-written v)) in
       let size : length (midOf end (at + 4 + m - end) one) ≡ m - length v =
       mid-len end (at + 4 + m) one (omega arith) ∙ omega arith in
       let zero′ : z ≡ zeros (m - length v) = ez ∙ ap zeros size in
       store-lent one end (at + 4 + m) z (ap length zero′ ∙ length-zeros (m - length v) ∙ omega arith)
       ∙ ap₂ (λ (b y : Bytes). store b end y) first zero′
-      ∙ ap (λ (k : ℕ). store (store img k (written v)) (k + 4 + length v) (zeros (m - length v))) ea
+      ∙ ap (λ (k : ℕ). store (store img k (message lengthWidth v)) (k + 4 + length v) (zeros (m - length v))) ea
       ∙ overwrite-store
 
 -- ---- a message placed in new space: the n bytes from `from` on, and the bytes v
@@ -125,8 +120,8 @@ module _ (img v : Bytes) (x from n : ℕ) (below : from + n ≤ x) (room : x + 4
 
   -- the text's first bytes are copied, and the rest is written around them in a lent part
   pub place-steps : (c w : Bytes) → c ≡ store img (x + 4) (part img from n)
-      → w ≡ written (part (midOf x (x + 4 + (n + length v) - x) c) 4 n ++ v)
-      → putMid x (x + 4 + (n + length v) - x) c w ≡ store img x (written (part img from n ++ v))
+      → w ≡ message lengthWidth (part (midOf x (x + 4 + (n + length v) - x) c) 4 n ++ v)
+      → putMid x (x + 4 + (n + length v) - x) c w ≡ store img x (message lengthWidth (part img from n ++ v))
   unfolding part
   place-steps c w ec ew =
       let old = part img from n in
@@ -137,16 +132,16 @@ module _ (img v : Bytes) (x from n : ℕ) (below : from + n ≤ x) (room : x + 4
       ∙ ap (λ (b : Bytes). part b (x + 4) n) ec
       ∙ ap (part (store img (x + 4) old) (x + 4)) (sym size)
       ∙ part-store-same img (x + 4) old (omega arith) in
-      let new′ : w ≡ written (old ++ v) = ew ∙ ap (λ (t : Bytes). written (t ++ v)) copied in
-      let long : length (written (old ++ v)) ≡ 4 + (n + length v) =
+      let new′ : w ≡ message lengthWidth (old ++ v) = ew ∙ ap (λ (t : Bytes). message lengthWidth (t ++ v)) copied in
+      let long : length (message lengthWidth (old ++ v)) ≡ 4 + (n + length v) =
       length-written (old ++ v) ∙ ap (λ (k : ℕ). 4 + k) length-placed in
       store-lent c x end w (ap length new′ ∙ omega (arith, long))
       ∙ ap₂ (λ (b y : Bytes). store b x y) ec new′
-      ∙ store-inner img x (written (old ++ v)) (x + 4) old (omega arith) (omega (arith, long, size))
+      ∙ store-inner img x (message lengthWidth (old ++ v)) (x + 4) old (omega arith) (omega (arith, long, size))
       (omega (arith, long))
 
   pub takeSpace-set : (d : ℕ) → x ≡ field img freeField → d ≡ layoutOf img .D
-      → freeSet d (store img x (written (part img from n ++ v))) (x + 4 + (n + length v))
+      → setFree d (store img x (message lengthWidth (part img from n ++ v))) (x + 4 + (n + length v))
       ≡ takeSpace (layoutOf img) img (part img from n ++ v)
   unfolding takeSpace
   takeSpace-set d ex ed =
@@ -154,6 +149,6 @@ module _ (img v : Bytes) (x from n : ℕ) (below : from + n ≤ x) (room : x + 4
       let free = field img freeField in
       let end : x + 4 + (n + length v) ≡ free + headSize (layoutOf img) + length t =
       omega (arith, ex, head-four img, length-placed) in
-      ap (λ (k : ℕ). freeSet k (store img x (written t)) (x + 4 + (n + length v))) ed
-      ∙ ap₂ (freeSet (layoutOf img .D)) (ap₂ (store img) ex (sym (message-written img t))) end
-      ∙ sym (setFree-set img (store img free (message (layoutOf img) t)) (free + headSize (layoutOf img) + length t))
+      ap (λ (k : ℕ). setFree k (store img x (message lengthWidth t)) (x + 4 + (n + length v))) ed
+      ∙ ap₂ (setFree (layoutOf img .D))
+      (ap₂ (λ (p w : ℕ). store img p (message w t)) ex (sym (layout-width img))) end

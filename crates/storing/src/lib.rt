@@ -16,12 +16,11 @@ ghost use mathlib.Core.Bool.{true};
 ghost use mathlib.Core.List.{_++_};
 ghost use Prim.Native.Nat.{_+_, _≤_, _<_, _^_};
 ghost use lib.ListN.{length};
-ghost use Rattle.bhtf.specs.Limits.{freeField};
+ghost use Rattle.bhtf.specs.Limits.{freeField, lengthWidth};
 ghost use Rattle.bhtf.specs.Bytes.{part};
 ghost use Rattle.bhtf.specs.Image.{field, lastPage, layoutOf};
-ghost use Rattle.bhtf.specs.Messages.{held, takeSpace, retire, overwrite};
+ghost use Rattle.bhtf.specs.Messages.{held, message, setFree, takeSpace, retire, overwrite};
 ghost use Rattle.bhtf.specs.Questions.{openNumber, messageSound};
-ghost use Rattle.storing.specs.Written.{written, freeSet};
 
 // Makes an active message inactive.
 pub fn retire(image: &mut [u8], o: Offset)
@@ -37,7 +36,7 @@ pub fn retire(image: &mut [u8], o: Offset)
 // Writes an active message: its header, and the bytes behind the text's first `before` bytes, which stand there.
 pub fn write_message(space: &mut [u8], before: usize, bytes: &[u8])
     requires { ⌜ (length (now space) ≡ 4 + before + length (now bytes)) × (before + length (now bytes) < 2 ^ 24) ⌝ }
-    ensures { λ _. ⌜ now (space .exit) ≡ written (part (now (space .entry)) 4 before ++ now (bytes .entry)) ⌝ }
+    ensures { λ _. ⌜ now (space .exit) ≡ message lengthWidth (part (now (space .entry)) 4 before ++ now (bytes .entry)) ⌝ }
 {
     let m = before + bytes.len();
     space[0] = b'a';
@@ -78,7 +77,7 @@ pub fn last_page(area: Offset, free: Offset) -> u32
 // Writes the next free offset, X, and the last page, M.
 pub fn set_free(image: &mut [u8], area: Offset, free: Offset)
     requires { ⌜ (60 ≤ length (now image)) × (area .0 ≤ free .0) × (free .0 < 2 ^ 32) ⌝ }
-    ensures { λ _. ⌜ now (image .exit) ≡ freeSet (area .0) (now (image .entry)) (free .0) ⌝ }
+    ensures { λ _. ⌜ now (image .exit) ≡ setFree (area .0) (now (image .entry)) (free .0) ⌝ }
 {
     write_u32(image, FREE_FIELD, free.at() as u32);
     write_u32(image, PAGE_FIELD, last_page(area, free));

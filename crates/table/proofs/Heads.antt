@@ -11,7 +11,7 @@ use lib.ListN.{length}
 use Rattle.bhtf.specs.Bytes.{Bytes}
 use Rattle.bhtf.specs.Limits.{pointsField, freeField}
 use Rattle.bhtf.specs.Image.{field, Layout, layoutOf, slotSize, slotStart, slot, putSlot, blank}
-use Rattle.bhtf.specs.Messages.{moved}
+use Rattle.bhtf.specs.Delete.{moved}
 use Rattle.bhtf.specs.Questions.{openNumber}
 use Rattle.bhtf.proofs.Slots.{Room, slot-end, slot-above, length-slot, field-putSlot, length-blank}
 use Rattle.bhtf.proofs.Spread.{room-half}

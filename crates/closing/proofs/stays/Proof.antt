@@ -4,7 +4,7 @@ use Prim.Native.Nat.{ℕ}
 use mathlib.Core.Path.{ap, ap₂, _∙_}
 use native.Mathlib.Omega.{arith}
 use lib.Dec.{leb}
-use Rattle.bhtf.specs.Messages.{among}
+use Rattle.bhtf.specs.Delete.{among}
 use Rattle.bhtf.specs.Search.{next, dist}
 use Rattle.bhtf.proofs.Cyclic.{next-lt}
 use borrow.Author.Needs.{needs}

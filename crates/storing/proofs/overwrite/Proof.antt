@@ -8,12 +8,12 @@ use borrow.Author.Needs.{needs}
 use borrow.Rule.Slice.PartMut.{mid-len}
 use Rattle.bhtf.specs.Bytes.{Bytes}
 use Rattle.bhtf.specs.Image.{layoutOf}
-use Rattle.bhtf.specs.Messages.{lengthAt}
+use Rattle.bhtf.specs.Limits.{lengthWidth}
+use Rattle.bhtf.specs.Messages.{lengthAt, message}
 use Rattle.bhtf.proofs.Opened.{opened-facts}
 use Rattle.bhtf.proofs.Effects.{message-end}
 use Rattle.bhtf.proofs.Stretch.{held-some}
 use Rattle.words.proofs.Numbers.{part-zero}
-use Rattle.storing.specs.Written.{written}
 use Rattle.messages.proofs.Sound.{head-four}
 use Rattle.storing.proofs.Placed.{overwrite-steps}
 use Rattle.storing.proofs.overwrite.Statement.{statement}
@@ -114,7 +114,7 @@ returns c =
     overwrite-steps img v (S .args .o .0) (m .result) (S .pre .2) (m .ensures) (ends L .1)
     (omega (arith, m .ensures, inside S .0))
     (w .last .0) (z .last .0) (at .result) (at .ensures)
-    (w .ensures ∙ ap (λ (t : Bytes). written (t ++ v)) (part-zero _ 4))
+    (w .ensures ∙ ap (λ (t : Bytes). message lengthWidth (t ++ v)) (part-zero _ 4))
     (z .ensures)
 
 pub overwrite-spec : {M : Type 1} → statement M

@@ -4,7 +4,7 @@ use mathlib.Core.Path.{ap, ap₂, _∙_}
 use borrow.Author.Needs.{needs}
 use Rattle.bhtf.specs.Bytes.{Bytes}
 use Rattle.bhtf.specs.Image.{setField}
-use Rattle.storing.specs.Written.{freeSet}
+use Rattle.bhtf.specs.Messages.{setFree}
 use Rattle.storing.proofs.set_free.Statement.{statement}
 use Rattle.storing.proofs.set_free.Tie as tie
 
@@ -27,7 +27,7 @@ same-length : tie.Need-same-length
 same-length c = search needs
 
 returns : tie.Need-returns
-unfolding freeSet
+unfolding setFree
 returns c =
     let w = c .before .before .before .before .before .before .before in
     let img = w .before .before .before .before .args .image .now in

@@ -6,8 +6,8 @@ use lib.ListN.{length}
 use borrow.Author.Needs.{needs}
 use borrow.Rule.Slice.PartMut.{same-len-mid}
 use Rattle.bhtf.specs.Bytes.{part, store}
+use Rattle.bhtf.specs.Messages.{setFree}
 use Rattle.bhtf.proofs.Opened.{opened-facts}
-use Rattle.storing.specs.Written.{freeSet}
 use Rattle.messages.proofs.Sound.{layout-area}
 use Rattle.storing.proofs.Placed.{place-steps, takeSpace-set}
 use Rattle.storing.proofs.take_space.Statement.{statement}
@@ -89,7 +89,7 @@ returns c =
     let copied : u .last .0 ≡ store img (x .result + 4) (part img from n) =
     u .ensures ∙ ap (λ (k : ℕ). store img (x .result + 4) (part img k n)) (U .before .at .ensures) in
     c .before .before .set-free .ensures
-    ∙ ap₂ (freeSet (A .area .0))
+    ∙ ap₂ (setFree (A .area .0))
     (place-steps img v (x .result) from n below room (u .last .0) (w .last .0) copied (w .ensures))
     (c .before .before .before .new .ensures)
     ∙ takeSpace-set img v (x .result) from n below room (A .area .0) (x .ensures) (S .pre .1)

@@ -1,9 +1,9 @@
 -- Delete's walk: its turns, an induction over it, and that the count of looks is never what ends it.
 --     Going g img h j     the walk's state: the table lies in the image, h and j are slots, the hole h is vacant
 --     left g img h j      spread + dist j h, which falls by one with every slot looked at; `looks` is one more
---     walk-induct         what stops, skips and moves keep holds of every walk with enough looks
+--     close-induct         what stops, skips and moves keep holds of every walk with enough looks
 --     turn-stop, turn-skip, turn-move     one turn of the walk with `looks` looks
---     walk-more, walk-ends, closed-looks, closed-ends     enough looks are enough
+--     close-more, close-ends, closed-looks, closed-ends     enough looks are enough
 -- Assumes nothing.
 use mathlib.Core.Path.{_≡_, refl, sym, ap, _∙_, subst}
 use Prim.Native.Nat.{ℕ, zero, suc, _+_, _-_, _*_, _≤_, _<_}
@@ -15,7 +15,7 @@ use borrow.Author.Tests.{ltb-true, ltb-false}
 use Rattle.bhtf.specs.Bytes.{Bytes}
 use Rattle.bhtf.specs.Image.{Layout, slot, putSlot, blank, vacant}
 use Rattle.bhtf.specs.Search.{next, dist}
-use Rattle.bhtf.specs.Messages.{among, moved, Walked, walk, closed}
+use Rattle.bhtf.specs.Delete.{stays, moved, Closing, closeFrom, closed}
 use Rattle.bhtf.proofs.Tests.{by-bool, not-both}
 use Rattle.bhtf.proofs.Slots.{Room, length-putSlot, slot-putSlot-same, length-blank, vacant-blank}
 use Rattle.bhtf.proofs.Cyclic.{next-lt, dist-lt, dist-back, dist-from-next, dist-next-self, among-dist}
@@ -29,10 +29,6 @@ pub record Going (g : Layout) (img : Bytes) (h j : ℕ) : Type 0 where
   pub slot-lt : j < g .N
   pub hole : vacant g (slot g img h) ≡ true
 
--- the test of the walk: is the home of slot j's entry among the slots from the one after the hole up to j?
-abbrev pub stays : Layout → Bytes → ℕ → ℕ → Bool
-stays g img h j = among (g .N) (next (g .N) h) j (homeAt g img j)
-
 unfoldable pub left : Layout → Bytes → ℕ → ℕ → ℕ
 left g img h j = spread g img + dist (g .N) j h
 
@@ -40,24 +36,24 @@ abbrev pub looks : Layout → Bytes → ℕ → ℕ → ℕ
 looks g img h j = suc (left g img h j)
 
 -- the walk that has ended at slot j
-abbrev pub ended : Bytes → ℕ → Walked
+abbrev pub ended : Bytes → ℕ → Closing
 ended img j = record { image = img; at = j }
 
 -- ---- one look
-pub walk-stop : (f : ℕ) (g : Layout) (img : Bytes) (h j : ℕ) → vacant g (slot g img j) ≡ true → walk f g img h j ≡ ended img j
-unfolding walk
-walk-stop zero g img h j v = refl
-walk-stop (suc f) g img h j v = rw (v, walk)
+pub close-stop : (f : ℕ) (g : Layout) (img : Bytes) (h j : ℕ) → vacant g (slot g img j) ≡ true → closeFrom f g img h j ≡ ended img j
+unfolding closeFrom
+close-stop zero g img h j v = refl
+close-stop (suc f) g img h j v = rw (v, closeFrom)
 
-pub walk-skip : (f : ℕ) (g : Layout) (img : Bytes) (h j : ℕ) → Taken g img j → stays g img h j ≡ true
-    → walk (suc f) g img h j ≡ walk f g img h (next (g .N) j)
-unfolding walk
-walk-skip f g img h j t a = rw (t, walk, a)
+pub close-skip : (f : ℕ) (g : Layout) (img : Bytes) (h j : ℕ) → Taken g img j → stays g img h j ≡ true
+    → closeFrom (suc f) g img h j ≡ closeFrom f g img h (next (g .N) j)
+unfolding closeFrom
+close-skip f g img h j t a = rw (t, closeFrom, a)
 
-pub walk-move : (f : ℕ) (g : Layout) (img : Bytes) (h j : ℕ) → Taken g img j → stays g img h j ≡ false
-    → walk (suc f) g img h j ≡ walk f g (moved g img h j) j (next (g .N) j)
-unfolding walk
-walk-move f g img h j t a = rw (t, walk, a)
+pub close-move : (f : ℕ) (g : Layout) (img : Bytes) (h j : ℕ) → Taken g img j → stays g img h j ≡ false
+    → closeFrom (suc f) g img h j ≡ closeFrom f g (moved g img h j) j (next (g .N) j)
+unfolding closeFrom
+close-move f g img h j t a = rw (t, closeFrom, a)
 
 -- ---- a turn, and its measure
 module _ (g : Layout) (img : Bytes) (h j : ℕ) (s : Going g img h j) (t : Taken g img j) where
@@ -109,91 +105,91 @@ module _ (g : Layout) (img : Bytes) (h j : ℕ) (s : Going g img h j) (t : Taken
 
 -- ---- the turns of the walk with `looks` looks
 module _ (g : Layout) (img : Bytes) (h j : ℕ) where
-  pub turn-stop : vacant g (slot g img j) ≡ true → walk (looks g img h j) g img h j ≡ ended img j
-  turn-stop v = walk-stop (looks g img h j) g img h j v
+  pub turn-stop : vacant g (slot g img j) ≡ true → closeFrom (looks g img h j) g img h j ≡ ended img j
+  turn-stop v = close-stop (looks g img h j) g img h j v
 
-  pub turn-image : vacant g (slot g img j) ≡ true → walk (looks g img h j) g img h j .image ≡ img
-  turn-image v = ap (λ (w : Walked). w .image) (turn-stop v)
+  pub turn-image : vacant g (slot g img j) ≡ true → closeFrom (looks g img h j) g img h j .image ≡ img
+  turn-image v = ap (λ (w : Closing). w .image) (turn-stop v)
 
   pub turn-skip : Going g img h j → Taken g img j → stays g img h j ≡ true
-      → walk (looks g img h j) g img h j ≡ walk (looks g img h (next (g .N) j)) g img h (next (g .N) j)
+      → closeFrom (looks g img h j) g img h j ≡ closeFrom (looks g img h (next (g .N) j)) g img h (next (g .N) j)
   turn-skip s t a =
-      walk-skip (left g img h j) g img h j t a
-      ∙ ap (λ (f : ℕ). walk f g img h (next (g .N) j)) (left-skip g img h j s t)
+      close-skip (left g img h j) g img h j t a
+      ∙ ap (λ (f : ℕ). closeFrom f g img h (next (g .N) j)) (left-skip g img h j s t)
 
   pub turn-move : Going g img h j → Taken g img j → stays g img h j ≡ false
-      → walk (looks g img h j) g img h j
-      ≡ walk (looks g (moved g img h j) j (next (g .N) j)) g (moved g img h j) j (next (g .N) j)
+      → closeFrom (looks g img h j) g img h j
+      ≡ closeFrom (looks g (moved g img h j) j (next (g .N) j)) g (moved g img h j) j (next (g .N) j)
   turn-move s t a =
-      walk-move (left g img h j) g img h j t a
-      ∙ ap (λ (f : ℕ). walk f g (moved g img h j) j (next (g .N) j)) (left-move g img h j s t a)
+      close-move (left g img h j) g img h j t a
+      ∙ ap (λ (f : ℕ). closeFrom f g (moved g img h j) j (next (g .N) j)) (left-move g img h j s t a)
 
 -- ---- induction over the walk
 
 -- what is to be kept, of the image, the hole, the slot looked at next, and how the walk ends
 abbrev pub Kept : Type 1
-Kept = Bytes → ℕ → ℕ → Walked → Type 0
+Kept = Bytes → ℕ → ℕ → Closing → Type 0
 
 pub record Keeps (g : Layout) (P : Kept) : Type 0 where
   pub stop : (img : Bytes) (h j : ℕ) → Going g img h j → vacant g (slot g img j) ≡ true → P img h j (ended img j)
-  pub skip : (img : Bytes) (h j : ℕ) (w : Walked) → Going g img h j → Taken g img j → stays g img h j ≡ true
+  pub skip : (img : Bytes) (h j : ℕ) (w : Closing) → Going g img h j → Taken g img j → stays g img h j ≡ true
       → P img h (next (g .N) j) w → P img h j w
-  pub move : (img : Bytes) (h j : ℕ) (w : Walked) → Going g img h j → Taken g img j → stays g img h j ≡ false
+  pub move : (img : Bytes) (h j : ℕ) (w : Closing) → Going g img h j → Taken g img j → stays g img h j ≡ false
       → P (moved g img h j) j (next (g .N) j) w → P img h j w
 
-pub walk-induct : (g : Layout) (P : Kept) → Keeps g P → (f : ℕ) (img : Bytes) (h j : ℕ) → Going g img h j → left g img h j < f
-    → P img h j (walk f g img h j)
-walk-induct g P c zero img h j s l = absurd (omega arith)
-walk-induct g P c (suc f) img h j s l =
-    let ih : (img′ : Bytes) (h′ j′ : ℕ) → Going g img′ h′ j′ → left g img′ h′ j′ < f → P img′ h′ j′ (walk f g img′ h′ j′)
-    = λ img′ h′ j′. walk-induct g P c f img′ h′ j′ in
+pub close-induct : (g : Layout) (P : Kept) → Keeps g P → (f : ℕ) (img : Bytes) (h j : ℕ) → Going g img h j → left g img h j < f
+    → P img h j (closeFrom f g img h j)
+close-induct g P c zero img h j s l = absurd (omega arith)
+close-induct g P c (suc f) img h j s l =
+    let ih : (img′ : Bytes) (h′ j′ : ℕ) → Going g img′ h′ j′ → left g img′ h′ j′ < f → P img′ h′ j′ (closeFrom f g img′ h′ j′)
+    = λ img′ h′ j′. close-induct g P c f img′ h′ j′ in
     by-bool (vacant g (slot g img j))
-    (λ v. subst (P img h j) (sym (walk-stop (suc f) g img h j v)) (c .stop img h j s v))
+    (λ v. subst (P img h j) (sym (close-stop (suc f) g img h j v)) (c .stop img h j s v))
     (λ t. by-bool (stays g img h j)
-    (λ a. subst (P img h j) (sym (walk-skip f g img h j t a))
-    (c .skip img h j (walk f g img h (next (g .N) j)) s t a
+    (λ a. subst (P img h j) (sym (close-skip f g img h j t a))
+    (c .skip img h j (closeFrom f g img h (next (g .N) j)) s t a
     (ih img h (next (g .N) j) (going-skip g img h j s t) (omega (arith, left-skip g img h j s t)))))
-    (λ a. subst (P img h j) (sym (walk-move f g img h j t a))
-    (c .move img h j (walk f g (moved g img h j) j (next (g .N) j)) s t a
+    (λ a. subst (P img h j) (sym (close-move f g img h j t a))
+    (c .move img h j (closeFrom f g (moved g img h j) j (next (g .N) j)) s t a
     (ih (moved g img h j) j (next (g .N) j) (going-move g img h j s t) (omega (arith, left-move g img h j s t a))))))
 
 -- ---- the count of looks is never what ends the walk
 More : Layout → Kept
-More g img h j w = (f : ℕ) → left g img h j < f → walk f g img h j ≡ w
+More g img h j w = (f : ℕ) → left g img h j < f → closeFrom f g img h j ≡ w
 
 more-keeps : (g : Layout) → Keeps g (More g)
 unfolding More
 more-keeps g =
     record {
-      stop = λ img h j s v f l. walk-stop f g img h j v;
+      stop = λ img h j s v f l. close-stop f g img h j v;
       skip = λ img h j w s t a p f l. after img h j (left g img h j) w f l
-          (λ f′ l′. walk-skip f′ g img h j t a ∙ p f′ (omega (arith, left-skip g img h j s t)));
+          (λ f′ l′. close-skip f′ g img h j t a ∙ p f′ (omega (arith, left-skip g img h j s t)));
       move = λ img h j w s t a p f l. after img h j (left g img h j) w f l
-          (λ f′ l′. walk-move f′ g img h j t a ∙ p f′ (omega (arith, left-move g img h j s t a)));
+          (λ f′ l′. close-move f′ g img h j t a ∙ p f′ (omega (arith, left-move g img h j s t a)));
     }
   where
-    after : (img : Bytes) (h j m : ℕ) (w : Walked) (f : ℕ) → m < f
-        → ((f′ : ℕ) → m < suc f′ → walk (suc f′) g img h j ≡ w) → walk f g img h j ≡ w
+    after : (img : Bytes) (h j m : ℕ) (w : Closing) (f : ℕ) → m < f
+        → ((f′ : ℕ) → m < suc f′ → closeFrom (suc f′) g img h j ≡ w) → closeFrom f g img h j ≡ w
     after img h j m w zero l k = absurd (omega arith)
     after img h j m w (suc f) l k = k f l
 
-pub walk-more : (g : Layout) (f f′ : ℕ) (img : Bytes) (h j : ℕ) → Going g img h j → left g img h j < f → left g img h j < f′
-    → walk f g img h j ≡ walk f′ g img h j
+pub close-more : (g : Layout) (f f′ : ℕ) (img : Bytes) (h j : ℕ) → Going g img h j → left g img h j < f → left g img h j < f′
+    → closeFrom f g img h j ≡ closeFrom f′ g img h j
 unfolding More
-walk-more g f f′ img h j s l l′ = walk-induct g (More g) (more-keeps g) f′ img h j s l′ f l
+close-more g f f′ img h j s l l′ = close-induct g (More g) (more-keeps g) f′ img h j s l′ f l
 
 -- the slot at which the walk ends is vacant
-pub walk-ends : (g : Layout) (f : ℕ) (img : Bytes) (h j : ℕ) → Going g img h j → left g img h j < f
-    → vacant g (slot g (walk f g img h j .image) (walk f g img h j .at)) ≡ true
-walk-ends g f img h j s l =
-    walk-induct g (λ img′ h′ j′ w. vacant g (slot g (w .image) (w .at)) ≡ true)
+pub close-ends : (g : Layout) (f : ℕ) (img : Bytes) (h j : ℕ) → Going g img h j → left g img h j < f
+    → vacant g (slot g (closeFrom f g img h j .image) (closeFrom f g img h j .at)) ≡ true
+close-ends g f img h j s l =
+    close-induct g (λ img′ h′ j′ w. vacant g (slot g (w .image) (w .at)) ≡ true)
     (record { stop = λ img h j s v. v; skip = λ img h j w s t a p. p; move = λ img h j w s t a p. p })
     f img h j s l
 
-pub length-walk : (g : Layout) (f : ℕ) (img : Bytes) (h j : ℕ) → Going g img h j → left g img h j < f
-    → length (walk f g img h j .image) ≡ length img
-length-walk g f img h j s l =
-    walk-induct g (λ img′ h′ j′ w. length (w .image) ≡ length img′)
+pub length-close : (g : Layout) (f : ℕ) (img : Bytes) (h j : ℕ) → Going g img h j → left g img h j < f
+    → length (closeFrom f g img h j .image) ≡ length img
+length-close g f img h j s l =
+    close-induct g (λ img′ h′ j′ w. length (w .image) ≡ length img′)
     (record {
       stop = λ img h j s v. refl;
       skip = λ img h j w s t a p. p;
@@ -228,25 +224,25 @@ module _ (g : Layout) (img : Bytes) (r : Room g (length img)) (i : ℕ) (l : i <
   -- what every walk keeps, of the walk in `closed`
   pub closed-induct : (P : Kept) → Keeps g P
       → P (putSlot g img i (blank g)) i (next (g .N) i)
-      (walk (g .N * g .N) g (putSlot g img i (blank g)) i (next (g .N) i))
-  closed-induct P c = walk-induct g P c (g .N * g .N) (putSlot g img i (blank g)) i (next (g .N) i) going-closed enough
+      (closeFrom (g .N * g .N) g (putSlot g img i (blank g)) i (next (g .N) i))
+  closed-induct P c = close-induct g P c (g .N * g .N) (putSlot g img i (blank g)) i (next (g .N) i) going-closed enough
 
   pub closed-looks : closed g img i
-      ≡ walk (looks g (putSlot g img i (blank g)) i (next (g .N) i)) g (putSlot g img i (blank g)) i (next (g .N) i) .image
+      ≡ closeFrom (looks g (putSlot g img i (blank g)) i (next (g .N) i)) g (putSlot g img i (blank g)) i (next (g .N) i) .image
   unfolding closed
   closed-looks =
-      ap (λ (w : Walked). w .image)
-      (walk-more g (g .N * g .N) (looks g (putSlot g img i (blank g)) i (next (g .N) i)) (putSlot g img i (blank g)) i
+      ap (λ (w : Closing). w .image)
+      (close-more g (g .N * g .N) (looks g (putSlot g img i (blank g)) i (next (g .N) i)) (putSlot g img i (blank g)) i
       (next (g .N) i) going-closed enough (omega arith))
 
   -- the walk in `closed` ends at a vacant slot, not at the end of its count
   pub closed-ends :
-      vacant g (slot g (closed g img i) (walk (g .N * g .N) g (putSlot g img i (blank g)) i (next (g .N) i) .at)) ≡ true
+      vacant g (slot g (closed g img i) (closeFrom (g .N * g .N) g (putSlot g img i (blank g)) i (next (g .N) i) .at)) ≡ true
   unfolding closed
-  closed-ends = walk-ends g (g .N * g .N) (putSlot g img i (blank g)) i (next (g .N) i) going-closed enough
+  closed-ends = close-ends g (g .N * g .N) (putSlot g img i (blank g)) i (next (g .N) i) going-closed enough
 
   pub length-closed : length (closed g img i) ≡ length img
   unfolding closed
   length-closed =
-      length-walk g (g .N * g .N) (putSlot g img i (blank g)) i (next (g .N) i) going-closed enough
+      length-close g (g .N * g .N) (putSlot g img i (blank g)) i (next (g .N) i) going-closed enough
       ∙ length-putSlot g img r i (blank g) l (length-blank g)
