@@ -18,16 +18,16 @@ ghost use lib.ListN.{length};
 ghost use Rattle.bhtf.specs.Calls.{settled, add};
 ghost use Rattle.bhtf.specs.Image.{layoutOf};
 ghost use Rattle.bhtf.specs.Messages.{enter, inserted, freshText};
-ghost use Rattle.bhtf.specs.Questions.{openNumber, nameAllowed, modeKnown, placeNumber};
+ghost use Rattle.bhtf.specs.Questions.{nameAllowed, modeKnown, placeNumber};
 ghost use Rattle.bhtf.specs.Search.{search, isMet};
-ghost use Rattle.layout.specs.Shapes.{shapeOf};
+ghost use Rattle.layout.specs.Shapes.{Open};
 ghost use Rattle.table.specs.Probes.{probeOf};
 ghost use Rattle.room.specs.Rooms.{roomNumber};
 
 // The entry is put into the slot, and C grows by 1.
 fn enter(image: &mut [u8], shape: Shape, slot: Slot, key: &[u8], o: Offset)
-    requires { ⌜ (openNumber (now image) ≡ 0) × (shape ≡ shapeOf (now image)) × (slot .0 < shape .slots)
-        × (length (now key) ≡ shape .key) × (o .0 < 2 ^ 32) ⌝ }
+    requires { ⌜ Open (now image) shape × (slot .0 < shape .slots)
+        × (length (now key) ≡ shape .keylen) × (o .0 < 2 ^ 32) ⌝ }
     ensures { λ _. ⌜ now (image .exit)
         ≡ enter (layoutOf (now (image .entry))) (now (image .entry)) (slot .0) (now (key .entry)) (o .0) ⌝ }
 {
@@ -38,8 +38,8 @@ fn enter(image: &mut [u8], shape: Shape, slot: Slot, key: &[u8], o: Offset)
 
 // The bytes are placed in new space, and the entry with their offset enters the table.
 fn insert(image: &mut [u8], shape: Shape, slot: Slot, key: &[u8], bytes: &[u8])
-    requires { ⌜ (openNumber (now image) ≡ 0) × (shape ≡ shapeOf (now image)) × (slot .0 < shape .slots)
-        × (length (now key) ≡ shape .key) × (roomNumber (now image) (length (now bytes)) ≡ 0) ⌝ }
+    requires { ⌜ Open (now image) shape × (slot .0 < shape .slots)
+        × (length (now key) ≡ shape .keylen) × (roomNumber (now image) (length (now bytes)) ≡ 0) ⌝ }
     ensures { λ _. ⌜ now (image .exit)
         ≡ inserted (layoutOf (now (image .entry))) (now (image .entry)) (slot .0) (now (key .entry)) (some (now (bytes .entry))) ⌝ }
 {
@@ -51,8 +51,8 @@ fn insert(image: &mut [u8], shape: Shape, slot: Slot, key: &[u8], bytes: &[u8])
 
 // Questions 12 and 13, where there are bytes; then the point enters, with no message where there are none.
 fn insert_fresh(image: &mut [u8], shape: Shape, slot: Slot, key: &[u8], bytes: &[u8]) -> u32
-    requires { ⌜ (openNumber (now image) ≡ 0) × (shape ≡ shapeOf (now image)) × (slot .0 < shape .slots)
-        × (length (now key) ≡ shape .key) ⌝ }
+    requires { ⌜ Open (now image) shape × (slot .0 < shape .slots)
+        × (length (now key) ≡ shape .keylen) ⌝ }
     ensures { λ r. ⌜ (r ≡ placeNumber (layoutOf (now (image .entry))) (now (image .entry)) (freshText (now (bytes .entry)) 1))
         × (now (image .exit)
         ≡ settled r (now (image .entry))
@@ -72,7 +72,7 @@ fn insert_fresh(image: &mut [u8], shape: Shape, slot: Slot, key: &[u8], bytes: &
 
 // Add of a point that is absent, the same in every mode: question 10, then 12 and 13.
 pub fn add_absent(image: &mut [u8], shape: Shape, found: Found, key: &[u8], bytes: &[u8]) -> u32
-    requires { ⌜ (openNumber (now image) ≡ 0) × (shape ≡ shapeOf (now image))
+    requires { ⌜ Open (now image) shape
         × (nameAllowed (layoutOf (now image) .K) (now key) ≡ true)
         × (probeOf found ≡ search (layoutOf (now image)) (now image) (now key))
         × (isMet (probeOf found) ≡ false) ⌝ }

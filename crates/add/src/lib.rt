@@ -21,7 +21,7 @@ pub fn add(image: &mut [u8], key: &[u8], bytes: &[u8], mode: u32) -> u32
         return number;
     }
     let shape = read_shape(image);
-    if !name_allowed(key, shape.key) {
+    if !name_allowed(key, shape.keylen) {
         return 7;
     }
     if !mode_known(mode) {

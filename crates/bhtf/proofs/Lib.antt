@@ -18,5 +18,6 @@ pub mod Probe
 pub mod Insert
 pub mod Verdict
 pub mod Outcomes
+pub mod Sought
 pub mod Stretch
 pub mod Effects

@@ -36,6 +36,10 @@ isActive img o = not (eqb o 0) && eqb (letterAt img o) active
 unfoldable pub shown : Layout → Bytes → ℕ → Bytes
 shown g img o = cond (isActive img o) (textAt g img o) []
 
+-- the length of that text
+unfoldable pub shownLength : Layout → Bytes → ℕ → ℕ
+shownLength g img o = cond (isActive img o) (lengthAt g img o) 0
+
 -- the length "at the offset (0 for no offset)"
 unfoldable pub held : Layout → Bytes → ℕ → ℕ
 held g img o = cond (eqb o 0) 0 (lengthAt g img o)

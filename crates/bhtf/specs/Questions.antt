@@ -131,12 +131,18 @@ pointAsks g img s data′ mode =
 unfoldable pub addAsks : Layout → Bytes → Probe → Bytes → Bytes → ℕ → List Question
 addAsks g img s key data′ mode = named (g .K) key mode (pointAsks g img s data′ mode)
 
+-- 14 and 11, of lookup and of delete
+abbrev pub shownAsks : Layout → Bytes → Probe → List Question
+shownAsks g img s = ask 14 (isMet s) ∷ ask 11 (metMessageSound g img s) ∷ []
+
+abbrev pub removedAsks : Layout → Bytes → Probe → List Question
+removedAsks g img s = ask 14 (isMet s) ∷ ask 11 (metMessageSound g img s && somePoint img) ∷ []
+
 unfoldable pub lookupAsks : Layout → Bytes → Probe → Bytes → List Question
-lookupAsks g img s key = ask 7 (nameAllowed (g .K) key) ∷ ask 14 (isMet s) ∷ ask 11 (metMessageSound g img s) ∷ []
+lookupAsks g img s key = ask 7 (nameAllowed (g .K) key) ∷ shownAsks g img s
 
 unfoldable pub deleteAsks : Layout → Bytes → Probe → Bytes → List Question
-deleteAsks g img s key =
-    ask 7 (nameAllowed (g .K) key) ∷ ask 14 (isMet s) ∷ ask 11 (metMessageSound g img s && somePoint img) ∷ []
+deleteAsks g img s key = ask 7 (nameAllowed (g .K) key) ∷ removedAsks g img s
 
 -- 12 and 13 alone, of the text that is to be placed in new space, if any
 abbrev pub placeNumber : Layout → Bytes → Option Bytes → ℕ
@@ -148,6 +154,10 @@ createNumber L K N = firstNo (createAsks L K N)
 
 unfoldable pub openNumber : Bytes → ℕ
 openNumber img = firstNo (opened img [])
+
+-- 1, 5, 6 and 7, and add's 8 (yes where a call has no mode): what every call on a name puts before it looks at the table
+unfoldable pub seekNumber : Bytes → Bytes → Bool → ℕ
+seekNumber img key known = firstNo (opened img (ask 7 (nameAllowed (layoutOf img .K) key) ∷ ask 8 known ∷ []))
 
 unfoldable pub addNumber : Bytes → Bytes → Bytes → ℕ → ℕ
 addNumber img key data′ mode =

@@ -21,13 +21,12 @@ ghost use Rattle.bhtf.specs.Limits.{pointsField};
 ghost use Rattle.bhtf.specs.Calls.{delete};
 ghost use Rattle.bhtf.specs.Image.{field, layoutOf, slot, offsetOf};
 ghost use Rattle.bhtf.specs.Delete.{deletedAt};
-ghost use Rattle.bhtf.specs.Questions.{openNumber, messageSound};
-ghost use Rattle.layout.specs.Shapes.{shapeOf};
+ghost use Rattle.bhtf.specs.Questions.{messageSound};
+ghost use Rattle.layout.specs.Shapes.{Open};
 
 // Takes the point of slot i out, of message offset o, from an image that holds so many points.
 fn remove(image: &mut [u8], shape: Shape, i: Slot, o: Offset, points: u32)
-    requires { ⌜ (openNumber (now image) ≡ 0)
-        × (shape ≡ shapeOf (now image))
+    requires { ⌜ Open (now image) shape
         × (i .0 < shape .slots)
         × (o .0 ≡ offsetOf (layoutOf (now image)) (slot (layoutOf (now image)) (now image) (i .0)))
         × (messageSound (layoutOf (now image)) (now image) (o .0) ≡ true)
@@ -50,7 +49,7 @@ pub fn delete(image: &mut [u8], key: &[u8]) -> u32
         return number;
     }
     let shape = read_shape(image);
-    if !name_allowed(key, shape.key) {
+    if !name_allowed(key, shape.keylen) {
         return 7;
     }
     let found = search(image, shape, key);

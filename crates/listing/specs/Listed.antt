@@ -30,7 +30,7 @@ bad = 98 ∷ 97 ∷ 100 ∷ []
 
 -- of the message at offset o
 unfoldable pub lengthText : Layout → Bytes → ℕ → Bytes
-lengthText g img o = cond (messageSound g img o) (decimal (cond (isActive img o) (lengthAt g img o) 0)) bad
+lengthText g img o = cond (messageSound g img o) (decimal (shownLength g img o)) bad
 
 unfoldable pub line : Layout → Bytes → ℕ → Bytes
 line g img i =

@@ -17,15 +17,14 @@ ghost use Prim.Native.Nat.{_+_, _≤_, _<_};
 ghost use mathlib.Core.Path.{_≡_};
 ghost use lib.ListN.{length, take};
 ghost use Rattle.bhtf.specs.Image.{layoutOf};
-ghost use Rattle.bhtf.specs.Questions.{openNumber};
-ghost use Rattle.layout.specs.Shapes.{shapeOf};
+ghost use Rattle.layout.specs.Shapes.{Open};
 ghost use Rattle.text.specs.Puts.{Put};
 ghost use Rattle.listing.specs.Listed.{lengthText, line, row, lines, refusedText, listed, printed, mostPrinted};
 ghost use Rattle.table.specs.Slots.{offsetIn};
 
 // The length of the slot's own active message: 0 if there is none, `bad` where question 11 fails.
 fn put_length(image: &[u8], shape: Shape, i: Slot, out: &mut [u8], at: usize) -> usize
-    requires { ⌜ (openNumber (now image) ≡ 0) × (shape ≡ shapeOf (now image)) × (i .0 < shape .slots)
+    requires { ⌜ Open (now image) shape × (i .0 < shape .slots)
         × (at + length (lengthText (layoutOf (now image)) (now image) (offsetIn (now image) (i .0))) ≤ length (now out)) ⌝ }
     ensures { λ r. ⌜ Put (now (out .entry)) at (now (out .exit)) r
         (lengthText (layoutOf (now (image .entry))) (now (image .entry)) (offsetIn (now (image .entry)) (i .0))) ⌝ }
@@ -42,7 +41,7 @@ fn put_length(image: &[u8], shape: Shape, i: Slot, out: &mut [u8], at: usize) ->
 
 // The line of slot i.
 fn put_line(image: &[u8], shape: Shape, i: Slot, out: &mut [u8], at: usize) -> usize
-    requires { ⌜ (openNumber (now image) ≡ 0) × (shape ≡ shapeOf (now image)) × (i .0 < shape .slots)
+    requires { ⌜ Open (now image) shape × (i .0 < shape .slots)
         × (at + length (line (layoutOf (now image)) (now image) (i .0)) ≤ length (now out)) ⌝ }
     ensures { λ r. ⌜ Put (now (out .entry)) at (now (out .exit)) r (line (layoutOf (now (image .entry))) (now (image .entry)) (i .0)) ⌝ }
 {
@@ -56,7 +55,7 @@ fn put_line(image: &[u8], shape: Shape, i: Slot, out: &mut [u8], at: usize) -> u
 
 // The line of slot i if it is taken.
 fn put_row(image: &[u8], shape: Shape, i: Slot, out: &mut [u8], at: usize) -> usize
-    requires { ⌜ (openNumber (now image) ≡ 0) × (shape ≡ shapeOf (now image)) × (i .0 < shape .slots)
+    requires { ⌜ Open (now image) shape × (i .0 < shape .slots)
         × (at + length (row (layoutOf (now image)) (now image) (i .0)) ≤ length (now out)) ⌝ }
     ensures { λ r. ⌜ Put (now (out .entry)) at (now (out .exit)) r (row (layoutOf (now (image .entry))) (now (image .entry)) (i .0)) ⌝ }
 {
@@ -68,7 +67,7 @@ fn put_row(image: &[u8], shape: Shape, i: Slot, out: &mut [u8], at: usize) -> us
 
 // The lines of all taken slots, in slot order.
 fn put_lines(image: &[u8], shape: Shape, out: &mut [u8], at: usize) -> usize
-    requires { ⌜ (openNumber (now image) ≡ 0) × (shape ≡ shapeOf (now image))
+    requires { ⌜ Open (now image) shape
         × (at + length (lines (layoutOf (now image)) (now image) (shape .slots) 0) ≤ length (now out)) ⌝ }
     ensures { λ r. ⌜ Put (now (out .entry)) at (now (out .exit)) r (lines (layoutOf (now (image .entry))) (now (image .entry)) (shape .slots) 0) ⌝ }
 {

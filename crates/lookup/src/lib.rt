@@ -68,7 +68,7 @@ pub fn locate(image: &[u8], key: &[u8]) -> Located
         return nothing(number);
     }
     let shape = read_shape(image);
-    if !name_allowed(key, shape.key) {
+    if !name_allowed(key, shape.keylen) {
         return nothing(7);
     }
     let found = search(image, shape, key);

@@ -25,9 +25,9 @@ ghost use Rattle.bhtf.specs.Bytes.{part};
 ghost use Rattle.bhtf.specs.Calls.{settled, add};
 ghost use Rattle.bhtf.specs.Image.{field, layoutOf};
 ghost use Rattle.bhtf.specs.Messages.{relocated, renewedText, renewedAt};
-ghost use Rattle.bhtf.specs.Questions.{openNumber, nameAllowed, modeKnown, messageSound, placeNumber};
+ghost use Rattle.bhtf.specs.Questions.{nameAllowed, modeKnown, messageSound, placeNumber};
 ghost use Rattle.bhtf.specs.Search.{met, search};
-ghost use Rattle.layout.specs.Shapes.{shapeOf};
+ghost use Rattle.layout.specs.Shapes.{Open};
 ghost use Rattle.room.specs.Rooms.{roomNumber, shownLength};
 
 // The old message, if there is one, becomes inactive; the first `before` bytes of its text, and the bytes, are placed in new
@@ -41,8 +41,8 @@ fn relocate(
     key: &[u8],
     bytes: &[u8],
 )
-    requires { ⌜ (openNumber (now image) ≡ 0) × (shape ≡ shapeOf (now image)) × (slot .0 < shape .slots)
-        × (length (now key) ≡ shape .key)
+    requires { ⌜ Open (now image) shape × (slot .0 < shape .slots)
+        × (length (now key) ≡ shape .keylen)
         × (messageSound (layoutOf (now image)) (now image) (o .0) ≡ true)
         × (o .0 + 4 + before ≤ field (now image) freeField)
         × (roomNumber (now image) (before + length (now bytes)) ≡ 0) ⌝ }
@@ -59,8 +59,8 @@ fn relocate(
 
 // Mode 2: no bytes make the message inactive; as many as the offset holds are written in place; more are placed in new space.
 fn replace(image: &mut [u8], shape: Shape, slot: Slot, o: Offset, key: &[u8], bytes: &[u8]) -> u32
-    requires { ⌜ (openNumber (now image) ≡ 0) × (shape ≡ shapeOf (now image)) × (slot .0 < shape .slots)
-        × (length (now key) ≡ shape .key)
+    requires { ⌜ Open (now image) shape × (slot .0 < shape .slots)
+        × (length (now key) ≡ shape .keylen)
         × (messageSound (layoutOf (now image)) (now image) (o .0) ≡ true) ⌝ }
     ensures { λ r. ⌜ (r ≡ placeNumber (layoutOf (now (image .entry))) (now (image .entry)) (renewedText (layoutOf (now (image .entry))) (now (image .entry)) (o .0) (now (bytes .entry)) 2))
         × (now (image .exit)
@@ -96,8 +96,8 @@ fn shown_length(image: &[u8], o: Offset) -> usize
 
 // Mode 3: no bytes change nothing; others are placed in new space, behind the text of an active message.
 fn append(image: &mut [u8], shape: Shape, slot: Slot, o: Offset, key: &[u8], bytes: &[u8]) -> u32
-    requires { ⌜ (openNumber (now image) ≡ 0) × (shape ≡ shapeOf (now image)) × (slot .0 < shape .slots)
-        × (length (now key) ≡ shape .key)
+    requires { ⌜ Open (now image) shape × (slot .0 < shape .slots)
+        × (length (now key) ≡ shape .keylen)
         × (messageSound (layoutOf (now image)) (now image) (o .0) ≡ true) ⌝ }
     ensures { λ r. ⌜ (r ≡ placeNumber (layoutOf (now (image .entry))) (now (image .entry)) (renewedText (layoutOf (now (image .entry))) (now (image .entry)) (o .0) (now (bytes .entry)) 3))
         × (now (image .exit)
@@ -125,7 +125,7 @@ pub fn add_present(
     bytes: &[u8],
     mode: u32,
 ) -> u32
-    requires { ⌜ (openNumber (now image) ≡ 0) × (shape ≡ shapeOf (now image))
+    requires { ⌜ Open (now image) shape
         × (nameAllowed (layoutOf (now image) .K) (now key) ≡ true) × (modeKnown mode ≡ true)
         × (search (layoutOf (now image)) (now image) (now key) ≡ met (slot .0)) ⌝ }
     ensures { λ r. ⌜ (r ≡ add (now (image .entry)) (now (key .entry)) (now (bytes .entry)) mode .answer .number)

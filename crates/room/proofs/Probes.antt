@@ -46,7 +46,7 @@ module _ (img key : Bytes) (s : Shape) (open₀ : openNumber img ≡ 0) (is : s 
       let b = header img s open₀ is in
       omega (arith, search-empty (layoutOf img) img key (omega arith) i m .0)
 
-  pub key-fits : nameAllowed (layoutOf img .K) key ≡ true → length key ≡ s .key
+  pub key-fits : nameAllowed (layoutOf img .K) key ≡ true → length key ≡ s .keylen
   unfolding nameAllowed
   key-fits h =
       eqb-true (length key) (layoutOf img .K) (and-left (eqb (length key) (layoutOf img .K)) (not (allZero key)) h)

@@ -35,10 +35,10 @@ other-arm Exhausted h = refl
 
 module _ (img key : Bytes) (s : Shape) (is : s ≡ shapeOf img) where
   -- ---- question 7, with r what `name_allowed` answered
-  pub named-no : {r : Bool} → r ≡ nameAllowed (s .key) key → not r ≡ true → nameAllowed (layoutOf img .K) key ≡ false
+  pub named-no : {r : Bool} → r ≡ nameAllowed (s .keylen) key → not r ≡ true → nameAllowed (layoutOf img .K) key ≡ false
   named-no {r} e t = ap (λ (k : ℕ). nameAllowed k key) (layout-key img s is) ∙ sym e ∙ not-true r t
 
-  pub named-yes : {r : Bool} → r ≡ nameAllowed (s .key) key → not r ≡ false → nameAllowed (layoutOf img .K) key ≡ true
+  pub named-yes : {r : Bool} → r ≡ nameAllowed (s .keylen) key → not r ≡ false → nameAllowed (layoutOf img .K) key ≡ true
   named-yes {r} e t = ap (λ (k : ℕ). nameAllowed k key) (layout-key img s is) ∙ sym e ∙ not-false r t
 
   -- ---- the search
@@ -53,5 +53,5 @@ module _ (img key : Bytes) (s : Shape) (is : s ≡ shapeOf img) where
   pub met-below : openNumber img ≡ 0 → (i : ℕ) → search (layoutOf img) img key ≡ met i → i < s .slots
   met-below h i m =
       let n = layout-slots img s is in
-      let b = header img s h is in
+      let b = header img s (record { accepted = h; shape = is }) in
       omega (arith, search-met (layoutOf img) img key (omega arith) i m .0)
