@@ -11,7 +11,7 @@ use Rattle.bhtf.specs.Questions.{seekNumber}
 use Rattle.layout.specs.Shapes.{Open}
 use Rattle.layout.specs.declared.shape.Shape.{Shape}
 use Rattle.table.specs.declared.Found.{Found}
-use Rattle.table.specs.Probes.{probeOf}
+use Rattle.table.specs.Probes.{probeOf, Within}
 use Rattle.seek.specs.declared.Sought.{Sought}
 use Rattle.seek.specs.declared.Sought.the-variants.{Refused, At}
 
@@ -19,6 +19,7 @@ pub record Reached (img key : Bytes) (known : Bool) (s : Shape) (f : Found) : Ty
   pub asked : seekNumber img key known ≡ 0
   pub opened : Open img s
   pub ended : probeOf f ≡ search (layoutOf img) img key
+  pub within : Within (s .slots) (probeOf f)
 
 unfoldable pub SoughtIs : Bytes → Bytes → Bool → Sought → Type 0
 SoughtIs img key known (Refused n) = (n ≡ seekNumber img key known) × (n ≡ 0 → ⊥)
