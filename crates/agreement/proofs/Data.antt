@@ -20,7 +20,7 @@ use Rattle.bhtf.proofs.Kept.{Kept}
 use Rattle.bhtf.proofs.Table.{Sound, entryOf}
 use Rattle.bhtf.proofs.Probe.{entryOf-frame}
 use Rattle.bhtf.proofs.Insert.{weight-frame, sound-keys}
-use Rattle.bhtf.proofs.Stretch.{size, Lies, sound-lies, SameOn}
+use Rattle.bhtf.proofs.Stretch.{size, Lies, sound-lies, Stored, SameOn}
 use Rattle.agreement.proofs.File.{Allowed, File, file-slots, file-room, file-some, Change}
 
 -- ---- the table over images with the same slots
@@ -52,7 +52,7 @@ module _ (g : Layout) (img img′ : Bytes) (f : File g img) (kept₁ : Kept img 
   pub frame-change : (key : Bytes)
       → ((key′ s : Bytes) → Allowed g key′ → (key′ ≡ key → ⊥) → entryOf g img key′ ≡ some s → (offsetOf g s ≡ 0 → ⊥)
       → SameOn img img′ (offsetOf g s) (size g img (offsetOf g s)))
-      → ((s : Bytes) → Allowed g key → entryOf g img key ≡ some s → messageSound g img′ (offsetOf g s) ≡ true)
+      → ((s : Bytes) → Allowed g key → entryOf g img key ≡ some s → Stored g img′ (offsetOf g s))
       → ((s key′ s′ : Bytes) → Allowed g key → Allowed g key′ → (key′ ≡ key → ⊥) → entryOf g img key ≡ some s
       → entryOf g img key′ ≡ some s′ → (offsetOf g s ≡ 0 → ⊥) → (offsetOf g s′ ≡ 0 → ⊥)
       → Apart (offsetOf g s) (size g img′ (offsetOf g s)) (offsetOf g s′) (size g img (offsetOf g s′)))
@@ -79,7 +79,7 @@ module _ (g : Layout) (img img′ : Bytes) (f : File g img) (kept₁ : Kept img 
   point-change key s a e away sound₁ le =
       frame-change key
       (λ key′ s′ a′ n e′ z′. away (offsetOf g s′) _ (λ z. f .apart key′ key s′ s a′ a n e′ e z′ z))
-      (λ s₁ a₁ e₁. rw (is-s s₁ e₁) sound₁)
+      (λ s₁ a₁ e₁. rw (is-s s₁ e₁) (record { sound = sound₁; short = λ z. omega (arith, le, f .messages key s a e .short z) }))
       (λ s₁ key′ s′ a₁ a′ n e₁ e′ z₁ z′.
       apart-shrink (offsetOf g s₁) _ (size g img (offsetOf g s₁)) (offsetOf g s′) _ (rw (is-s s₁ e₁) (omega arith))
       (f .apart key key′ s₁ s′ a a′ (λ q. n (sym q)) e₁ e′ z₁ z′))
@@ -92,7 +92,7 @@ module _ (g : Layout) (img img′ : Bytes) (f : File g img) (kept₁ : Kept img 
 module _ (g : Layout) (img : Bytes) (f : File g img) (key s : Bytes) (a : Allowed g key) (e : entryOf g img key ≡ some s)
     (z : offsetOf g s ≡ 0 → ⊥) where
   pub point-lies : Lies g img (offsetOf g s)
-  point-lies = sound-lies g img (offsetOf g s) (f .messages key s a e) z
+  point-lies = sound-lies g img (offsetOf g s) (f .messages key s a e .sound) z
 
   pub point-end : offsetOf g s + size g img (offsetOf g s) ≤ length img
   point-end = omega (arith, point-lies .end, f .opened .free-high)

@@ -1,13 +1,14 @@
 -- The invariant of a file that calls have reached, and how a change to one point keeps it.
 --     File g img            1. its header is accepted; 2. searches find what stands in the table; 3. C is the number of taken
---                           slots; 4. messages pass question 11; 5. messages of different points have no byte in common
+--                           slots; 4. messages pass question 11, and their lengths are below 256 ^ W; 5. messages of
+--                           different points have no byte in common
 --     pointOf g img key     name, text and length held of a point, as the book has them
 --     Change g img img′ key what a step that concerns the point `key` alone leaves
 --     file-change, point-other    such a step keeps the invariant, and every other point
 --     change-trans, change-any    changes in turn; a step that concerns no point
 -- Assumes nothing.
 use mathlib.Core.Path.{_≡_, refl, sym, ap, ap₂, _∙_, subst}
-use Prim.Native.Nat.{ℕ, _≤_, _<_}
+use Prim.Native.Nat.{ℕ, _^_, _≤_, _<_}
 use native.Mathlib.Omega.{arith}
 use mathlib.Core.Logic.{inl, inr}
 use mathlib.Core.Bool.{true, false, not}
@@ -20,15 +21,15 @@ use Rattle.bhtf.specs.Bytes.{Bytes, allZero}
 use Rattle.bhtf.specs.Limits.{pointsField, freeField, slotsField, dataField}
 use Rattle.bhtf.specs.Image.{field, Layout, layoutOf, offsetOf}
 use Rattle.bhtf.specs.Messages.{shown, held, isActive}
-use Rattle.bhtf.specs.Questions.{nameAllowed, messageSound}
+use Rattle.bhtf.specs.Questions.{nameAllowed}
 use Rattle.bhtf.specs.Book.{Entry}
 use Rattle.bhtf.proofs.Tests.{by-eq, and-left, and-right}
 use Rattle.bhtf.proofs.Bytes.{Apart, by-same}
-use Rattle.bhtf.proofs.Slots.{Room}
+use Rattle.bhtf.proofs.Slots.{Room, layout-most}
 use Rattle.bhtf.proofs.Opened.{Opened, opened-room}
 use Rattle.bhtf.proofs.Kept.{Kept, kept-trans, kept-layout, opened-kept}
 use Rattle.bhtf.proofs.Table.{Sound, entryOf, weight}
-use Rattle.bhtf.proofs.Stretch.{size, SameOn, same-on-trans, size-same, shown-same, held-same, sound-same}
+use Rattle.bhtf.proofs.Stretch.{size, Stored, SameOn, same-on-trans, size-same, shown-same, held-same, stored-same}
 
 -- ---- names
 
@@ -90,7 +91,7 @@ pub record File (g : Layout) (img : Bytes) : Type 0 where
   pub opened : Opened img
   pub table : Sound g img
   pub counted : field img pointsField ≡ weight g img (λ s. 1)
-  pub messages : (key s : Bytes) → Allowed g key → entryOf g img key ≡ some s → messageSound g img (offsetOf g s) ≡ true
+  pub messages : (key s : Bytes) → Allowed g key → entryOf g img key ≡ some s → Stored g img (offsetOf g s)
   pub apart : (key key′ s s′ : Bytes) → Allowed g key → Allowed g key′ → (key ≡ key′ → ⊥)
       → entryOf g img key ≡ some s → entryOf g img key′ ≡ some s′ → (offsetOf g s ≡ 0 → ⊥) → (offsetOf g s′ ≡ 0 → ⊥)
       → Apart (offsetOf g s) (size g img (offsetOf g s)) (offsetOf g s′) (size g img (offsetOf g s′))
@@ -107,6 +108,10 @@ module _ {g : Layout} {img : Bytes} (f : File g img) where
 
   pub file-room : Room g (length img)
   file-room = subst (λ (l : Layout). Room l (length img)) (f .layout) (opened-room img (f .opened))
+
+  -- a length that is allowed can be written in W bytes
+  pub file-most : g .most < 256 ^ g .W
+  file-most = subst (λ (l : Layout). l .most < 256 ^ l .W) (f .layout) (layout-most img)
 
   pub file-some : 0 < g .N
   file-some = omega (arith, f .opened .slots-low, file-slots)
@@ -129,7 +134,7 @@ pub record Change (g : Layout) (img img′ key : Bytes) : Type 0 where
   pub others : (key′ : Bytes) → Allowed g key′ → (key′ ≡ key → ⊥) → entryOf g img′ key′ ≡ entryOf g img key′
   pub still : (key′ s : Bytes) → Allowed g key′ → (key′ ≡ key → ⊥) → entryOf g img key′ ≡ some s → (offsetOf g s ≡ 0 → ⊥)
       → SameOn img img′ (offsetOf g s) (size g img (offsetOf g s))
-  pub here : (s : Bytes) → Allowed g key → entryOf g img′ key ≡ some s → messageSound g img′ (offsetOf g s) ≡ true
+  pub here : (s : Bytes) → Allowed g key → entryOf g img′ key ≡ some s → Stored g img′ (offsetOf g s)
   pub here-apart : (s key′ s′ : Bytes) → Allowed g key → Allowed g key′ → (key′ ≡ key → ⊥)
       → entryOf g img′ key ≡ some s → entryOf g img key′ ≡ some s′ → (offsetOf g s ≡ 0 → ⊥) → (offsetOf g s′ ≡ 0 → ⊥)
       → Apart (offsetOf g s) (size g img′ (offsetOf g s)) (offsetOf g s′) (size g img (offsetOf g s′))
@@ -147,13 +152,13 @@ module _ (g : Layout) (img img′ key : Bytes) (f : File g img) (c : Change g im
       → size g img′ (offsetOf g s) ≡ size g img (offsetOf g s)
   other-size key′ s a n e z = size-same g img img′ (offsetOf g s) (c .still key′ s a n e z)
 
-  new-messages : (k s : Bytes) → Allowed g k → entryOf g img′ k ≡ some s → messageSound g img′ (offsetOf g s) ≡ true
+  new-messages : (k s : Bytes) → Allowed g k → entryOf g img′ k ≡ some s → Stored g img′ (offsetOf g s)
   new-messages k s a e =
       by-same k key
       (λ q. c .here s (rw q at a) (rw q at e))
       (λ n.
       let b = before k s a n e in
-      sound-same g img img′ (offsetOf g s) (c .still k s a n b) (c .free-low) (f .messages k s a b))
+      stored-same g img img′ (offsetOf g s) (c .still k s a n b) (c .free-low) (f .messages k s a b))
 
   new-apart : (k k′ s s′ : Bytes) → Allowed g k → Allowed g k′ → (k ≡ k′ → ⊥)
       → entryOf g img′ k ≡ some s → entryOf g img′ k′ ≡ some s′ → (offsetOf g s ≡ 0 → ⊥) → (offsetOf g s′ ≡ 0 → ⊥)

@@ -26,8 +26,10 @@ use Rattle.agreement.proofs.Space.{Written, written, written-value, wri
 use Rattle.agreement.proofs.File.{Allowed, pointOf, pointOf-some, File, file-room, file-some, Change}
 
 module _ (g : Layout) (img : Bytes) (f : File g img) (key s : Bytes) (a : Allowed g key) (e : entryOf g img key ≡ some s)
-    (z : offsetOf g s ≡ 0 → ⊥) (t : Bytes) (small : length t < 256 ^ g .W) (least : leastLength ≤ length t)
-    (le : length t ≤ held g img (offsetOf g s)) where
+    (z : offsetOf g s ≡ 0 → ⊥) (t : Bytes) (least : leastLength ≤ length t) (le : length t ≤ held g img (offsetOf g s)) where
+  small : length t < 256 ^ g .W
+  small = omega (arith, le, held-some g img (offsetOf g s) z, f .messages key s a e .short z)
+
   bytes : Bytes
   bytes = message (g .W) t ++ zeros (held g img (offsetOf g s) - length t)
 

@@ -13,19 +13,18 @@ use lib.Dec.{leb}
 use borrow.Author.Tests.{leb-true, le-leb, lt-leb}
 use Rattle.bhtf.specs.Bytes.{Bytes}
 use Rattle.bhtf.specs.Limits.{leastLength, pointsField, freeField}
-use Rattle.bhtf.specs.Image.{field, Layout, layoutOf, slot, putSlot, slotBytes, offsetOf}
+use Rattle.bhtf.specs.Image.{field, Layout, slot, putSlot, slotBytes, offsetOf}
 use Rattle.bhtf.specs.Search.{met, empty, search}
 use Rattle.bhtf.specs.Messages.{headSize, retire, takeSpace, enter, inserted, relocated}
 use Rattle.bhtf.specs.Questions.{ask, firstNo, lengthAllowed, spaceLeft, placeNumber}
 use Rattle.bhtf.specs.Book.{Terms, Book, find, roomAsks, entered, placed}
 use Rattle.bhtf.proofs.Tests.{by-le}
 use Rattle.bhtf.proofs.Opened.{firstNo-head, firstNo-tail}
-use Rattle.bhtf.proofs.Outcomes.{}
 use Rattle.bhtf.proofs.Table.{entryOf}
 use Rattle.bhtf.proofs.Probe.{search-frame}
 use Rattle.bhtf.proofs.Insert.{entry-met, entry-empty}
 use Rattle.bhtf.proofs.Stretch.{lies-sound}
-use Rattle.agreement.proofs.File.{Allowed, pointOf, pointOf-none, File, file-some, file-room, Change, file-change, change-trans, change-any}
+use Rattle.agreement.proofs.File.{Allowed, pointOf, pointOf-none, File, file-some, file-most, file-room, Change, file-change, change-trans, change-any}
 use Rattle.agreement.proofs.Retire.{retire-change, retire-slot, retire-field}
 use Rattle.agreement.proofs.Space.{written-value, space-change, space-file, space-is, space-written, space-some, space-lies, space-away}
 use Rattle.agreement.proofs.Slots.{Fresh, set-change, set-point, set-field, enter-change, enter-point, enter-points, enter-free}
@@ -57,12 +56,10 @@ module _ (g : Layout) (img : Bytes) (b : Book) (r : Reflects g img b) (t : Bytes
 
   -- what a yes to both gives
   small : firstNo (roomAsks b (length t)) ≡ 0 → length t < 256 ^ g .W
-  unfolding roomAsks layoutOf
+  unfolding roomAsks
   small h =
       let le : length t ≤ b .terms .most = leb-true _ _ (firstNo-head 12 (leb (length t) (b .terms .most)) _ (λ z. omega arith) h) in
-      let most : b .terms .most ≡ 16777215 =
-      ap (λ (m : Terms). m .most) (r .terms) ∙ ap (λ (l : Layout). l .most) (sym (r .file .layout)) in
-      subst (λ (w : ℕ). length t < 256 ^ w) (ap (λ (l : Layout). l .W) (r .file .layout)) (omega (arith, le, most))
+      omega (arith, le, ap (λ (m : Terms). m .most) (r .terms), file-most (r .file))
 
   fits : firstNo (roomAsks b (length t)) ≡ 0 → field img freeField + headSize g + length t ≤ length img
   unfolding roomAsks
@@ -83,7 +80,11 @@ fresh-space : (g : Layout) (img : Bytes) (f : File g img) (t : Bytes) (s : lengt
     → Fresh g (takeSpace g img t) key (field img freeField)
 fresh-space g img f t s l le key =
     record {
-      sound = lies-sound g (takeSpace g img t) (field img freeField) (space-lies g img f t s l le);
+      stored =
+          record {
+            sound = lies-sound g (takeSpace g img t) (field img freeField) (space-lies g img f t s l le);
+            short = λ z. rw (space-written g img f t s l .count) s;
+          };
       small = omega (arith, f .opened .free-high, f .opened .size-high);
       away = λ z key′ s′ a′ n e z′. space-away g img f t s l key′ s′ a′ e z′;
     }

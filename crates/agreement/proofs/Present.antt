@@ -107,22 +107,14 @@ module _ (g : Layout) (img : Bytes) (b : Book) (r : Reflects g img b) (key : Byt
       (retire-field g img (r .file) key (slot g img i) a e₁ freeField (omega arith) ∙ sym (add-zero (field img freeField)))
       (old-number _ refl ∙ sym (retire-field g img (r .file) key (slot g img i) a e₁ pointsField (omega arith)))
 
-  in-place : (o ≡ 0 → ⊥) → length bytes < 256 ^ g .W → leastLength ≤ length bytes → length bytes ≤ held g img o
+  in-place : (o ≡ 0 → ⊥) → leastLength ≤ length bytes → length bytes ≤ held g img o
       → Reflects g (overwrite g img o bytes) (entered b key bytes (length bytes) 0)
-  in-place z s le hi =
+  in-place z le hi =
       reflect-entered g img (overwrite g img o bytes) key b r a
-      (overwrite-change g img (r .file) key (slot g img i) a e₁ z bytes s le hi) bytes (length bytes) 0
-      (overwrite-point g img (r .file) key (slot g img i) a e₁ z bytes s le hi)
-      (overwrite-field g img (r .file) key (slot g img i) a e₁ z bytes s le hi freeField (omega arith) ∙ sym (add-zero (field img freeField)))
-      (old-number _ refl ∙ sym (overwrite-field g img (r .file) key (slot g img i) a e₁ z bytes s le hi pointsField (omega arith)))
-
-  -- a message lies in the image, which is shorter than the longest length
-  held-small : (o ≡ 0 → ⊥) → length bytes ≤ held g img o → length bytes < 256 ^ g .W
-  unfolding layoutOf
-  held-small z hi =
-      let l = sound-lies g img o (met-sound g img b r key a i m) z in
-      subst (λ (w : ℕ). length bytes < 256 ^ w) (ap (λ (y : Layout). y .W) (r .file .layout))
-      (omega (arith, held-some g img o z, hi, l .low, l .end, file-above (r .file), r .file .opened .free-high, r .file .opened .size-high))
+      (overwrite-change g img (r .file) key (slot g img i) a e₁ z bytes le hi) bytes (length bytes) 0
+      (overwrite-point g img (r .file) key (slot g img i) a e₁ z bytes le hi)
+      (overwrite-field g img (r .file) key (slot g img i) a e₁ z bytes le hi freeField (omega arith) ∙ sym (add-zero (field img freeField)))
+      (old-number _ refl ∙ sym (overwrite-field g img (r .file) key (slot g img i) a e₁ z bytes le hi pointsField (omega arith)))
 
   held-zero : o ≡ 0 → held g img o ≡ 0
   unfolding held
@@ -146,7 +138,7 @@ module _ (g : Layout) (img : Bytes) (b : Book) (r : Reflects g img b) (key : Byt
       (same-in-place 2 (overwrite g img o bytes) _ (unfold modeKnown in refl) refl
       (unfold renewedText in rw (le-leb (length bytes) (held g img o) l) refl)
       (unfold renewed in rw (ne-eqb (length bytes) 0 z) refl)
-      (in-place (λ q. z (omega (arith, l, held-zero q))) (held-small (λ q. z (omega (arith, l, held-zero q))) l) (omega arith) l)))
+      (in-place (λ q. z (omega (arith, l, held-zero q))) (omega arith) l)))
       (λ l.
       rw (lt-leb (length bytes) (held g img o) l)
       (same-placed 2 bytes (unfold modeKnown in refl) refl

@@ -106,7 +106,7 @@ slot-passes g img f i l =
     (λ v. rw v refl)
     (λ t.
     let finds : search g img (keyAt g img i) ≡ met i = search-finds g img (keyAt g img i) (file-some f) i (f .table) l t refl in
-    let ok = f .messages (keyAt g img i) (slot g img i) (taken-allowed g img f i l t) (entry-taken g img i (file-some f) (f .table) l t) in
+    let ok = f .messages (keyAt g img i) (slot g img i) (taken-allowed g img f i l t) (entry-taken g img i (file-some f) (f .table) l t) .sound in
     rw (t, finds, eq-eqb i i refl, ok) refl)
 
 pub file-check : (g : Layout) (img : Bytes) → File g img → check img ≡ sound

@@ -122,7 +122,7 @@ module _ (g : Layout) (img : Bytes) (f : File g img) (key : Bytes) (a : Allowed 
         sound = sound-gone;
         counted = gone-counted;
         others = remove-other;
-        still = λ key′ s a′ n e′ z. remove-same _ _ (sound-lies g img _ (f .messages key′ s a′ e′) z .low);
+        still = λ key′ s a′ n e′ z. remove-same _ _ (sound-lies g img _ (f .messages key′ s a′ e′ .sound) z .low);
         here = λ s a₁ e₁. absurd (Option·none-ne-some s (sym remove-entry ∙ e₁));
         here-apart = λ s key′ s′ a₁ a′ n e₁ e′ z z′. absurd (Option·none-ne-some s (sym remove-entry ∙ e₁));
       }

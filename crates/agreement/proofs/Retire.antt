@@ -42,7 +42,7 @@ module _ (g : Layout) (img : Bytes) (f : File g img) (key s : Bytes) (a : Allowe
 
   -- question 11, as the image's own layout has it
   sound₁ : messageSound (layoutOf img) img o ≡ true
-  sound₁ = rw (f .layout) (f .messages key s a e)
+  sound₁ = rw (f .layout) (f .messages key s a e .sound)
 
   pub retire-slot : (k : ℕ) → k < g .N → slot g off k ≡ slot g img k
   retire-slot k l = rw (f .layout) at (Effects.retire-slot img (f .opened) o sound₁ k (rw (f .layout) l))

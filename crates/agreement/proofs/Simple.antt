@@ -85,7 +85,7 @@ module _ (g : Layout) (img : Bytes) (b : Book) (r : Reflects g img b) (key : Byt
       (λ m. entry-exhausted g img key m))
 
   pub met-sound : Allowed g key → (i : ℕ) → search g img key ≡ met i → messageSound g img (offsetOf g (slot g img i)) ≡ true
-  met-sound a i m = r .file .messages key (slot g img i) a (entry-met g img key i m)
+  met-sound a i m = r .file .messages key (slot g img i) a (entry-met g img key i m) .sound
 
   -- a search either meets the key or does not
   pub by-met {ℓ} : {A : Type ℓ} → ((i : ℕ) → search g img key ≡ met i → A) → (isMet (search g img key) ≡ false → A) → A

@@ -3,18 +3,17 @@
 --     enter-change, enter-point      a new point
 -- Assumes nothing.
 use mathlib.Core.Path.{_≡_, refl, sym, ap, _∙_}
-use Prim.Native.Nat.{ℕ, _+_, _^_, _≤_, _<_}
+use Prim.Native.Nat.{ℕ, _+_, _≤_, _<_}
 use native.Mathlib.Omega.{arith}
 use mathlib.Core.Logic.{inr}
 use mathlib.Core.Bool.{true}
 use mathlib.Core.Option.{some, Option·some-injective}
 use lib.ListN.{length}
 use Rattle.bhtf.specs.Bytes.{Bytes}
-use Rattle.bhtf.specs.Limits.{slotsField, pointsField, freeField, tableStart}
+use Rattle.bhtf.specs.Limits.{word, slotsField, pointsField, freeField, tableStart}
 use Rattle.bhtf.specs.Image.{field, setField, Layout, slotSize, offsetOf, slot, putSlot, keyOf, slotBytes}
 use Rattle.bhtf.specs.Messages.{enter}
 use Rattle.bhtf.specs.Search.{search, met, empty}
-use Rattle.bhtf.specs.Questions.{messageSound}
 use Rattle.bhtf.proofs.Bytes.{Apart}
 use Rattle.bhtf.proofs.Slots.{Room, slot-above, slot-end, slot-setField, part-putSlot-outside, field-putSlot, length-putSlot, length-entry, keyOf-entry, offsetOf-entry}
 use Rattle.bhtf.proofs.Opened.{Opened}
@@ -23,7 +22,7 @@ use Rattle.bhtf.proofs.Effects.{points-kept, points-is, points-free, points-beh
 use Rattle.bhtf.proofs.Table.{Sound, entryOf, weight}
 use Rattle.bhtf.proofs.Probe.{search-met, search-empty}
 use Rattle.bhtf.proofs.Insert.{weight-frame, insert-sound, insert-entry, insert-other, insert-weight, replace-sound, replace-entry, replace-other, replace-weight}
-use Rattle.bhtf.proofs.Stretch.{size, sound-lies, none-sound, SameOn, same-on-trans, size-same, sound-same}
+use Rattle.bhtf.proofs.Stretch.{size, sound-lies, Stored, none-stored, SameOn, same-on-trans, size-same, stored-same}
 use Rattle.agreement.proofs.Data.{frame-entry, frame-sound, file-above}
 use Rattle.agreement.proofs.File.{Allowed, allowed-length, allowed-zero, valueOf, pointOf, pointOf-some, value-same, File, file-slots, file-room, file-some, Change}
 
@@ -31,14 +30,14 @@ use Rattle.agreement.proofs.File.{Allowed, allowed-length, allowed-zero
 
 -- x is 0, or a sound message that no other point's meets
 pub record Fresh (g : Layout) (img key : Bytes) (x : ℕ) : Type 0 where
-  pub sound : messageSound g img x ≡ true
-  pub small : x < 2 ^ 32
+  pub stored : Stored g img x
+  pub small : x < word
   pub away : (x ≡ 0 → ⊥) → (key′ s′ : Bytes) → Allowed g key′ → (key′ ≡ key → ⊥) → entryOf g img key′ ≡ some s′
       → (offsetOf g s′ ≡ 0 → ⊥) → Apart x (size g img x) (offsetOf g s′) (size g img (offsetOf g s′))
 
 pub fresh-none : (g : Layout) (img key : Bytes) → Fresh g img key 0
 fresh-none g img key =
-    record { sound = none-sound g img; small = omega arith; away = λ z. absurd (z refl) }
+    record { stored = none-stored g img; small = omega arith; away = λ z. absurd (z refl) }
 
 module _ (g : Layout) (img : Bytes) (f : File g img) (key : Bytes) (a : Allowed g key) (x : ℕ) (fr : Fresh g img key x)
     (img′ : Bytes) (k : Kept img img′) (free : field img′ freeField ≡ field img freeField)
@@ -49,7 +48,7 @@ module _ (g : Layout) (img : Bytes) (f : File g img) (key : Bytes) (a : Allowed 
 
   -- x's message is as it was
   x-same : (x ≡ 0 → ⊥) → SameOn img img′ x (size g img x)
-  x-same z = same-on x _ (sound-lies g img x (fr .sound) z .low)
+  x-same z = same-on x _ (sound-lies g img x (fr .stored .sound) z .low)
 
   pub slot-point : pointOf g img′ key ≡ some (valueOf g img key x)
   slot-point =
@@ -68,8 +67,8 @@ module _ (g : Layout) (img : Bytes) (f : File g img) (key : Bytes) (a : Allowed 
         sound = sound;
         counted = counted;
         others = others;
-        still = λ key′ s a′ n e′ z. same-on _ _ (sound-lies g img _ (f .messages key′ s a′ e′) z .low);
-        here = λ s a₁ e₁. rw (is-x s e₁) (sound-same g img img′ x x-same (rw free (omega arith)) (fr .sound));
+        still = λ key′ s a′ n e′ z. same-on _ _ (sound-lies g img _ (f .messages key′ s a′ e′ .sound) z .low);
+        here = λ s a₁ e₁. rw (is-x s e₁) (stored-same g img img′ x x-same (rw free (omega arith)) (fr .stored));
         here-apart = λ s key′ s′ a₁ a′ n e₁ e′ z z′. apart₁ s key′ s′ a′ n e₁ e′ z z′;
       }
     where

@@ -80,14 +80,14 @@ module _ (g : Layout) (img : Bytes) (f : File g img) (t : Bytes) (small : length
   -- other points' messages end at or below X
   below : (key s : Bytes) → Allowed g key → entryOf g img key ≡ some s → (offsetOf g s ≡ 0 → ⊥)
       → offsetOf g s + size g img (offsetOf g s) ≤ field img freeField
-  below key s a e z = sound-lies g img (offsetOf g s) (f .messages key s a e) z .end
+  below key s a e z = sound-lies g img (offsetOf g s) (f .messages key s a e .sound) z .end
 
   pub space-change : Change g img (takeSpace g img t) []
   space-change =
       frame-change g img (takeSpace g img t) f (space-is .kept) (space-is .slots) (space-is .points)
       (rw (space-is .free) (omega arith)) (rw (space-is .free) fits) []
       (λ key s a n e z.
-      let lo = sound-lies g img (offsetOf g s) (f .messages key s a e) z .low in
+      let lo = sound-lies g img (offsetOf g s) (f .messages key s a e .sound) z .low in
       let hi = below key s a e z in
       record { on = λ q m l h. space-is .below q m (omega arith) (omega arith) })
       (λ s a e. absurd (not-allowed f a))

@@ -11,7 +11,7 @@ use lib.ListN.{length, take, drop, replicate, length-append, length-replicate, r
 use lib.Seq.{take-at, drop-at, take-take, length-take-le}
 use Rattle.bhtf.specs.Bytes.{Bytes, part, store, number, digits, zeros, allZero}
 use Rattle.bhtf.specs.Limits.{tableStart}
-use Rattle.bhtf.specs.Image.{field, setField, Layout, slotSize, slotStart, slot, putSlot, keyOf, offsetOf, slotBytes, blank, vacant}
+use Rattle.bhtf.specs.Image.{field, setField, Layout, layoutOf, slotSize, slotStart, slot, putSlot, keyOf, offsetOf, slotBytes, blank, vacant}
 use Rattle.bhtf.proofs.Tests.{by-le, by-eq}
 use Rattle.bhtf.proofs.Bytes.{part-length, length-store, part-store-same, part-store-other, Apart, length-digits, number-digits-fits, length-zeros, allZero-zeros}
 
@@ -51,6 +51,11 @@ part-setField-other img p n q m h a =
 pub record Room (g : Layout) (len : ℕ) : Type 0 where
   pub table : tableStart + g .N * slotSize g ≤ g .D
   pub area : g .D ≤ len
+
+-- question 12's bound can be written in the W bytes of a message's length
+pub layout-most : (img : Bytes) → layoutOf img .most < 256 ^ layoutOf img .W
+unfolding layoutOf
+layout-most img = omega arith
 
 -- a slot ends at or below the data offset
 pub slot-end : (g : Layout) {len : ℕ} → Room g len → (i : ℕ) → i < g .N → slotStart g i + slotSize g ≤ g .D

@@ -1,10 +1,11 @@
 -- A message as a stretch of bytes, from its header to the end of its text, and what depends on that stretch alone.
 --     size g img o          how many bytes the stretch of the message at o has
 --     Lies g img o          question 11 as facts: inside the data area, with a letter and a length that are allowed
+--     Stored g img o        no message, or one that passes question 11 and whose length its W bytes can hold
 --     SameOn img img′ p n   the two images agree on the n bytes from p on
 -- Assumes nothing.
 use mathlib.Core.Path.{_≡_, refl, ap, _∙_}
-use Prim.Native.Nat.{ℕ, _+_, _≤_}
+use Prim.Native.Nat.{ℕ, _+_, _^_, _≤_, _<_}
 use native.Mathlib.Omega.{arith}
 use mathlib.Core.Logic.{inl, inr}
 use mathlib.Core.Bool.{true, _&&_, _||_}
@@ -70,6 +71,15 @@ pub none-sound : (g : Layout) (img : Bytes) → messageSound g img 0 ≡ true
 unfolding messageSound
 none-sound g img = refl
 
+-- ---- what the invariant says of a message
+
+pub record Stored (g : Layout) (img : Bytes) (o : ℕ) : Type 0 where
+  pub sound : messageSound g img o ≡ true
+  pub short : (o ≡ 0 → ⊥) → lengthAt g img o < 256 ^ g .W
+
+pub none-stored : (g : Layout) (img : Bytes) → Stored g img 0
+none-stored g img = record { sound = none-sound g img; short = λ z. absurd (z refl) }
+
 -- ---- images that agree on a stretch
 
 pub record SameOn (img img′ : Bytes) (p n : ℕ) : Type 0 where
@@ -131,3 +141,11 @@ sound-same g img img′ o same up s =
     by-eq o 0
     (λ z. rw z (none-sound g img′))
     (λ z. lies-sound g img′ o (lies-same g img img′ o (same z) up (sound-lies g img o s z)))
+
+pub stored-same : (g : Layout) (img img′ : Bytes) (o : ℕ) → ((o ≡ 0 → ⊥) → SameOn img img′ o (size g img o))
+    → field img freeField ≤ field img′ freeField → Stored g img o → Stored g img′ o
+stored-same g img img′ o same up s =
+    record {
+      sound = sound-same g img img′ o same up (s .sound);
+      short = λ z. rw (lengthAt-same g img img′ o (same z)) (s .short z);
+    }
