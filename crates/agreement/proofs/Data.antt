@@ -6,7 +6,6 @@
 use mathlib.Core.Path.{_≡_, sym, ap, _∙_}
 use Prim.Native.Nat.{ℕ, _+_, _≤_, _<_}
 use native.Mathlib.Omega.{arith}
-use mathlib.Core.Logic.{inl, inr}
 use mathlib.Core.Bool.{true}
 use mathlib.Core.Option.{some, Option·some-injective}
 use lib.ListN.{length}
@@ -15,8 +14,8 @@ use Rattle.bhtf.specs.Limits.{pointsField, freeField, tableStart}
 use Rattle.bhtf.specs.Image.{field, Layout, offsetOf, slot}
 use Rattle.bhtf.specs.Messages.{lengthAt}
 use Rattle.bhtf.specs.Questions.{messageSound}
-use Rattle.bhtf.proofs.Bytes.{Apart}
-use Rattle.bhtf.proofs.Kept.{Kept}
+use Rattle.bhtf.proofs.Bytes.{Apart, apart-inside}
+use Rattle.bhtf.proofs.Kept.{Kept, kept-known}
 use Rattle.bhtf.proofs.Table.{Sound, entryOf}
 use Rattle.bhtf.proofs.Probe.{entryOf-frame}
 use Rattle.bhtf.proofs.Insert.{weight-frame, sound-keys}
@@ -35,11 +34,6 @@ module _ (g : Layout) (img img′ : Bytes) (pos : 0 < g .N) (e : (k : ℕ) → k
 -- where the table ends the data area begins, above the header
 pub file-above : {g : Layout} {img : Bytes} → File g img → tableStart ≤ g .D
 file-above f = omega (arith, file-room f .table)
-
--- a shorter stretch
-pub apart-shrink : (p n n′ q m : ℕ) → n ≤ n′ → Apart p n′ q m → Apart p n q m
-apart-shrink p n n′ q m h (inl a) = inl (omega arith)
-apart-shrink p n n′ q m h (inr a) = inr a
 
 -- ---- a step that changes no slot and not C
 
@@ -60,6 +54,7 @@ module _ (g : Layout) (img img′ : Bytes) (f : File g img) (kept₁ : Kept img 
   frame-change key still₁ here₁ apart₁ =
       record {
         kept = kept₁;
+        known = kept-known kept₁ (f .opened);
         free-low = low;
         free-high = high;
         points = rw points₁ (omega (arith, f .opened .points, file-slots f));
@@ -81,7 +76,8 @@ module _ (g : Layout) (img img′ : Bytes) (f : File g img) (kept₁ : Kept img 
       (λ key′ s′ a′ n e′ z′. away (offsetOf g s′) _ (λ z. f .apart key′ key s′ s a′ a n e′ e z′ z))
       (λ s₁ a₁ e₁. rw (is-s s₁ e₁) (record { sound = sound₁; short = λ z. omega (arith, le, f .messages key s a e .short z) }))
       (λ s₁ key′ s′ a₁ a′ n e₁ e′ z₁ z′.
-      apart-shrink (offsetOf g s₁) _ (size g img (offsetOf g s₁)) (offsetOf g s′) _ (rw (is-s s₁ e₁) (omega arith))
+      apart-inside (offsetOf g s₁) (size g img (offsetOf g s₁)) (offsetOf g s′) _ (offsetOf g s₁) _ (omega arith)
+      (rw (is-s s₁ e₁) (omega arith))
       (f .apart key key′ s₁ s′ a a′ (λ q. n (sym q)) e₁ e′ z₁ z′))
     where
       is-s : (s₁ : Bytes) → entryOf g img key ≡ some s₁ → s₁ ≡ s

@@ -10,7 +10,6 @@
 use mathlib.Core.Path.{_≡_, refl, sym, ap, ap₂, _∙_, subst}
 use Prim.Native.Nat.{ℕ, _^_, _≤_, _<_}
 use native.Mathlib.Omega.{arith}
-use mathlib.Core.Logic.{inl, inr}
 use mathlib.Core.Bool.{true, false, not}
 use mathlib.Core.List.{[]}
 use mathlib.Core.Option.{Option, none, some}
@@ -21,13 +20,13 @@ use Rattle.bhtf.specs.Bytes.{Bytes, allZero}
 use Rattle.bhtf.specs.Limits.{pointsField, freeField, slotsField, dataField}
 use Rattle.bhtf.specs.Image.{field, Layout, layoutOf, offsetOf}
 use Rattle.bhtf.specs.Messages.{shown, held, isActive}
-use Rattle.bhtf.specs.Questions.{nameAllowed}
+use Rattle.bhtf.specs.Questions.{nameAllowed, versionKnown}
 use Rattle.bhtf.specs.Book.{Entry}
 use Rattle.bhtf.proofs.Tests.{by-eq, and-left, and-right}
-use Rattle.bhtf.proofs.Bytes.{Apart, by-same}
+use Rattle.bhtf.proofs.Bytes.{Apart, apart-sym, by-same}
 use Rattle.bhtf.proofs.Slots.{Room, layout-most}
 use Rattle.bhtf.proofs.Opened.{Opened, opened-room}
-use Rattle.bhtf.proofs.Kept.{Kept, kept-trans, kept-layout, opened-kept}
+use Rattle.bhtf.proofs.Kept.{Kept, kept-trans, kept-layout, opened-known}
 use Rattle.bhtf.proofs.Table.{Sound, entryOf, weight}
 use Rattle.bhtf.proofs.Stretch.{size, Stored, SameOn, same-on-trans, size-same, shown-same, held-same, stored-same}
 
@@ -126,6 +125,7 @@ module _ {g : Layout} {img : Bytes} (f : File g img) where
 
 pub record Change (g : Layout) (img img′ key : Bytes) : Type 0 where
   pub kept : Kept img img′
+  pub known : versionKnown img′ ≡ true
   pub free-low : field img freeField ≤ field img′ freeField
   pub free-high : field img′ freeField ≤ length img
   pub points : field img′ pointsField ≤ g .N
@@ -138,10 +138,6 @@ pub record Change (g : Layout) (img img′ key : Bytes) : Type 0 where
   pub here-apart : (s key′ s′ : Bytes) → Allowed g key → Allowed g key′ → (key′ ≡ key → ⊥)
       → entryOf g img′ key ≡ some s → entryOf g img key′ ≡ some s′ → (offsetOf g s ≡ 0 → ⊥) → (offsetOf g s′ ≡ 0 → ⊥)
       → Apart (offsetOf g s) (size g img′ (offsetOf g s)) (offsetOf g s′) (size g img (offsetOf g s′))
-
-pub apart-sym : (p n q m : ℕ) → Apart p n q m → Apart q m p n
-apart-sym p n q m (inl h) = inr h
-apart-sym p n q m (inr h) = inl h
 
 module _ (g : Layout) (img img′ key : Bytes) (f : File g img) (c : Change g img img′ key) where
   -- an entry of another point was there before
@@ -184,7 +180,7 @@ module _ (g : Layout) (img img′ key : Bytes) (f : File g img) (c : Change g im
       record {
         layout = kept-layout (c .kept) (f .opened .last) ∙ f .layout;
         opened =
-            opened-kept (c .kept) (f .opened) (rw (file-slots f) (c .points))
+            opened-known (c .kept) (f .opened) (c .known) (rw (file-slots f) (c .points))
             (omega (arith, f .opened .free-low, c .free-low)) (c .free-high);
         table = c .sound;
         counted = c .counted;
@@ -216,6 +212,7 @@ module _ (g : Layout) (img img₁ img₂ key : Bytes) (c : Change g img img₁ k
   change-trans =
       record {
         kept = kept-trans (c .kept) (d .kept);
+        known = d .known;
         free-low = omega (arith, c .free-low, d .free-low);
         free-high = omega (arith, d .free-high, c .kept .size);
         points = d .points;
@@ -242,6 +239,7 @@ module _ (g : Layout) (img img′ : Bytes) (f : File g img) (c : Change g img im
   change-any =
       record {
         kept = c .kept;
+        known = c .known;
         free-low = c .free-low;
         free-high = c .free-high;
         points = c .points;

@@ -13,7 +13,7 @@ use Rattle.bhtf.specs.Image.{field, setField, Layout, slot, keyOf, vacant}
 use Rattle.bhtf.specs.Delete.{closed}
 use Rattle.bhtf.specs.Search.{search, met}
 use Rattle.bhtf.proofs.Slots.{Room, slot-setField}
-use Rattle.bhtf.proofs.Kept.{Kept, kept-trans}
+use Rattle.bhtf.proofs.Kept.{Kept, kept-trans, kept-known}
 use Rattle.bhtf.proofs.Effects.{points-kept, points-is, points-free, points-behind}
 use Rattle.bhtf.proofs.Table.{Sound, Taken, keyAt, entryOf, weight}
 use Rattle.bhtf.proofs.Probe.{search-met, met-taken}
@@ -116,6 +116,7 @@ module _ (g : Layout) (img : Bytes) (f : File g img) (key : Bytes) (a : Allowed 
   remove-change′ =
       record {
         kept = remove-kept;
+        known = kept-known remove-kept (f .opened);
         free-low = rw gone-free (omega arith);
         free-high = rw gone-free (f .opened .free-high);
         points = rw gone-points (omega (arith, f .opened .points, file-slots f));

@@ -17,14 +17,14 @@ use Rattle.bhtf.specs.Image.{field, Layout, layoutOf, offsetOf, slot}
 use Rattle.bhtf.specs.Messages.{headSize, letterAt, lengthAt, isActive, shown, held, retire}
 use Rattle.bhtf.specs.Questions.{messageSound}
 use Rattle.bhtf.proofs.Tests.{by-eq}
-use Rattle.bhtf.proofs.Bytes.{Apart, part-store-same}
+use Rattle.bhtf.proofs.Bytes.{Apart, apart-sym, apart-inside, part-store-same}
 use Rattle.bhtf.proofs.Effects
 use Rattle.bhtf.proofs.Effects.{active-some, by-retire, retire-kept, retire-behind}
 use Rattle.bhtf.proofs.Table.{entryOf}
 use Rattle.bhtf.proofs.Probe.{entryOf-frame}
 use Rattle.bhtf.proofs.Stretch.{size, Lies, lies-sound, none-sound, SameOn, same-on-refl, same-on-store}
-use Rattle.agreement.proofs.Data.{apart-shrink, point-change, point-lies}
-use Rattle.agreement.proofs.File.{Allowed, pointOf, pointOf-some, File, file-some, Change, apart-sym}
+use Rattle.agreement.proofs.Data.{point-change, point-lies}
+use Rattle.agreement.proofs.File.{Allowed, pointOf, pointOf-some, File, file-some, Change}
 
 -- ---- retire
 
@@ -92,7 +92,9 @@ module _ (g : Layout) (img : Bytes) (f : File g img) (key s : Bytes) (a : Allowe
       (rw off-length (omega arith))
     where
       letter-apart : (p n : ℕ) → Apart p n o (size g img o) → Apart p n o 1
-      letter-apart p n h = apart-sym o 1 p n (apart-shrink o 1 (size g img o) p n (unfold headSize in omega arith) (apart-sym p n o _ h))
+      letter-apart p n h =
+          apart-sym o 1 p n
+          (apart-inside o (size g img o) p n o 1 (omega arith) (unfold headSize in omega arith) (apart-sym p n o (size g img o) h))
 
   pub retire-point : pointOf g off key ≡ some (record { name = key; text = []; held = held g img o })
   unfolding held

@@ -17,7 +17,7 @@ use Rattle.bhtf.specs.Search.{search, met, empty}
 use Rattle.bhtf.proofs.Bytes.{Apart}
 use Rattle.bhtf.proofs.Slots.{Room, slot-above, slot-end, slot-setField, part-putSlot-outside, field-putSlot, length-putSlot, length-entry, keyOf-entry, offsetOf-entry}
 use Rattle.bhtf.proofs.Opened.{Opened}
-use Rattle.bhtf.proofs.Kept.{Kept, kept-trans, kept-store, kept-slots, opened-kept}
+use Rattle.bhtf.proofs.Kept.{Kept, kept-trans, kept-store, kept-slots, kept-known, opened-kept}
 use Rattle.bhtf.proofs.Effects.{points-kept, points-is, points-free, points-behind}
 use Rattle.bhtf.proofs.Table.{Sound, entryOf, weight}
 use Rattle.bhtf.proofs.Probe.{search-met, search-empty}
@@ -61,6 +61,7 @@ module _ (g : Layout) (img : Bytes) (f : File g img) (key : Bytes) (a : Allowed 
   slot-change points sound counted others =
       record {
         kept = k;
+        known = kept-known k (f .opened);
         free-low = rw free (omega arith);
         free-high = rw free (f .opened .free-high);
         points = points;

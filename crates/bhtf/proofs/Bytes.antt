@@ -99,6 +99,15 @@ part-store-above b p v q m h f =
 abbrev pub Apart : ℕ → ℕ → ℕ → ℕ → Type 0
 Apart q m p n = (q + m ≤ p) ⊎ (p + n ≤ q)
 
+pub apart-sym : (q m p n : ℕ) → Apart q m p n → Apart p n q m
+apart-sym q m p n (inl h) = inr h
+apart-sym q m p n (inr h) = inl h
+
+-- a stretch inside one of the two
+pub apart-inside : (q m p n q′ m′ : ℕ) → q ≤ q′ → q′ + m′ ≤ q + m → Apart q m p n → Apart q′ m′ p n
+apart-inside q m p n q′ m′ lo hi (inl h) = inl (omega arith)
+apart-inside q m p n q′ m′ lo hi (inr h) = inr (omega arith)
+
 -- what is read apart from the place of a store
 pub part-store-other : (b : Bytes) (p : ℕ) (v : Bytes) (q m : ℕ) → p + length v ≤ length b → Apart q m p (length v)
     → part (store b p v) q m ≡ part b q m

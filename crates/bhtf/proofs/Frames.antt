@@ -45,7 +45,9 @@ module _ (g : Layout) (img : Bytes) (r : Room g (length img)) (i : ℕ) (l : i <
   kept-closed =
       record {
         size = length-closed g img r i l;
-        front = part-closed 0 20 (inl (omega arith));
+        magic = part-closed 0 5 (inl (omega arith));
+        version = part-closed 5 3 (inl (omega arith));
+        front = part-closed 8 12 (inl (omega arith));
         middle = part-closed 24 28 (inl (omega arith));
         rest = part-closed 60 1988 (inl (omega arith));
       }
