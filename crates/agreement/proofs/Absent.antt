@@ -30,7 +30,7 @@ use Rattle.agreement.proofs.Slots.{fresh-none, enter-change, enter-poin
 use Rattle.agreement.proofs.Entries.{length-withEntry-new}
 use Rattle.agreement.proofs.Reflect.{Reflects, reflect-entered}
 use Rattle.agreement.proofs.Simple.{Same, same-refused, same-accepted, open₀, found-none}
-use Rattle.agreement.proofs.Place.{room-both, insert}
+use Rattle.agreement.proofs.Place.{room-both, room-length, room-space, insert}
 
 -- ---- a point that is absent
 
@@ -112,7 +112,8 @@ module _ (g : Layout) (img : Bytes) (b : Book) (r : Reflects g img b) (key : Byt
         rw (ne-eqb (length bytes) 0 z)
         (by-eq (firstNo (roomAsks b (length bytes))) 0
         (λ q. same-accepted g img b r (addNumber img key bytes mode) _ _ _ (num ∙ q) (book-ten _ ∙ q)
-        (rw (after-empty (some bytes) fr) (insert g img b r key a bytes q (omega arith) i m room)))
+        (rw (after-empty (some bytes) fr) 
+        (insert g img b r key a bytes (omega arith) (room-length g img b r bytes q) (room-space g img b r bytes q) i m room)))
         (λ q. same-refused g img b r (addNumber img key bytes mode) _ _ _ (num ∙ sym (book-ten _)) (λ w. q (sym (book-ten _) ∙ w)))))
 
   pub same-absent : Same g (add img key bytes mode) (addFound b key bytes mode (find key (b .entries)))

@@ -1,6 +1,7 @@
 -- Messages in new space: the file's questions 12 and 13 are the book's, and the relation is kept by an insert and a relocation.
---     room-both        questions 12 and 13, of the file and of the book
---     relocate, insert      the relation afterwards
+--     room-both                  questions 12 and 13, of the file and of the book
+--     room-length, room-space    what a yes to both gives
+--     relocate, insert           the relation after a message is placed, of any length that is allowed where there is space
 -- Assumes nothing.
 use mathlib.Core.Path.{_≡_, sym, ap, ap₂, _∙_, subst}
 use Prim.Native.Nat.{ℕ, _+_, _-_, _^_, _≤_, _<_}
@@ -55,15 +56,15 @@ module _ (g : Layout) (img : Bytes) (b : Book) (r : Reflects g img b) (t : Bytes
       regroup n = omega arith
 
   -- what a yes to both gives
-  small : firstNo (roomAsks b (length t)) ≡ 0 → length t < 256 ^ g .W
+  pub room-length : firstNo (roomAsks b (length t)) ≡ 0 → length t ≤ g .most
   unfolding roomAsks
-  small h =
-      let le : length t ≤ b .terms .most = leb-true _ _ (firstNo-head 12 (leb (length t) (b .terms .most)) _ (λ z. omega arith) h) in
-      omega (arith, le, ap (λ (m : Terms). m .most) (r .terms), file-most (r .file))
+  room-length h =
+      let yes = firstNo-head 12 (leb (length t) (b .terms .most)) _ (λ z. omega arith) h in
+      omega (arith, leb-true (length t) (b .terms .most) yes, ap (λ (m : Terms). m .most) (r .terms))
 
-  fits : firstNo (roomAsks b (length t)) ≡ 0 → field img freeField + headSize g + length t ≤ length img
+  pub room-space : firstNo (roomAsks b (length t)) ≡ 0 → field img freeField + headSize g + length t ≤ length img
   unfolding roomAsks
-  fits h =
+  room-space h =
       let le : b .used + b .terms .head + length t ≤ b .terms .R =
       leb-true _ _
       (firstNo-head 13 (leb (b .used + b .terms .head + length t) (b .terms .R)) [] (λ z. omega arith)
@@ -93,15 +94,13 @@ more-is : (g : Layout) (img : Bytes) (b : Book) → Reflects g img b → (m : �
 more-is g img b r m = ap (λ (x : ℕ). x + m) (sym (ap (λ (y : Terms). y .head) (r .terms)))
 
 module _ (g : Layout) (img : Bytes) (b : Book) (r : Reflects g img b) (key : Bytes) (a : Allowed g key) (t : Bytes)
-    (ok : firstNo (roomAsks b (length t)) ≡ 0) (least : leastLength ≤ length t) where
+    (least : leastLength ≤ length t) (short : length t ≤ g .most)
+    (l₁ : field img freeField + headSize g + length t ≤ length img) where
   abbrev x : ℕ
   x = field img freeField
 
   s₁ : length t < 256 ^ g .W
-  s₁ = small g img b r t ok
-
-  l₁ : x + headSize g + length t ≤ length img
-  l₁ = fits g img b r t ok
+  s₁ = omega (arith, short, file-most (r .file))
 
   -- "Otherwise the old header, if there is one, becomes "d" and new space is taken."
   module _ (i : ℕ) (m : search g img key ≡ met i) where

@@ -31,7 +31,7 @@ use Rattle.agreement.proofs.Overwrite.{overwrite-change, overwrite-fiel
 use Rattle.agreement.proofs.Entries.{length-withEntry-old}
 use Rattle.agreement.proofs.Reflect.{Reflects, reflect-entered}
 use Rattle.agreement.proofs.Simple.{Same, same-refused, same-accepted, open₀, found-met, met-sound}
-use Rattle.agreement.proofs.Place.{room-both, relocate}
+use Rattle.agreement.proofs.Place.{room-both, room-length, room-space, relocate}
 
 -- ---- a point that is present
 
@@ -73,7 +73,7 @@ module _ (g : Layout) (img : Bytes) (b : Book) (r : Reflects g img b) (key : Byt
       by-eq (firstNo (roomAsks b (length t))) 0
       (λ z. same-accepted g img b r (addNumber img key bytes mode) _ (roomAsks b (length t)) (placed b key t)
       (some-number ∙ z) z
-      (rw (after-present mode (some t) q) (relocate g img b r key a t z le i m)))
+      (rw (after-present mode (some t) q) (relocate g img b r key a t le (room-length g img b r t z) (room-space g img b r t z) i m)))
       (λ z. same-refused g img b r (addNumber img key bytes mode) _ (roomAsks b (length t)) (placed b key t) some-number z)
     where
       some-number : addNumber img key bytes mode ≡ firstNo (roomAsks b (length t))
