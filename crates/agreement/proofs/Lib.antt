@@ -13,6 +13,7 @@ pub mod Present
 pub mod Absent
 pub mod Add
 pub mod Fresh
+pub mod Checked
 pub mod Theorem
 pub mod Reached
 pub mod Steps

@@ -1,5 +1,5 @@
 -- The book and the file say the same: the relation that every call keeps.
---     Reflects g img b      the file img, of layout g, holds what the book b says
+--     Reflects g img b      the file img, of layout g, holds what the book b says; Reflected img b: of some layout
 --     reflect-entered, reflect-without      kept by a change to one point
 -- Assumes nothing.
 use mathlib.Core.Path.{_≡_, sym, ap, _∙_}
@@ -32,6 +32,10 @@ pub record Reflects (g : Layout) (img : Bytes) (b : Book) : Type 0 where
   pub points : (name : Bytes) → Allowed g name → pointOf g img name ≡ find name (b .entries)
   pub others : (name : Bytes) → nameAllowed (g .K) name ≡ false → find name (b .entries) ≡ none
   pub distinct : Distinct (b .entries)
+
+-- in some layout: a call may change it within a list
+abbrev pub Reflected : Bytes → Book → Type 0
+Reflected img b = (g : Layout) × Reflects g img b
 
 -- a name that is not allowed is not one that is
 pub other-name : (g : Layout) (key name : Bytes) → Allowed g key → nameAllowed (g .K) name ≡ false → name ≡ key → ⊥

@@ -1,5 +1,6 @@
 -- Count, lookup and delete: the file's answer is the book's, and the relation is kept.
---     Same g o p      an outcome of the file and one of the book: equal answers, and states that reflect one another
+--     Same g o p      an outcome of the file and one of the book: equal answers, and states that reflect one another in layout g
+--     Alike o p       in some layout
 -- Assumes nothing.
 use mathlib.Core.Path.{_≡_, refl, sym, ap, _∙_, subst}
 use Prim.Native.Nat.{ℕ, suc, _-_, _≤_}
@@ -33,6 +34,9 @@ use Rattle.agreement.proofs.Reflect.{Reflects, reflect-without}
 pub record Same (g : Layout) (o : Outcome Bytes) (p : Outcome Book) : Type 0 where
   pub answer : o .answer ≡ p .answer
   pub after : Reflects g (o .after) (p .after)
+
+abbrev pub Alike : Outcome Bytes → Outcome Book → Type 0
+Alike o p = (g : Layout) × Same g o p
 
 -- ---- outcomes by their numbers
 
