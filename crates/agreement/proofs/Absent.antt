@@ -4,7 +4,7 @@ use mathlib.Core.Path.{_≡_, refl, sym, ap, ap₂, _∙_}
 use Prim.Native.Nat.{ℕ, _<_}
 use native.Mathlib.Omega.{arith}
 use native.Mathlib.Nat.{add-zero}
-use mathlib.Core.Bool.{Bool, true, false, cond}
+use mathlib.Core.Bool.{true, false}
 use mathlib.Core.List.{List, [], _∷_}
 use mathlib.Core.Option.{Option, none, some}
 use lib.ListN.{length}
@@ -21,12 +21,13 @@ use Rattle.bhtf.specs.Book.{Terms, Book, find, roomAsks, entered, addAbsent, ad
 use Rattle.bhtf.proofs.Tests.{by-bool, by-eq, not-both}
 use Rattle.bhtf.proofs.Opened.{firstNo-none, firstNo-yes, firstNo-no}
 use Rattle.bhtf.proofs.Outcomes.{room-none, add-10-exhausted, add-10-full, add-fresh}
+use Rattle.bhtf.proofs.Texts.{fresh-none, fresh-some}
 use Rattle.bhtf.proofs.Total.{total-same, total-const}
 use Rattle.bhtf.proofs.Table.{weight, weigh, Taken}
 use Rattle.bhtf.proofs.Probe.{by-search, search-exhausted}
 use Rattle.bhtf.proofs.Insert.{weigh-taken}
 use Rattle.agreement.proofs.File.{Allowed, valueOf, file-some}
-use Rattle.agreement.proofs.Slots.{fresh-none, enter-change, enter-point, enter-points, enter-free}
+use Rattle.agreement.proofs.Slots.{unshared-none, enter-change, enter-point, enter-points, enter-free}
 use Rattle.agreement.proofs.Entries.{length-withEntry-new}
 use Rattle.agreement.proofs.Reflect.{Reflects, reflect-entered}
 use Rattle.agreement.proofs.Simple.{Same, same-refused, same-accepted, open₀, found-none}
@@ -86,11 +87,11 @@ module _ (g : Layout) (img : Bytes) (b : Book) (r : Reflects g img b) (key : Byt
     bare : Reflects g (enter g img i key 0) (entered b key [] 0 0)
     bare =
         reflect-entered g img (enter g img i key 0) key b r a
-        (enter-change g img (r .file) key a 0 (fresh-none g img key) i m room) [] 0 0
-        (enter-point g img (r .file) key a 0 (fresh-none g img key) i m room ∙ none-is)
-        (enter-free g img (r .file) key a 0 (fresh-none g img key) i m room ∙ sym (add-zero (field img freeField)))
+        (enter-change g img (r .file) key a 0 (unshared-none g img key) i m room) [] 0 0
+        (enter-point g img (r .file) key a 0 (unshared-none g img key) i m room ∙ none-is)
+        (enter-free g img (r .file) key a 0 (unshared-none g img key) i m room ∙ sym (add-zero (field img freeField)))
         (length-withEntry-new _ (b .entries) not-found
-        ∙ omega (arith, r .number, enter-points g img (r .file) key a 0 (fresh-none g img key) i m room))
+        ∙ omega (arith, r .number, enter-points g img (r .file) key a 0 (unshared-none g img key) i m room))
       where
         none-is : some (valueOf g img key 0) ≡ some (record { name = key; text = []; held = 0 })
         none-is = unfold shown held isActive in refl
@@ -98,23 +99,24 @@ module _ (g : Layout) (img : Bytes) (b : Book) (r : Reflects g img b) (key : Byt
     same-empty : Same g (add img key bytes mode) (addAbsent b key bytes)
     unfolding add addAbsent
     same-empty =
+        let n = addNumber img key bytes mode in
         by-eq (length bytes) 0
         (λ z.
-        let fr : freshText bytes mode ≡ none = unfold freshText in (ap (λ (t : Bool). cond t none (some bytes)) (eq-eqb (length bytes) 0 z)) in
+        let fr = fresh-none bytes mode z in
         rw (eq-eqb (length bytes) 0 z)
-        (same-accepted g img b r (addNumber img key bytes mode) _ _ _
+        (same-accepted g img b r n _ _ _
         (empty-number none fr ∙ room-none g img)
         (book-ten [] ∙ firstNo-none)
         (rw (after-empty none fr) (unfold inserted in bare))))
         (λ z.
-        let fr : freshText bytes mode ≡ some bytes = unfold freshText in (ap (λ (t : Bool). cond t none (some bytes)) (ne-eqb (length bytes) 0 z)) in
-        let num : addNumber img key bytes mode ≡ firstNo (roomAsks b (length bytes)) = empty-number (some bytes) fr ∙ room-both g img b r bytes in
+        let fr = fresh-some bytes mode z in
+        let num : n ≡ firstNo (roomAsks b (length bytes)) = empty-number (some bytes) fr ∙ room-both g img b r bytes in
         rw (ne-eqb (length bytes) 0 z)
         (by-eq (firstNo (roomAsks b (length bytes))) 0
-        (λ q. same-accepted g img b r (addNumber img key bytes mode) _ _ _ (num ∙ q) (book-ten _ ∙ q)
+        (λ q. same-accepted g img b r n _ _ _ (num ∙ q) (book-ten _ ∙ q)
         (rw (after-empty (some bytes) fr) 
         (insert g img b r key a bytes (omega arith) (room-length g img b r bytes q) (room-space g img b r bytes q) i m room)))
-        (λ q. same-refused g img b r (addNumber img key bytes mode) _ _ _ (num ∙ sym (book-ten _)) (λ w. q (sym (book-ten _) ∙ w)))))
+        (λ q. same-refused g img b r n _ _ _ (num ∙ sym (book-ten _)) (λ w. q (sym (book-ten _) ∙ w)))))
 
   pub same-absent : Same g (add img key bytes mode) (addFound b key bytes mode (find key (b .entries)))
   unfolding addFound

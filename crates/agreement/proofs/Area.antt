@@ -9,10 +9,10 @@ use native.Mathlib.Omega.{arith}
 use mathlib.Core.Logic.{inl, inr}
 use mathlib.Core.Bool.{true, _&&_}
 use mathlib.Core.List.{[], _∷_, _++_}
-use mathlib.Core.Option.{Option, none, some, Option·none-ne-some}
+use mathlib.Core.Option.{Option, none, some}
 use lib.ListN.{length, length-append}
 use lib.Dec.{eqb, leb, ltb}
-use borrow.Author.Tests.{leb-true, lt-leb, eqb-false}
+use borrow.Author.Tests.{leb-true, eq-eqb, ne-eqb}
 use Rattle.bhtf.specs.Bytes.{Bytes, part, zeros}
 use Rattle.bhtf.specs.Limits.{inactive, pointsField, freeField}
 use Rattle.bhtf.specs.Image.{field, setField, Layout, layoutOf, slotSize, slot, putSlot, offsetOf, slotBytes}
@@ -21,7 +21,7 @@ use Rattle.bhtf.specs.Messages.{headSize, held, message, takeSpace, retire, ove
 use Rattle.bhtf.specs.Delete.{deletedAt}
 use Rattle.bhtf.specs.Questions.{nameAllowed, modeKnown, messageSound, somePoint, lengthAllowed, spaceLeft, openNumber, addNumber, deleteNumber, placeNumber}
 use Rattle.bhtf.specs.Calls.{add, delete}
-use Rattle.bhtf.proofs.Tests.{by-bool, by-le, by-eq, and-left}
+use Rattle.bhtf.proofs.Tests.{by-bool, by-eq, and-left}
 use Rattle.bhtf.proofs.Bytes.{Apart, part-store-other, length-zeros}
 use Rattle.bhtf.proofs.Slots.{part-setField-other, part-putSlot-outside, length-putSlot, length-setField, length-entry}
 use Rattle.bhtf.proofs.Opened.{Opened, opened-facts, opened-room, firstNo-head, firstNo-tail}
@@ -30,7 +30,8 @@ use Rattle.bhtf.proofs.Probe.{search-met, search-empty, by-search}
 use Rattle.bhtf.proofs.Kept.{kept-layout}
 use Rattle.bhtf.proofs.Effects.{area-above, message-end, active-some, by-retire, retire-kept, retire-field, retire-opened, length-message, Spaced, spaced, space-kept, space-opened}
 use Rattle.bhtf.proofs.Frames.{part-closed}
-use Rattle.bhtf.proofs.Stretch.{size, held-some}
+use Rattle.bhtf.proofs.Texts.{replaced-held}
+use Rattle.bhtf.proofs.Stretch.{size, held-none, held-some}
 use Rattle.agreement.proofs.File.{allowed-length}
 
 -- the n bytes from p on have none in common with the message at the offset
@@ -142,23 +143,13 @@ module _ (img : Bytes) (o : Opened img) (p n : ℕ) (low : layoutOf img .D ≤ p
       unfolding renewed
       renew-keeps bytes mode (some t) q h = relocate-keeps t h
       renew-keeps bytes mode none q h =
-          by-bool (eqb mode 2)
-          (λ two. rw two (by-bool (eqb (length bytes) 0)
-          (λ z. rw z (retire-keeps img o p n low at s c))
-          (λ z. rw z
-          (let le : length bytes ≤ held (layoutOf img) img at = in-place bytes mode two q in
-          overwrite-keeps img o p n low at s c (λ w. eqb-false (length bytes) 0 z (omega (arith, le, held-zero w))) bytes le))))
-          (λ other. rw other refl)
-        where
-          held-zero : at ≡ 0 → held (layoutOf img) img at ≡ 0
-          held-zero w = unfold held in rw w refl
-
-          in-place : (bytes : Bytes) (mode : ℕ) → eqb mode 2 ≡ true → renewedText (layoutOf img) img at bytes mode ≡ none
-              → length bytes ≤ held (layoutOf img) img at
-          in-place bytes mode two q =
-              by-le (length bytes) (held (layoutOf img) img at)
-              (λ le. le)
-              (λ lt. absurd (Option·none-ne-some bytes (sym q ∙ (unfold renewedText in rw (two, lt-leb _ _ lt) refl))))
+          by-eq mode 2
+          (λ two. rw two (by-eq (length bytes) 0
+          (λ z. rw (eq-eqb (length bytes) 0 z) (retire-keeps img o p n low at s c))
+          (λ z. rw (ne-eqb (length bytes) 0 z)
+          (let le = replaced-held (layoutOf img) img i at key bytes (rw two at q) in
+          overwrite-keeps img o p n low at s c (λ w. z (omega (arith, le, held-none (layoutOf img) img at w))) bytes le))))
+          (λ other. rw (ne-eqb mode 2 other) refl)
 
 -- ---- the calls
 

@@ -28,7 +28,7 @@ use Rattle.bhtf.proofs.Stretch.{lies-sound}
 use Rattle.agreement.proofs.File.{Allowed, pointOf, pointOf-none, File, file-some, file-most, file-room, Change, file-change, change-trans, change-any}
 use Rattle.agreement.proofs.Retire.{retire-change, retire-slot, retire-field}
 use Rattle.agreement.proofs.Space.{written-value, space-change, space-file, space-is, space-written, space-some, space-lies, space-away}
-use Rattle.agreement.proofs.Slots.{Fresh, set-change, set-point, set-field, enter-change, enter-point, enter-points, enter-free}
+use Rattle.agreement.proofs.Slots.{Unshared, set-change, set-point, set-field, enter-change, enter-point, enter-points, enter-free}
 use Rattle.agreement.proofs.Entries.{length-withEntry-new, length-withEntry-old}
 use Rattle.agreement.proofs.Reflect.{Reflects, reflect-entered}
 use Rattle.agreement.proofs.Simple.{found-met}
@@ -76,10 +76,10 @@ module _ (g : Layout) (img : Bytes) (b : Book) (r : Reflects g img b) (t : Bytes
 -- ---- a message that was placed, and its point's slot
 
 -- the new message is sound, and meets no other point's
-fresh-space : (g : Layout) (img : Bytes) (f : File g img) (t : Bytes) (s : length t < 256 ^ g .W)
+unshared-space : (g : Layout) (img : Bytes) (f : File g img) (t : Bytes) (s : length t < 256 ^ g .W)
     (l : field img freeField + headSize g + length t ≤ length img) → leastLength ≤ length t → (key : Bytes)
-    → Fresh g (takeSpace g img t) key (field img freeField)
-fresh-space g img f t s l le key =
+    → Unshared g (takeSpace g img t) key (field img freeField)
+unshared-space g img f t s l le key =
     record {
       stored =
           record {
@@ -134,8 +134,8 @@ module _ (g : Layout) (img : Bytes) (b : Book) (r : Reflects g img b) (key : Byt
         ∙ search-frame g img off key (file-some (r .file)) (retire-slot g img (r .file) key (slot g img i) a e₁)
         ∙ m
 
-    fresh₁ : Fresh g spaced key (field off freeField)
-    fresh₁ = fresh-space g off off-file t s₁ off-fits least key
+    own₁ : Unshared g spaced key (field off freeField)
+    own₁ = unshared-space g off off-file t s₁ off-fits least key
 
     abbrev final : Bytes
     final = putSlot g spaced i (slotBytes key (field off freeField))
@@ -145,23 +145,23 @@ module _ (g : Layout) (img : Bytes) (b : Book) (r : Reflects g img b) (key : Byt
         change-trans g img off final key off-change
         (change-trans g off spaced final key
         (change-any g off spaced off-file (space-change g off off-file t s₁ off-fits) key)
-        (set-change g spaced spaced-file key a (field off freeField) fresh₁ i spaced-met))
+        (set-change g spaced spaced-file key a (field off freeField) own₁ i spaced-met))
 
     final-point : pointOf g final key ≡ some (record { name = key; text = t; held = length t })
     final-point =
-        set-point g spaced spaced-file key a (field off freeField) fresh₁ i spaced-met
+        set-point g spaced spaced-file key a (field off freeField) own₁ i spaced-met
         ∙ ap some
         (written-value g spaced (field off freeField) t (space-written g off off-file t s₁ off-fits) (space-some g off off-file t s₁ off-fits) key)
 
     final-free : field final freeField ≡ x + (b .terms .head + length t)
     final-free =
-        set-field g spaced spaced-file key a (field off freeField) fresh₁ i spaced-met freeField (omega arith)
+        set-field g spaced spaced-file key a (field off freeField) own₁ i spaced-met freeField (omega arith)
         ∙ space-is g off off-file t s₁ off-fits .free
         ∙ omega (arith, off-free, more-is g img b r (length t))
 
     final-points : field final pointsField ≡ field img pointsField
     final-points =
-        set-field g spaced spaced-file key a (field off freeField) fresh₁ i spaced-met pointsField (omega arith)
+        set-field g spaced spaced-file key a (field off freeField) own₁ i spaced-met pointsField (omega arith)
         ∙ space-is g off off-file t s₁ off-fits .points
         ∙ retire-field g img (r .file) key (slot g img i) a e₁ pointsField (omega arith)
 
@@ -186,8 +186,8 @@ module _ (g : Layout) (img : Bytes) (b : Book) (r : Reflects g img b) (key : Byt
     wide-room : field wide pointsField < g .N
     wide-room = rw (space-is g img (r .file) t s₁ l₁ .points) room
 
-    fresh₂ : Fresh g wide key x
-    fresh₂ = fresh-space g img (r .file) t s₁ l₁ least key
+    own₂ : Unshared g wide key x
+    own₂ = unshared-space g img (r .file) t s₁ l₁ least key
 
     absent : find key (b .entries) ≡ none
     absent = sym (r .points key a) ∙ pointOf-none g img key (entry-empty g img key i m)
@@ -198,12 +198,12 @@ module _ (g : Layout) (img : Bytes) (b : Book) (r : Reflects g img b) (key : Byt
         reflect-entered g img (enter g wide i key x) key b r a
         (change-trans g img wide (enter g wide i key x) key
         (change-any g img wide (r .file) (space-change g img (r .file) t s₁ l₁) key)
-        (enter-change g wide wide-file key a x fresh₂ i wide-empty wide-room))
+        (enter-change g wide wide-file key a x own₂ i wide-empty wide-room))
         t (length t) (b .terms .head + length t)
-        (enter-point g wide wide-file key a x fresh₂ i wide-empty wide-room
+        (enter-point g wide wide-file key a x own₂ i wide-empty wide-room
         ∙ ap some (written-value g wide x t (space-written g img (r .file) t s₁ l₁) (space-some g img (r .file) t s₁ l₁) key))
-        (enter-free g wide wide-file key a x fresh₂ i wide-empty wide-room
+        (enter-free g wide wide-file key a x own₂ i wide-empty wide-room
         ∙ space-is g img (r .file) t s₁ l₁ .free
         ∙ omega (arith, more-is g img b r (length t)))
         (length-withEntry-new _ (b .entries) absent
-        ∙ omega (arith, r .number, enter-points g wide wide-file key a x fresh₂ i wide-empty wide-room, space-is g img (r .file) t s₁ l₁ .points))
+        ∙ omega (arith, r .number, enter-points g wide wide-file key a x own₂ i wide-empty wide-room, space-is g img (r .file) t s₁ l₁ .points))

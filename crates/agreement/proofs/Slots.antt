@@ -29,17 +29,17 @@ use Rattle.agreement.proofs.File.{Allowed, allowed-length, allowed-zero
 -- ---- a step that leaves the data area alone and writes the offset x into the point's slot
 
 -- x is 0, or a sound message that no other point's meets
-pub record Fresh (g : Layout) (img key : Bytes) (x : ℕ) : Type 0 where
+pub record Unshared (g : Layout) (img key : Bytes) (x : ℕ) : Type 0 where
   pub stored : Stored g img x
   pub small : x < word
   pub away : (x ≡ 0 → ⊥) → (key′ s′ : Bytes) → Allowed g key′ → (key′ ≡ key → ⊥) → entryOf g img key′ ≡ some s′
       → (offsetOf g s′ ≡ 0 → ⊥) → Apart x (size g img x) (offsetOf g s′) (size g img (offsetOf g s′))
 
-pub fresh-none : (g : Layout) (img key : Bytes) → Fresh g img key 0
-fresh-none g img key =
+pub unshared-none : (g : Layout) (img key : Bytes) → Unshared g img key 0
+unshared-none g img key =
     record { stored = none-stored g img; small = omega arith; away = λ z. absurd (z refl) }
 
-module _ (g : Layout) (img : Bytes) (f : File g img) (key : Bytes) (a : Allowed g key) (x : ℕ) (fr : Fresh g img key x)
+module _ (g : Layout) (img : Bytes) (f : File g img) (key : Bytes) (a : Allowed g key) (x : ℕ) (fr : Unshared g img key x)
     (img′ : Bytes) (k : Kept img img′) (free : field img′ freeField ≡ field img freeField)
     (same-on : (p n : ℕ) → g .D ≤ p → SameOn img img′ p n) (e : entryOf g img′ key ≡ some (slotBytes key x)) where
   -- the offset is read back
@@ -101,7 +101,7 @@ module _ (g : Layout) (img : Bytes) (f : File g img) (i : ℕ) (s : Bytes) (l : 
 
 -- ---- the offset x written into the slot where the point was met
 
-module _ (g : Layout) (img : Bytes) (f : File g img) (key : Bytes) (a : Allowed g key) (x : ℕ) (fr : Fresh g img key x) (i : ℕ)
+module _ (g : Layout) (img : Bytes) (f : File g img) (key : Bytes) (a : Allowed g key) (x : ℕ) (fr : Unshared g img key x) (i : ℕ)
     (m : search g img key ≡ met i) where
   set-lt : i < g .N
   set-lt = search-met g img key (file-some f) i m .0
@@ -145,7 +145,7 @@ module _ (g : Layout) (img : Bytes) (f : File g img) (key : Bytes) (a : Allowed 
 
 -- ---- a new point, in the empty slot where its search ended
 
-module _ (g : Layout) (img : Bytes) (f : File g img) (key : Bytes) (a : Allowed g key) (x : ℕ) (fr : Fresh g img key x) (i : ℕ)
+module _ (g : Layout) (img : Bytes) (f : File g img) (key : Bytes) (a : Allowed g key) (x : ℕ) (fr : Unshared g img key x) (i : ℕ)
     (m : search g img key ≡ empty i) (room : field img pointsField < g .N) where
   put : Bytes
   put = putSlot g img i (slotBytes key x)

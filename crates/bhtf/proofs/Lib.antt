@@ -20,3 +20,4 @@ pub mod Verdict
 pub mod Outcomes
 pub mod Stretch
 pub mod Effects
+pub mod Texts

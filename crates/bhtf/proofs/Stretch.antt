@@ -23,7 +23,11 @@ use Rattle.bhtf.proofs.Bytes.{Apart, part-store-other}
 abbrev pub size : Layout → Bytes → ℕ → ℕ
 size g img o = headSize g + lengthAt g img o
 
--- the length at an offset is what the message there holds
+-- no offset holds nothing; the length at an offset is what the message there holds
+pub held-none : (g : Layout) (img : Bytes) (o : ℕ) → o ≡ 0 → held g img o ≡ 0
+unfolding held
+held-none g img o z = rw z refl
+
 pub held-some : (g : Layout) (img : Bytes) (o : ℕ) → (o ≡ 0 → ⊥) → held g img o ≡ lengthAt g img o
 unfolding held
 held-some g img o z = rw (ne-eqb o 0 z) refl
