@@ -31,7 +31,7 @@ use Rattle.agreement.proofs.Slots.{unshared-none, enter-change, enter-p
 use Rattle.agreement.proofs.Entries.{length-withEntry-new}
 use Rattle.agreement.proofs.Reflect.{Reflects, reflect-entered}
 use Rattle.agreement.proofs.Simple.{Same, same-refused, same-accepted, open₀, found-none}
-use Rattle.agreement.proofs.Place.{room-both, room-length, room-space, insert}
+use Rattle.agreement.proofs.Place.{place-both, place-length, place-space, insert}
 
 -- ---- a point that is absent
 
@@ -67,8 +67,8 @@ module _ (g : Layout) (img : Bytes) (b : Book) (r : Reflects g img b) (key : Byt
 
   -- ---- with an empty slot
   module _ (i : ℕ) (m : search g img key ≡ empty i) (lt : ltb (field img pointsField) (g .N) ≡ true) where
-    room : field img pointsField < g .N
-    room = ltb-true _ _ lt
+    left : field img pointsField < g .N
+    left = ltb-true _ _ lt
 
     -- 12 and 13 decide, of the text p to be placed
     empty-number : (p : Option Bytes) → freshText bytes mode ≡ p → addNumber img key bytes mode ≡ placeNumber g img p
@@ -87,11 +87,11 @@ module _ (g : Layout) (img : Bytes) (b : Book) (r : Reflects g img b) (key : Byt
     bare : Reflects g (enter g img i key 0) (entered b key [] 0 0)
     bare =
         reflect-entered g img (enter g img i key 0) key b r a
-        (enter-change g img (r .file) key a 0 (unshared-none g img key) i m room) [] 0 0
-        (enter-point g img (r .file) key a 0 (unshared-none g img key) i m room ∙ none-is)
-        (enter-free g img (r .file) key a 0 (unshared-none g img key) i m room ∙ sym (add-zero (field img freeField)))
+        (enter-change g img (r .file) key a 0 (unshared-none g img key) i m left) [] 0 0
+        (enter-point g img (r .file) key a 0 (unshared-none g img key) i m left ∙ none-is)
+        (enter-free g img (r .file) key a 0 (unshared-none g img key) i m left ∙ sym (add-zero (field img freeField)))
         (length-withEntry-new _ (b .entries) not-found
-        ∙ omega (arith, r .number, enter-points g img (r .file) key a 0 (unshared-none g img key) i m room))
+        ∙ omega (arith, r .number, enter-points g img (r .file) key a 0 (unshared-none g img key) i m left))
       where
         none-is : some (valueOf g img key 0) ≡ some (record { name = key; text = []; held = 0 })
         none-is = unfold shown held isActive in refl
@@ -110,12 +110,12 @@ module _ (g : Layout) (img : Bytes) (b : Book) (r : Reflects g img b) (key : Byt
         (rw (after-empty none fr) (unfold inserted in bare))))
         (λ z.
         let fr = fresh-some bytes mode z in
-        let num : n ≡ firstNo (roomAsks b (length bytes)) = empty-number (some bytes) fr ∙ room-both g img b r bytes in
+        let num : n ≡ firstNo (roomAsks b (length bytes)) = empty-number (some bytes) fr ∙ place-both g img b r bytes in
         rw (ne-eqb (length bytes) 0 z)
         (by-eq (firstNo (roomAsks b (length bytes))) 0
         (λ q. same-accepted g img b r n _ _ _ (num ∙ q) (book-ten _ ∙ q)
         (rw (after-empty (some bytes) fr) 
-        (insert g img b r key a bytes (omega arith) (room-length g img b r bytes q) (room-space g img b r bytes q) i m room)))
+        (insert g img b r key a bytes (omega arith) (place-length g img b r bytes q) (place-space g img b r bytes q) i m left)))
         (λ q. same-refused g img b r n _ _ _ (num ∙ sym (book-ten _)) (λ w. q (sym (book-ten _) ∙ w)))))
 
   pub same-absent : Same g (add img key bytes mode) (addFound b key bytes mode (find key (b .entries)))

@@ -31,12 +31,12 @@ use Rattle.bhtf.proofs.Kept.{kept-layout}
 use Rattle.bhtf.proofs.Effects.{area-above, message-end, active-some, by-retire, retire-kept, retire-field, retire-opened, length-message, Spaced, spaced, space-kept, space-opened}
 use Rattle.bhtf.proofs.Frames.{part-closed}
 use Rattle.bhtf.proofs.Texts.{replaced-held}
-use Rattle.bhtf.proofs.Stretch.{size, held-none, held-some}
+use Rattle.bhtf.proofs.Stretch.{span, held-none, held-some}
 use Rattle.agreement.proofs.File.{allowed-length}
 
 -- the n bytes from p on have none in common with the message at the offset
 abbrev Off : Bytes → ℕ → ℕ → ℕ → Type 0
-Off img at p n = (at ≡ 0 → ⊥) → Apart p n at (size (layoutOf img) img at)
+Off img at p n = (at ≡ 0 → ⊥) → Apart p n at (span (layoutOf img) img at)
 
 -- ---- each effect
 
@@ -54,7 +54,7 @@ module _ (img : Bytes) (o : Opened img) (p n : ℕ) (low : layoutOf img .D ≤ p
       (λ h lo hi. part-store-other img at (inactive ∷ []) p n hi (letter (c (active-some img at h))))
       (λ h. refl)
     where
-      letter : Apart p n at (size g img at) → Apart p n at 1
+      letter : Apart p n at (span g img at) → Apart p n at 1
       letter (inl h) = inl h
       letter (inr h) = inr (unfold headSize in omega arith)
 
@@ -62,7 +62,7 @@ module _ (img : Bytes) (o : Opened img) (p n : ℕ) (low : layoutOf img .D ≤ p
       → part (overwrite g img at t) p n ≡ part img p n
   unfolding overwrite
   overwrite-keeps at s c z t le =
-      let len : length (message (g .W) t ++ zeros (held g img at - length t)) ≡ size g img at =
+      let len : length (message (g .W) t ++ zeros (held g img at - length t)) ≡ span g img at =
       length-append (message (g .W) t) (zeros (held g img at - length t))
       ∙ ap₂ _+_ (length-message g t) (length-zeros (held g img at - length t))
       ∙ omega (arith, held-some g img at z, le) in
@@ -158,7 +158,7 @@ abbrev pub Clear : Bytes → Bytes → ℕ → ℕ → Type 0
 Clear img key p n =
     (i : ℕ) → search (layoutOf img) img key ≡ met i → (offsetOf (layoutOf img) (slot (layoutOf img) img i) ≡ 0 → ⊥)
     → Apart p n (offsetOf (layoutOf img) (slot (layoutOf img) img i))
-    (size (layoutOf img) img (offsetOf (layoutOf img) (slot (layoutOf img) img i)))
+    (span (layoutOf img) img (offsetOf (layoutOf img) (slot (layoutOf img) img i)))
 
 module _ (img key : Bytes) (p n : ℕ) (low : layoutOf img .D ≤ p) (c : Clear img key p n) where
   abbrev G : Layout

@@ -27,8 +27,8 @@ use Rattle.bhtf.proofs.Bytes.{Apart, apart-sym, by-same}
 use Rattle.bhtf.proofs.Slots.{Room, layout-most}
 use Rattle.bhtf.proofs.Opened.{Opened, opened-room}
 use Rattle.bhtf.proofs.Kept.{Kept, kept-trans, kept-layout, opened-known}
-use Rattle.bhtf.proofs.Table.{Sound, entryOf, weight}
-use Rattle.bhtf.proofs.Stretch.{size, Stored, SameOn, same-on-trans, size-same, shown-same, held-same, stored-same}
+use Rattle.bhtf.proofs.Table.{Findable, entryOf, weight}
+use Rattle.bhtf.proofs.Stretch.{span, Stored, SameOn, same-on-trans, span-same, shown-same, held-same, stored-same}
 
 -- ---- names
 
@@ -70,7 +70,7 @@ unfolding shown held isActive
 none-value g img img′ key = refl
 
 -- a point whose message's stretch is the same has the same value
-pub value-same : (g : Layout) (img img′ key : Bytes) (o : ℕ) → ((o ≡ 0 → ⊥) → SameOn img img′ o (size g img o))
+pub value-same : (g : Layout) (img img′ key : Bytes) (o : ℕ) → ((o ≡ 0 → ⊥) → SameOn img img′ o (span g img o))
     → valueOf g img′ key o ≡ valueOf g img key o
 value-same g img img′ key o same-on =
     by-eq o 0
@@ -88,12 +88,12 @@ by-entry (some s) n y = y s refl
 pub record File (g : Layout) (img : Bytes) : Type 0 where
   pub layout : layoutOf img ≡ g
   pub opened : Opened img
-  pub table : Sound g img
+  pub table : Findable g img
   pub counted : field img pointsField ≡ weight g img (λ s. 1)
   pub messages : (key s : Bytes) → Allowed g key → entryOf g img key ≡ some s → Stored g img (offsetOf g s)
   pub apart : (key key′ s s′ : Bytes) → Allowed g key → Allowed g key′ → (key ≡ key′ → ⊥)
       → entryOf g img key ≡ some s → entryOf g img key′ ≡ some s′ → (offsetOf g s ≡ 0 → ⊥) → (offsetOf g s′ ≡ 0 → ⊥)
-      → Apart (offsetOf g s) (size g img (offsetOf g s)) (offsetOf g s′) (size g img (offsetOf g s′))
+      → Apart (offsetOf g s) (span g img (offsetOf g s)) (offsetOf g s′) (span g img (offsetOf g s′))
 
 -- the header's numbers by the layout
 module _ {g : Layout} {img : Bytes} (f : File g img) where
@@ -129,15 +129,15 @@ pub record Change (g : Layout) (img img′ key : Bytes) : Type 0 where
   pub free-low : field img freeField ≤ field img′ freeField
   pub free-high : field img′ freeField ≤ length img
   pub points : field img′ pointsField ≤ g .N
-  pub sound : Sound g img′
+  pub table : Findable g img′
   pub counted : field img′ pointsField ≡ weight g img′ (λ s. 1)
   pub others : (key′ : Bytes) → Allowed g key′ → (key′ ≡ key → ⊥) → entryOf g img′ key′ ≡ entryOf g img key′
   pub still : (key′ s : Bytes) → Allowed g key′ → (key′ ≡ key → ⊥) → entryOf g img key′ ≡ some s → (offsetOf g s ≡ 0 → ⊥)
-      → SameOn img img′ (offsetOf g s) (size g img (offsetOf g s))
+      → SameOn img img′ (offsetOf g s) (span g img (offsetOf g s))
   pub here : (s : Bytes) → Allowed g key → entryOf g img′ key ≡ some s → Stored g img′ (offsetOf g s)
   pub here-apart : (s key′ s′ : Bytes) → Allowed g key → Allowed g key′ → (key′ ≡ key → ⊥)
       → entryOf g img′ key ≡ some s → entryOf g img key′ ≡ some s′ → (offsetOf g s ≡ 0 → ⊥) → (offsetOf g s′ ≡ 0 → ⊥)
-      → Apart (offsetOf g s) (size g img′ (offsetOf g s)) (offsetOf g s′) (size g img (offsetOf g s′))
+      → Apart (offsetOf g s) (span g img′ (offsetOf g s)) (offsetOf g s′) (span g img (offsetOf g s′))
 
 module _ (g : Layout) (img img′ key : Bytes) (f : File g img) (c : Change g img img′ key) where
   -- an entry of another point was there before
@@ -145,8 +145,8 @@ module _ (g : Layout) (img img′ key : Bytes) (f : File g img) (c : Change g im
   before key′ s a n e = sym (c .others key′ a n) ∙ e
 
   other-size : (key′ s : Bytes) → Allowed g key′ → (key′ ≡ key → ⊥) → entryOf g img key′ ≡ some s → (offsetOf g s ≡ 0 → ⊥)
-      → size g img′ (offsetOf g s) ≡ size g img (offsetOf g s)
-  other-size key′ s a n e z = size-same g img img′ (offsetOf g s) (c .still key′ s a n e z)
+      → span g img′ (offsetOf g s) ≡ span g img (offsetOf g s)
+  other-size key′ s a n e z = span-same g img img′ (offsetOf g s) (c .still key′ s a n e z)
 
   new-messages : (k s : Bytes) → Allowed g k → entryOf g img′ k ≡ some s → Stored g img′ (offsetOf g s)
   new-messages k s a e =
@@ -158,7 +158,7 @@ module _ (g : Layout) (img img′ key : Bytes) (f : File g img) (c : Change g im
 
   new-apart : (k k′ s s′ : Bytes) → Allowed g k → Allowed g k′ → (k ≡ k′ → ⊥)
       → entryOf g img′ k ≡ some s → entryOf g img′ k′ ≡ some s′ → (offsetOf g s ≡ 0 → ⊥) → (offsetOf g s′ ≡ 0 → ⊥)
-      → Apart (offsetOf g s) (size g img′ (offsetOf g s)) (offsetOf g s′) (size g img′ (offsetOf g s′))
+      → Apart (offsetOf g s) (span g img′ (offsetOf g s)) (offsetOf g s′) (span g img′ (offsetOf g s′))
   new-apart k k′ s s′ a a′ n e e′ z z′ =
       by-same k key
       (λ q. by-same k′ key
@@ -182,7 +182,7 @@ module _ (g : Layout) (img img′ key : Bytes) (f : File g img) (c : Change g im
         opened =
             opened-known (c .kept) (f .opened) (c .known) (rw (file-slots f) (c .points))
             (omega (arith, f .opened .free-low, c .free-low)) (c .free-high);
-        table = c .sound;
+        table = c .table;
         counted = c .counted;
         messages = new-messages;
         apart = new-apart;
@@ -205,8 +205,8 @@ module _ (g : Layout) (img img₁ img₂ key : Bytes) (c : Change g img img₁ k
   on₁ key′ s a n e = c .others key′ a n ∙ e
 
   size₁ : (key′ s : Bytes) → Allowed g key′ → (key′ ≡ key → ⊥) → entryOf g img key′ ≡ some s → (offsetOf g s ≡ 0 → ⊥)
-      → size g img₁ (offsetOf g s) ≡ size g img (offsetOf g s)
-  size₁ key′ s a n e z = size-same g img img₁ (offsetOf g s) (c .still key′ s a n e z)
+      → span g img₁ (offsetOf g s) ≡ span g img (offsetOf g s)
+  size₁ key′ s a n e z = span-same g img img₁ (offsetOf g s) (c .still key′ s a n e z)
 
   pub change-trans : Change g img img₂ key
   change-trans =
@@ -216,7 +216,7 @@ module _ (g : Layout) (img img₁ img₂ key : Bytes) (c : Change g img img₁ k
         free-low = omega (arith, c .free-low, d .free-low);
         free-high = omega (arith, d .free-high, c .kept .size);
         points = d .points;
-        sound = d .sound;
+        table = d .table;
         counted = d .counted;
         others = λ key′ a n. d .others key′ a n ∙ c .others key′ a n;
         still =
@@ -226,7 +226,7 @@ module _ (g : Layout) (img img₁ img₂ key : Bytes) (c : Change g img img₁ k
         here = d .here;
         here-apart =
             λ s key′ s′ a a′ n e e′ z z′.
-            subst (λ (m : ℕ). Apart (offsetOf g s) (size g img₂ (offsetOf g s)) (offsetOf g s′) m) (size₁ key′ s′ a′ n e′ z′)
+            subst (λ (m : ℕ). Apart (offsetOf g s) (span g img₂ (offsetOf g s)) (offsetOf g s′) m) (size₁ key′ s′ a′ n e′ z′)
             (d .here-apart s key′ s′ a a′ n e (on₁ key′ s′ a′ n e′) z z′);
       }
 
@@ -243,14 +243,14 @@ module _ (g : Layout) (img img′ : Bytes) (f : File g img) (c : Change g img im
         free-low = c .free-low;
         free-high = c .free-high;
         points = c .points;
-        sound = c .sound;
+        table = c .table;
         counted = c .counted;
         others = λ key′ a n. c .others key′ a (none-of key′ a);
         still = λ key′ s a n e z. c .still key′ s a (none-of key′ a) e z;
         here = λ s a e. file-change g img img′ [] f c .messages key s a e;
         here-apart =
             λ s key′ s′ a a′ n e e′ z z′.
-            subst (λ (m : ℕ). Apart (offsetOf g s) (size g img′ (offsetOf g s)) (offsetOf g s′) m)
-            (size-same g img img′ (offsetOf g s′) (c .still key′ s′ a′ (none-of key′ a′) e′ z′))
+            subst (λ (m : ℕ). Apart (offsetOf g s) (span g img′ (offsetOf g s)) (offsetOf g s′) m)
+            (span-same g img img′ (offsetOf g s′) (c .still key′ s′ a′ (none-of key′ a′) e′ z′))
             (file-change g img img′ [] f c .apart key key′ s s′ a a′ (λ q. n (sym q)) e (c .others key′ a′ (none-of key′ a′) ∙ e′) z z′);
       }

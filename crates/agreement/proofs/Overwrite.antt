@@ -20,8 +20,9 @@ use Rattle.bhtf.proofs.Slots.{slot-store-data, field-store-other}
 use Rattle.bhtf.proofs.Kept.{kept-store}
 use Rattle.bhtf.proofs.Effects.{length-message}
 use Rattle.bhtf.proofs.Table.{entryOf}
-use Rattle.bhtf.proofs.Stretch.{size, Lies, lies-sound, same-on-store, held-some}
-use Rattle.agreement.proofs.Data.{frame-entry, file-above, point-change, point-lies, point-end}
+use Rattle.bhtf.proofs.Probe.{entryOf-frame}
+use Rattle.bhtf.proofs.Stretch.{span, Lies, lies-sound, same-on-store, held-some}
+use Rattle.agreement.proofs.Data.{file-above, point-change, point-lies, point-end}
 use Rattle.agreement.proofs.Space.{Written, written, written-value, written-lies}
 use Rattle.agreement.proofs.File.{Allowed, pointOf, pointOf-some, File, file-room, file-some, Change}
 
@@ -36,7 +37,7 @@ module _ (g : Layout) (img : Bytes) (f : File g img) (key s : Bytes) (a : Allowe
   lies : Lies g img (offsetOf g s)
   lies = point-lies g img f key s a e z
 
-  length-bytes : length bytes ≡ size g img (offsetOf g s)
+  length-bytes : length bytes ≡ span g img (offsetOf g s)
   unfolding bytes
   length-bytes =
       length-append (message (g .W) t) (zeros (held g img (offsetOf g s) - length t))
@@ -90,5 +91,5 @@ module _ (g : Layout) (img : Bytes) (f : File g img) (key s : Bytes) (a : Allowe
   pub overwrite-point : pointOf g (overwrite g img (offsetOf g s) t) key ≡ some (record { name = key; text = t; held = length t })
   overwrite-point =
       rw is-overwrite
-      (pointOf-some g (store img (offsetOf g s) bytes) key s (frame-entry g img _ (file-some f) now-slot key ∙ e)
+      (pointOf-some g (store img (offsetOf g s) bytes) key s (entryOf-frame g img _ key (file-some f) now-slot ∙ e)
       ∙ ap some (written-value g (store img (offsetOf g s) bytes) (offsetOf g s) t now-written z key))

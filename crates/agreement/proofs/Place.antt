@@ -1,6 +1,6 @@
 -- Messages in new space: the file's questions 12 and 13 are the book's, and the relation is kept by an insert and a relocation.
---     room-both                  questions 12 and 13, of the file and of the book
---     room-length, room-space    what a yes to both gives
+--     place-both                  questions 12 and 13, of the file and of the book
+--     place-length, place-space    what a yes to both gives
 --     relocate, insert           the relation after a message is placed, of any length that is allowed where there is space
 -- Assumes nothing.
 use mathlib.Core.Path.{_≡_, sym, ap, ap₂, _∙_, subst}
@@ -42,9 +42,9 @@ leb-shift D U x L k e h =
     (λ l. lt-leb (x + k) L l ∙ sym (lt-leb (U + k) (L - D) (omega arith)))
 
 module _ (g : Layout) (img : Bytes) (b : Book) (r : Reflects g img b) (t : Bytes) where
-  pub room-both : placeNumber g img (some t) ≡ firstNo (roomAsks b (length t))
+  pub place-both : placeNumber g img (some t) ≡ firstNo (roomAsks b (length t))
   unfolding lengthAllowed spaceLeft roomAsks
-  room-both =
+  place-both =
       ap₂ (λ (x y : Bool). firstNo (ask 12 x ∷ ask 13 y ∷ []))
       (ap (λ (m : Terms). leb (length t) (m .most)) (sym (r .terms)))
       (ap (λ (n : ℕ). leb n (length img)) (regroup (field img freeField))
@@ -56,15 +56,15 @@ module _ (g : Layout) (img : Bytes) (b : Book) (r : Reflects g img b) (t : Bytes
       regroup n = omega arith
 
   -- what a yes to both gives
-  pub room-length : firstNo (roomAsks b (length t)) ≡ 0 → length t ≤ g .most
+  pub place-length : firstNo (roomAsks b (length t)) ≡ 0 → length t ≤ g .most
   unfolding roomAsks
-  room-length h =
+  place-length h =
       let yes = firstNo-head 12 (leb (length t) (b .terms .most)) _ (λ z. omega arith) h in
       omega (arith, leb-true (length t) (b .terms .most) yes, ap (λ (m : Terms). m .most) (r .terms))
 
-  pub room-space : firstNo (roomAsks b (length t)) ≡ 0 → field img freeField + headSize g + length t ≤ length img
+  pub place-space : firstNo (roomAsks b (length t)) ≡ 0 → field img freeField + headSize g + length t ≤ length img
   unfolding roomAsks
-  room-space h =
+  place-space h =
       let le : b .used + b .terms .head + length t ≤ b .terms .R =
       leb-true _ _
       (firstNo-head 13 (leb (b .used + b .terms .head + length t) (b .terms .R)) [] (λ z. omega arith)
@@ -122,58 +122,58 @@ module _ (g : Layout) (img : Bytes) (b : Book) (r : Reflects g img b) (key : Byt
     off-fits : field off freeField + headSize g + length t ≤ length off
     off-fits = rw (off-free, off-change .kept .size) l₁
 
-    abbrev spaced : Bytes
-    spaced = takeSpace g off t
+    abbrev grown : Bytes
+    grown = takeSpace g off t
 
-    spaced-file : File g spaced
-    spaced-file = space-file g off off-file t s₁ off-fits
+    grown-file : File g grown
+    grown-file = space-file g off off-file t s₁ off-fits
 
-    spaced-met : search g spaced key ≡ met i
-    spaced-met =
-        search-frame g off spaced key (file-some (r .file)) (space-is g off off-file t s₁ off-fits .slots)
+    grown-met : search g grown key ≡ met i
+    grown-met =
+        search-frame g off grown key (file-some (r .file)) (space-is g off off-file t s₁ off-fits .slots)
         ∙ search-frame g img off key (file-some (r .file)) (retire-slot g img (r .file) key (slot g img i) a e₁)
         ∙ m
 
-    own₁ : Unshared g spaced key (field off freeField)
+    own₁ : Unshared g grown key (field off freeField)
     own₁ = unshared-space g off off-file t s₁ off-fits least key
 
     abbrev final : Bytes
-    final = putSlot g spaced i (slotBytes key (field off freeField))
+    final = putSlot g grown i (slotBytes key (field off freeField))
 
     final-change : Change g img final key
     final-change =
         change-trans g img off final key off-change
-        (change-trans g off spaced final key
-        (change-any g off spaced off-file (space-change g off off-file t s₁ off-fits) key)
-        (set-change g spaced spaced-file key a (field off freeField) own₁ i spaced-met))
+        (change-trans g off grown final key
+        (change-any g off grown off-file (space-change g off off-file t s₁ off-fits) key)
+        (set-change g grown grown-file key a (field off freeField) own₁ i grown-met))
 
     final-point : pointOf g final key ≡ some (record { name = key; text = t; held = length t })
     final-point =
-        set-point g spaced spaced-file key a (field off freeField) own₁ i spaced-met
+        set-point g grown grown-file key a (field off freeField) own₁ i grown-met
         ∙ ap some
-        (written-value g spaced (field off freeField) t (space-written g off off-file t s₁ off-fits) (space-some g off off-file t s₁ off-fits) key)
+        (written-value g grown (field off freeField) t (space-written g off off-file t s₁ off-fits) (space-some g off off-file t s₁ off-fits) key)
 
     final-free : field final freeField ≡ x + (b .terms .head + length t)
     final-free =
-        set-field g spaced spaced-file key a (field off freeField) own₁ i spaced-met freeField (omega arith)
+        set-field g grown grown-file key a (field off freeField) own₁ i grown-met freeField (omega arith)
         ∙ space-is g off off-file t s₁ off-fits .free
         ∙ omega (arith, off-free, more-is g img b r (length t))
 
     final-points : field final pointsField ≡ field img pointsField
     final-points =
-        set-field g spaced spaced-file key a (field off freeField) own₁ i spaced-met pointsField (omega arith)
+        set-field g grown grown-file key a (field off freeField) own₁ i grown-met pointsField (omega arith)
         ∙ space-is g off off-file t s₁ off-fits .points
         ∙ retire-field g img (r .file) key (slot g img i) a e₁ pointsField (omega arith)
 
     pub relocate : Reflects g (relocated g img i (offsetOf g (slot g img i)) key t) (placed b key t)
     unfolding relocated placed
     relocate =
-        subst (λ (y : ℕ). Reflects g (putSlot g spaced i (slotBytes key y)) (entered b key t (length t) (b .terms .head + length t))) off-free
+        subst (λ (y : ℕ). Reflects g (putSlot g grown i (slotBytes key y)) (entered b key t (length t) (b .terms .head + length t))) off-free
         (reflect-entered g img final key b r a final-change t (length t) (b .terms .head + length t) final-point final-free
         (length-withEntry-old _ (b .entries) _ (found-met g img b r key a i m) ∙ r .number ∙ sym final-points))
 
   -- "Add, key absent: the entry goes to the empty slot where the search ended"
-  module _ (i : ℕ) (m : search g img key ≡ empty i) (room : field img pointsField < g .N) where
+  module _ (i : ℕ) (m : search g img key ≡ empty i) (left : field img pointsField < g .N) where
     abbrev wide : Bytes
     wide = takeSpace g img t
 
@@ -183,8 +183,8 @@ module _ (g : Layout) (img : Bytes) (b : Book) (r : Reflects g img b) (key : Byt
     wide-empty : search g wide key ≡ empty i
     wide-empty = search-frame g img wide key (file-some (r .file)) (space-is g img (r .file) t s₁ l₁ .slots) ∙ m
 
-    wide-room : field wide pointsField < g .N
-    wide-room = rw (space-is g img (r .file) t s₁ l₁ .points) room
+    wide-left : field wide pointsField < g .N
+    wide-left = rw (space-is g img (r .file) t s₁ l₁ .points) left
 
     own₂ : Unshared g wide key x
     own₂ = unshared-space g img (r .file) t s₁ l₁ least key
@@ -198,12 +198,12 @@ module _ (g : Layout) (img : Bytes) (b : Book) (r : Reflects g img b) (key : Byt
         reflect-entered g img (enter g wide i key x) key b r a
         (change-trans g img wide (enter g wide i key x) key
         (change-any g img wide (r .file) (space-change g img (r .file) t s₁ l₁) key)
-        (enter-change g wide wide-file key a x own₂ i wide-empty wide-room))
+        (enter-change g wide wide-file key a x own₂ i wide-empty wide-left))
         t (length t) (b .terms .head + length t)
-        (enter-point g wide wide-file key a x own₂ i wide-empty wide-room
+        (enter-point g wide wide-file key a x own₂ i wide-empty wide-left
         ∙ ap some (written-value g wide x t (space-written g img (r .file) t s₁ l₁) (space-some g img (r .file) t s₁ l₁) key))
-        (enter-free g wide wide-file key a x own₂ i wide-empty wide-room
+        (enter-free g wide wide-file key a x own₂ i wide-empty wide-left
         ∙ space-is g img (r .file) t s₁ l₁ .free
         ∙ omega (arith, more-is g img b r (length t)))
         (length-withEntry-new _ (b .entries) absent
-        ∙ omega (arith, r .number, enter-points g wide wide-file key a x own₂ i wide-empty wide-room, space-is g img (r .file) t s₁ l₁ .points))
+        ∙ omega (arith, r .number, enter-points g wide wide-file key a x own₂ i wide-empty wide-left, space-is g img (r .file) t s₁ l₁ .points))

@@ -31,7 +31,7 @@ use Rattle.agreement.proofs.Overwrite.{overwrite-change, overwrite-fiel
 use Rattle.agreement.proofs.Entries.{length-withEntry-old}
 use Rattle.agreement.proofs.Reflect.{Reflects, reflect-entered}
 use Rattle.agreement.proofs.Simple.{Same, same-refused, same-accepted, open₀, found-met, met-sound}
-use Rattle.agreement.proofs.Place.{room-both, room-length, room-space, relocate}
+use Rattle.agreement.proofs.Place.{place-both, place-length, place-space, relocate}
 
 -- ---- a point that is present
 
@@ -74,12 +74,12 @@ module _ (g : Layout) (img : Bytes) (b : Book) (r : Reflects g img b) (key : Byt
   same-placed mode t k h q le =
       let n = addNumber img key bytes mode in
       let asks = roomAsks b (length t) in
-      let is : n ≡ firstNo asks = present-number mode (some t) k h q ∙ room-both g img b r t in
+      let is : n ≡ firstNo asks = present-number mode (some t) k h q ∙ place-both g img b r t in
       by-eq (firstNo asks) 0
       (λ z.
       same-accepted g img b r n _ asks (placed b key t) (is ∙ z) z
       (rw (after-present mode ∙ renewed-moved g img i o key bytes mode t q)
-      (relocate g img b r key a t le (room-length g img b r t z) (room-space g img b r t z) i m)))
+      (relocate g img b r key a t le (place-length g img b r t z) (place-space g img b r t z) i m)))
       (λ z. same-refused g img b r n _ asks (placed b key t) is z)
 
   -- a step with nothing to place

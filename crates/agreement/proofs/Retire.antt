@@ -22,7 +22,7 @@ use Rattle.bhtf.proofs.Effects
 use Rattle.bhtf.proofs.Effects.{active-some, by-retire, retire-kept, retire-behind}
 use Rattle.bhtf.proofs.Table.{entryOf}
 use Rattle.bhtf.proofs.Probe.{entryOf-frame}
-use Rattle.bhtf.proofs.Stretch.{size, Lies, lies-sound, none-sound, SameOn, same-on-refl, same-on-store}
+use Rattle.bhtf.proofs.Stretch.{span, Lies, lies-sound, none-sound, SameOn, same-on-refl, same-on-store}
 use Rattle.agreement.proofs.Data.{point-change, point-lies}
 use Rattle.agreement.proofs.File.{Allowed, pointOf, pointOf-some, File, file-some, Change}
 
@@ -91,10 +91,10 @@ module _ (g : Layout) (img : Bytes) (f : File g img) (key s : Bytes) (a : Allowe
       (by-eq o 0 (λ z. rw z (none-sound g (retire img 0))) (λ z. lies-sound g off o (off-lies z)))
       (rw off-length (omega arith))
     where
-      letter-apart : (p n : ℕ) → Apart p n o (size g img o) → Apart p n o 1
+      letter-apart : (p n : ℕ) → Apart p n o (span g img o) → Apart p n o 1
       letter-apart p n h =
           apart-sym o 1 p n
-          (apart-inside o (size g img o) p n o 1 (omega arith) (unfold headSize in omega arith) (apart-sym p n o (size g img o) h))
+          (apart-inside o (span g img o) p n o 1 (omega arith) (unfold headSize in omega arith) (apart-sym p n o (span g img o) h))
 
   pub retire-point : pointOf g off key ≡ some (record { name = key; text = []; held = held g img o })
   unfolding held

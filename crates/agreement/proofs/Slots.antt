@@ -19,11 +19,11 @@ use Rattle.bhtf.proofs.Slots.{Room, slot-above, slot-end, slot-setField, part-p
 use Rattle.bhtf.proofs.Opened.{Opened}
 use Rattle.bhtf.proofs.Kept.{Kept, kept-trans, kept-store, kept-slots, kept-known, opened-kept}
 use Rattle.bhtf.proofs.Effects.{points-kept, points-is, points-free, points-behind}
-use Rattle.bhtf.proofs.Table.{Sound, entryOf, weight}
-use Rattle.bhtf.proofs.Probe.{search-met, search-empty}
-use Rattle.bhtf.proofs.Insert.{weight-frame, insert-sound, insert-entry, insert-other, insert-weight, replace-sound, replace-entry, replace-other, replace-weight}
-use Rattle.bhtf.proofs.Stretch.{size, sound-lies, Stored, none-stored, SameOn, same-on-trans, size-same, stored-same}
-use Rattle.agreement.proofs.Data.{frame-entry, frame-sound, file-above}
+use Rattle.bhtf.proofs.Table.{Findable, entryOf, weight}
+use Rattle.bhtf.proofs.Probe.{search-met, search-empty, entryOf-frame}
+use Rattle.bhtf.proofs.Insert.{weight-frame, insert-findable, insert-entry, insert-other, insert-weight, replace-findable, replace-entry, replace-other, replace-weight}
+use Rattle.bhtf.proofs.Stretch.{span, sound-lies, Stored, none-stored, SameOn, same-on-trans, span-same, stored-same}
+use Rattle.agreement.proofs.Data.{frame-findable, file-above}
 use Rattle.agreement.proofs.File.{Allowed, allowed-length, allowed-zero, valueOf, pointOf, pointOf-some, value-same, File, file-slots, file-room, file-some, Change}
 
 -- ---- a step that leaves the data area alone and writes the offset x into the point's slot
@@ -33,7 +33,7 @@ pub record Unshared (g : Layout) (img key : Bytes) (x : ℕ) : Type 0 where
   pub stored : Stored g img x
   pub small : x < word
   pub away : (x ≡ 0 → ⊥) → (key′ s′ : Bytes) → Allowed g key′ → (key′ ≡ key → ⊥) → entryOf g img key′ ≡ some s′
-      → (offsetOf g s′ ≡ 0 → ⊥) → Apart x (size g img x) (offsetOf g s′) (size g img (offsetOf g s′))
+      → (offsetOf g s′ ≡ 0 → ⊥) → Apart x (span g img x) (offsetOf g s′) (span g img (offsetOf g s′))
 
 pub unshared-none : (g : Layout) (img key : Bytes) → Unshared g img key 0
 unshared-none g img key =
@@ -47,7 +47,7 @@ module _ (g : Layout) (img : Bytes) (f : File g img) (key : Bytes) (a : Allowed 
   offset-is = offsetOf-entry g key x (allowed-length g key a) (fr .small)
 
   -- x's message is as it was
-  x-same : (x ≡ 0 → ⊥) → SameOn img img′ x (size g img x)
+  x-same : (x ≡ 0 → ⊥) → SameOn img img′ x (span g img x)
   x-same z = same-on x _ (sound-lies g img x (fr .stored .sound) z .low)
 
   pub slot-point : pointOf g img′ key ≡ some (valueOf g img key x)
@@ -56,16 +56,16 @@ module _ (g : Layout) (img : Bytes) (f : File g img) (key : Bytes) (a : Allowed 
       ∙ ap (λ (o : ℕ). some (valueOf g img′ key o)) offset-is
       ∙ ap some (value-same g img img′ key x x-same)
 
-  pub slot-change : field img′ pointsField ≤ g .N → Sound g img′ → field img′ pointsField ≡ weight g img′ (λ s. 1)
+  pub slot-change : field img′ pointsField ≤ g .N → Findable g img′ → field img′ pointsField ≡ weight g img′ (λ s. 1)
       → ((key′ : Bytes) → Allowed g key′ → (key′ ≡ key → ⊥) → entryOf g img′ key′ ≡ entryOf g img key′) → Change g img img′ key
-  slot-change points sound counted others =
+  slot-change points table counted others =
       record {
         kept = k;
         known = kept-known k (f .opened);
         free-low = rw free (omega arith);
         free-high = rw free (f .opened .free-high);
         points = points;
-        sound = sound;
+        table = table;
         counted = counted;
         others = others;
         still = λ key′ s a′ n e′ z. same-on _ _ (sound-lies g img _ (f .messages key′ s a′ e′ .sound) z .low);
@@ -78,10 +78,10 @@ module _ (g : Layout) (img : Bytes) (f : File g img) (key : Bytes) (a : Allowed 
 
       apart₁ : (s key′ s′ : Bytes) → Allowed g key′ → (key′ ≡ key → ⊥)
           → entryOf g img′ key ≡ some s → entryOf g img key′ ≡ some s′ → (offsetOf g s ≡ 0 → ⊥) → (offsetOf g s′ ≡ 0 → ⊥)
-          → Apart (offsetOf g s) (size g img′ (offsetOf g s)) (offsetOf g s′) (size g img (offsetOf g s′))
+          → Apart (offsetOf g s) (span g img′ (offsetOf g s)) (offsetOf g s′) (span g img (offsetOf g s′))
       apart₁ s key′ s′ a′ n e₁ e′ z z′ =
           let z₁ : x ≡ 0 → ⊥ = λ q. z (is-x s e₁ ∙ q) in
-          rw (is-x s e₁, size-same g img img′ x (x-same z₁)) (fr .away z₁ key′ s′ a′ n e′ z′)
+          rw (is-x s e₁, span-same g img img′ x (x-same z₁)) (fr .away z₁ key′ s′ a′ n e′ z′)
 
 -- ---- a slot's write
 
@@ -131,7 +131,7 @@ module _ (g : Layout) (img : Bytes) (f : File g img) (key : Bytes) (a : Allowed 
       (put-same g img f i (slotBytes key x) set-lt set-length)
       set-entry
       (rw (set-field pointsField (omega arith)) (omega (arith, f .opened .points, file-slots f)))
-      (replace-sound g img key i (slotBytes key x) (file-room f) (file-some f) set-length set-key m (f .table))
+      (replace-findable g img key i (slotBytes key x) (file-room f) (file-some f) set-length set-key m (f .table))
       set-counted
       (λ key′ a′ n. replace-other g img key i (slotBytes key x) (file-room f) (file-some f) set-length set-key m key′ n)
 
@@ -146,7 +146,7 @@ module _ (g : Layout) (img : Bytes) (f : File g img) (key : Bytes) (a : Allowed 
 -- ---- a new point, in the empty slot where its search ended
 
 module _ (g : Layout) (img : Bytes) (f : File g img) (key : Bytes) (a : Allowed g key) (x : ℕ) (fr : Unshared g img key x) (i : ℕ)
-    (m : search g img key ≡ empty i) (room : field img pointsField < g .N) where
+    (m : search g img key ≡ empty i) (left : field img pointsField < g .N) where
   put : Bytes
   put = putSlot g img i (slotBytes key x)
 
@@ -176,7 +176,7 @@ module _ (g : Layout) (img : Bytes) (f : File g img) (key : Bytes) (a : Allowed 
 
   more : field img pointsField + 1 ≤ field put slotsField
   unfolding put
-  more = omega (arith, room, file-slots f, kept-slots (put-kept g img f i (slotBytes key x) lt len))
+  more = omega (arith, left, file-slots f, kept-slots (put-kept g img f i (slotBytes key x) lt len))
 
   is-enter : enter g img i key x ≡ setField put pointsField (field img pointsField + 1)
   unfolding enter put
@@ -186,7 +186,7 @@ module _ (g : Layout) (img : Bytes) (f : File g img) (key : Bytes) (a : Allowed 
   enter-slot k h = ap (λ (j : Bytes). slot g j k) is-enter ∙ slot-setField g put room-put pointsField (field img pointsField + 1) k (omega arith) h
 
   enter-entry : (k : Bytes) → entryOf g (enter g img i key x) k ≡ entryOf g put k
-  enter-entry = frame-entry g put (enter g img i key x) (file-some f) enter-slot
+  enter-entry k = entryOf-frame g put (enter g img i key x) k (file-some f) enter-slot
 
   entry-is : entryOf g (enter g img i key x) key ≡ some (slotBytes key x)
   unfolding put
@@ -220,9 +220,9 @@ module _ (g : Layout) (img : Bytes) (f : File g img) (key : Bytes) (a : Allowed 
   unfolding put
   enter-change =
       slot-change g img f key a x fr (enter g img i key x) enter-kept enter-free enter-same entry-is
-      (rw enter-points (omega (arith, room)))
-      (frame-sound g put (enter g img i key x) (file-some f) enter-slot
-      (insert-sound g img key i (slotBytes key x) (file-room f) (file-some f) (f .table) len key-is (allowed-zero g key a) m))
+      (rw enter-points (omega (arith, left)))
+      (frame-findable g put (enter g img i key x) (file-some f) enter-slot
+      (insert-findable g img key i (slotBytes key x) (file-room f) (file-some f) (f .table) len key-is (allowed-zero g key a) m))
       (enter-points
       ∙ ap (λ (n : ℕ). n + 1) (f .counted)
       ∙ sym (weight-frame g put (enter g img i key x) (λ s. 1) enter-slot

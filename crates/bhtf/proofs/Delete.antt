@@ -2,7 +2,7 @@
 --     Mending g img h j      the invariant during the walk: paths may be broken at the hole alone, and every slot passed has
 --                            its home after the hole; what is passed is told by what is left, dist j h < dist s h
 --     mending-start, -skip, -move, -stop      its start, its two turns and its end
---     sound-closed           the invariant afterwards
+--     findable-closed           the invariant afterwards
 --     gone-closed            the key stands nowhere afterwards
 -- Assumes nothing.
 use mathlib.Core.Path.{_≡_, refl, sym, ap, _∙_, subst}
@@ -17,7 +17,7 @@ use Rattle.bhtf.specs.Delete.{stays, moved, closed}
 use Rattle.bhtf.proofs.Tests.{by-le, by-eq, not-both}
 use Rattle.bhtf.proofs.Slots.{Room}
 use Rattle.bhtf.proofs.Cyclic.{dist-lt, dist-self, dist-zero, dist-same, dist-back, dist-from-next, dist-next-self, round3}
-use Rattle.bhtf.proofs.Table.{Taken, keyAt, homeAt, Sound}
+use Rattle.bhtf.proofs.Table.{Taken, keyAt, homeAt, Findable}
 use Rattle.bhtf.proofs.Spread.{slot-moved-hole, slot-moved-other}
 use Rattle.bhtf.proofs.Probe.{home-lt}
 use Rattle.bhtf.proofs.Closing.{Going, hole-other, stays-near, goes-far, closed-induct}
@@ -64,7 +64,7 @@ ahead-of N h j s lh lj ls nj ns n f =
     (λ lt. lt)
 
 -- ---- the start
-module _ (g : Layout) (img : Bytes) (r : Room g (length img)) (i : ℕ) (l : i < g .N) (ok : Sound g img) where
+module _ (g : Layout) (img : Bytes) (r : Room g (length img)) (i : ℕ) (l : i < g .N) (ok : Findable g img) where
   pub mending-start : Mending g (putSlot g img i (blank g)) i (next (g .N) i)
   mending-start =
       record {
@@ -186,7 +186,7 @@ module _ (g : Layout) (img : Bytes) (h j : ℕ) (s : Going g img h j) (v : vacan
       nothing : h ≡ j → dist (g .N) x h ≤ dist (g .N) j h → dist (g .N) x h ≡ 0
       nothing e le = omega (arith, ap (λ (y : ℕ). dist (g .N) y h) (sym e) ∙ dist-self (g .N) h)
 
-  pub mending-stop : Sound g img
+  pub mending-stop : Findable g img
   mending-stop =
       record {
         paths = λ x k lx lk tx f. by-eq k h
@@ -196,11 +196,11 @@ module _ (g : Layout) (img : Bytes) (h j : ℕ) (s : Going g img h j) (v : vacan
       }
 
 -- ---- closed
-module _ (g : Layout) (img : Bytes) (r : Room g (length img)) (i : ℕ) (l : i < g .N) (ok : Sound g img) where
-  pub sound-closed : Sound g (closed g img i)
+module _ (g : Layout) (img : Bytes) (r : Room g (length img)) (i : ℕ) (l : i < g .N) (ok : Findable g img) where
+  pub findable-closed : Findable g (closed g img i)
   unfolding closed
-  sound-closed =
-      closed-induct g img r i l (λ img′ h j w. Mending g img′ h j → Sound g (w .image))
+  findable-closed =
+      closed-induct g img r i l (λ img′ h j w. Mending g img′ h j → Findable g (w .image))
       (record {
         stop = λ img′ h j s v m. mending-stop g img′ h j s v m;
         skip = λ img′ h j w s t a p m. p (mending-skip g img′ h j s t a m);

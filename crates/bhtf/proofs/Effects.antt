@@ -22,7 +22,7 @@ use Rattle.bhtf.proofs.Bytes.{length-store, part-store-same, part-store
 use Rattle.bhtf.proofs.Slots.{slot-above, slot-store-data, part-setField-other, field-store-other, field-setField-other, field-setField-same, length-setField}
 use Rattle.bhtf.proofs.Opened.{Opened, opened-room}
 use Rattle.bhtf.proofs.Kept.{Kept, kept-refl, kept-trans, kept-store, kept-points, kept-free, kept-page, opened-kept}
-use Rattle.bhtf.proofs.Stretch.{size, sound-lies}
+use Rattle.bhtf.proofs.Stretch.{span, sound-lies}
 
 -- the data area begins above the table's start
 pub area-above : (img : Bytes) → Opened img → tableStart ≤ field img dataField
@@ -36,7 +36,7 @@ unfolding layoutOf
 message-low img o at s z = sound-lies (layoutOf img) img at s z .low
 
 pub message-end : (img : Bytes) → Opened img → (at : ℕ) → messageSound (layoutOf img) img at ≡ true → (at ≡ 0 → ⊥)
-    → at + size (layoutOf img) img at ≤ field img freeField
+    → at + span (layoutOf img) img at ≤ field img freeField
 message-end img o at s z = sound-lies (layoutOf img) img at s z .end
 
 pub message-head : (img : Bytes) → Opened img → (at : ℕ) → messageSound (layoutOf img) img at ≡ true → at + 4 ≤ length img
@@ -143,14 +143,14 @@ module _ (img : Bytes) (o : Opened img) (t : Bytes)
   abbrev x : ℕ
   x = field img freeField
 
-  abbrev placed : Bytes
-  placed = store img x (message (g .W) t)
+  abbrev written : Bytes
+  written = store img x (message (g .W) t)
 
   abbrev ends : ℕ
   ends = x + headSize g + length t
 
   abbrev first : Bytes
-  first = setField placed freeField ends
+  first = setField written freeField ends
 
   in-image : x + length (message (g .W) t) ≤ length img
   in-image = rw (length-message g t) (omega (arith, fits))
@@ -162,22 +162,22 @@ module _ (img : Bytes) (o : Opened img) (t : Bytes)
   above : tableStart ≤ g .D
   above = omega (arith, opened-room img o .table)
 
-  long-placed : 60 ≤ length placed
-  long-placed = rw (length-store img x (message (g .W) t) in-image) (omega (arith, o .size-low))
+  long-written : 60 ≤ length written
+  long-written = rw (length-store img x (message (g .W) t) in-image) (omega (arith, o .size-low))
 
   long-first : 60 ≤ length first
-  long-first = rw (length-setField placed freeField ends (omega (arith, long-placed))) long-placed
+  long-first = rw (length-setField written freeField ends (omega (arith, long-written))) long-written
 
   is-space : takeSpace g img t ≡ setField first pageField (lastPage (g .D) ends)
   unfolding takeSpace setFree
   is-space = refl
 
   -- X and M stand in the header
-  behind : (p m : ℕ) → tableStart ≤ p → part (takeSpace g img t) p m ≡ part placed p m
+  behind : (p m : ℕ) → tableStart ≤ p → part (takeSpace g img t) p m ≡ part written p m
   behind p m h =
       ap (λ (i : Bytes). part i p m) is-space
       ∙ part-setField-other first pageField (lastPage (g .D) ends) p m (omega (arith, long-first)) (inr (omega arith))
-      ∙ part-setField-other placed freeField ends p m (omega (arith, long-placed)) (inr (omega arith))
+      ∙ part-setField-other written freeField ends p m (omega (arith, long-written)) (inr (omega arith))
 
   not-page : (at : ℕ) → at + 4 ≤ pageField → field (takeSpace g img t) at ≡ field first at
   not-page at h =
@@ -196,20 +196,20 @@ module _ (img : Bytes) (o : Opened img) (t : Bytes)
         kept =
             rw is-space
             (kept-trans (kept-store img x (message (g .W) t) in-image (omega (arith, low, above)))
-            (kept-trans (kept-free placed ends long-placed) (kept-page first (lastPage (g .D) ends) long-first)));
+            (kept-trans (kept-free written ends long-written) (kept-page first (lastPage (g .D) ends) long-first)));
         free =
             not-page freeField (omega arith)
-            ∙ field-setField-same placed freeField ends (omega (arith, long-placed)) (omega (arith, fits, o .size-high));
+            ∙ field-setField-same written freeField ends (omega (arith, long-written)) (omega (arith, fits, o .size-high));
         points =
             not-page pointsField (omega arith)
-            ∙ field-setField-other placed freeField ends pointsField (omega (arith, long-placed)) (inl (omega arith))
+            ∙ field-setField-other written freeField ends pointsField (omega (arith, long-written)) (inl (omega arith))
             ∙ field-store-other img x (message (g .W) t) pointsField in-image (inl (omega (arith, low, above)));
         slots = slots₁;
         below =
             λ p m lo hi. behind p m (omega (arith, above)) ∙ part-store-below img x (message (g .W) t) p m (o .free-high) hi;
         there =
             behind x (headSize g + length t) (omega (arith, low, above))
-            ∙ ap (part placed x) (sym (length-message g t))
+            ∙ ap (part written x) (sym (length-message g t))
             ∙ part-store-same img x (message (g .W) t) (o .free-high);
       }
 

@@ -1,5 +1,5 @@
 -- A message as a stretch of bytes, from its header to the end of its text, and what depends on that stretch alone.
---     size g img o          how many bytes the stretch of the message at o has
+--     span g img o          how many bytes the stretch of the message at o has
 --     Lies g img o          question 11 as facts: inside the data area, with a letter and a length that are allowed
 --     Stored g img o        no message, or one that passes question 11 and whose length its W bytes can hold
 --     SameOn img img′ p n   the two images agree on the n bytes from p on
@@ -20,8 +20,8 @@ use Rattle.bhtf.specs.Questions.{messageSound}
 use Rattle.bhtf.proofs.Tests.{by-eq, by-or, and-left, and-right, and-true, or-right}
 use Rattle.bhtf.proofs.Bytes.{Apart, part-store-other}
 
-abbrev pub size : Layout → Bytes → ℕ → ℕ
-size g img o = headSize g + lengthAt g img o
+abbrev pub span : Layout → Bytes → ℕ → ℕ
+span g img o = headSize g + lengthAt g img o
 
 -- no offset holds nothing; the length at an offset is what the message there holds
 pub held-none : (g : Layout) (img : Bytes) (o : ℕ) → o ≡ 0 → held g img o ≡ 0
@@ -38,7 +38,7 @@ pub record Lies (g : Layout) (img : Bytes) (o : ℕ) : Type 0 where
   pub low : g .D ≤ o
   pub letter : (eqb (letterAt img o) active || eqb (letterAt img o) inactive) ≡ true
   pub least : leastLength ≤ lengthAt g img o
-  pub end : o + size g img o ≤ field img freeField
+  pub end : o + span g img o ≤ field img freeField
 
 pub sound-lies : (g : Layout) (img : Bytes) (o : ℕ) → messageSound g img o ≡ true → (o ≡ 0 → ⊥) → Lies g img o
 unfolding messageSound
@@ -102,7 +102,7 @@ same-on-store img at v p n h (inr a) = record { on = λ q m lo hi. part-store-ot
 
 -- ---- what depends on the stretch alone
 
-module _ (g : Layout) (img img′ : Bytes) (o : ℕ) (same : SameOn img img′ o (size g img o)) where
+module _ (g : Layout) (img img′ : Bytes) (o : ℕ) (same : SameOn img img′ o (span g img o)) where
   pub letterAt-same : letterAt img′ o ≡ letterAt img o
   unfolding letterAt headSize
   letterAt-same = ap number (same .on o 1 (omega arith) (omega arith))
@@ -111,8 +111,8 @@ module _ (g : Layout) (img img′ : Bytes) (o : ℕ) (same : SameOn img img′ o
   unfolding lengthAt headSize
   lengthAt-same = ap number (same .on (o + 1) (g .W) (omega arith) (omega arith))
 
-  pub size-same : size g img′ o ≡ size g img o
-  size-same = ap (λ (m : ℕ). headSize g + m) lengthAt-same
+  pub span-same : span g img′ o ≡ span g img o
+  span-same = ap (λ (m : ℕ). headSize g + m) lengthAt-same
 
   pub textAt-same : textAt g img′ o ≡ textAt g img o
   unfolding textAt
@@ -139,14 +139,14 @@ module _ (g : Layout) (img img′ : Bytes) (o : ℕ) (same : SameOn img img′ o
       }
 
 -- question 11 is answered yes again where X has not fallen
-pub sound-same : (g : Layout) (img img′ : Bytes) (o : ℕ) → ((o ≡ 0 → ⊥) → SameOn img img′ o (size g img o))
+pub sound-same : (g : Layout) (img img′ : Bytes) (o : ℕ) → ((o ≡ 0 → ⊥) → SameOn img img′ o (span g img o))
     → field img freeField ≤ field img′ freeField → messageSound g img o ≡ true → messageSound g img′ o ≡ true
 sound-same g img img′ o same up s =
     by-eq o 0
     (λ z. rw z (none-sound g img′))
     (λ z. lies-sound g img′ o (lies-same g img img′ o (same z) up (sound-lies g img o s z)))
 
-pub stored-same : (g : Layout) (img img′ : Bytes) (o : ℕ) → ((o ≡ 0 → ⊥) → SameOn img img′ o (size g img o))
+pub stored-same : (g : Layout) (img img′ : Bytes) (o : ℕ) → ((o ≡ 0 → ⊥) → SameOn img img′ o (span g img o))
     → field img freeField ≤ field img′ freeField → Stored g img o → Stored g img′ o
 stored-same g img img′ o same up s =
     record {
