@@ -114,7 +114,7 @@ module _ (g : Layout) (img : Bytes) (b : Book) (r : Reflects g img b) (key : Byt
         rw (ne-eqb (length bytes) 0 z)
         (by-eq (firstNo (roomAsks b (length bytes))) 0
         (λ q. same-accepted g img b r n _ _ _ (num ∙ q) (book-ten _ ∙ q)
-        (rw (after-empty (some bytes) fr) 
+        (rw (after-empty (some bytes) fr)
         (insert g img b r key a bytes (omega arith) (place-length g img b r bytes q) (place-space g img b r bytes q) i m left)))
         (λ q. same-refused g img b r n _ _ _ (num ∙ sym (book-ten _)) (λ w. q (sym (book-ten _) ∙ w)))))
 

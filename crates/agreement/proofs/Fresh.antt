@@ -2,7 +2,7 @@
 --     fresh-reflects      create's image and the new book
 -- Assumes nothing.
 use mathlib.Core.Path.{_≡_, refl, sym, ap, ap₂, _∙_}
-use Prim.Native.Nat.{ℕ, zero, suc, _+_, _-_, _*_, _≤_, _<_}
+use Prim.Native.Nat.{ℕ, _+_, _-_, _≤_, _<_}
 use native.Mathlib.Omega.{arith}
 use native.Mathlib.Nat.{add-zero}
 use mathlib.Core.Bool.{true}
@@ -22,7 +22,7 @@ use Rattle.bhtf.specs.Book.{newBook}
 use Rattle.bhtf.specs.Demand.{termsOf}
 use Rattle.bhtf.proofs.Fresh.{length-drawnBytes}
 use Rattle.bhtf.proofs.Tests.{by-bool, by-eq, not-both}
-use Rattle.bhtf.proofs.Bytes.{length-digits, number-digits-fits, length-zeros}
+use Rattle.bhtf.proofs.Bytes.{number-digits-fits, length-zeros}
 use Rattle.bhtf.proofs.Slots.{Room, slot-end, slot-above, vacant-blank}
 use Rattle.bhtf.proofs.Opened.{Opened, opened-room}
 use Rattle.bhtf.proofs.Accepted.{Accepted}

@@ -10,11 +10,10 @@ use mathlib.Core.List.{_++_}
 use mathlib.Core.Option.{some}
 use lib.ListN.{length, length-append}
 use lib.Seq.{take-at}
-use borrow.Author.Tests.{ne-eqb}
 use Rattle.bhtf.specs.Bytes.{Bytes, part, store, zeros}
 use Rattle.bhtf.specs.Limits.{leastLength, pointsField, freeField, tableStart}
 use Rattle.bhtf.specs.Image.{field, Layout, offsetOf, slot}
-use Rattle.bhtf.specs.Messages.{headSize, lengthAt, held, message, overwrite}
+use Rattle.bhtf.specs.Messages.{headSize, held, message, overwrite}
 use Rattle.bhtf.proofs.Bytes.{part-store-inside, length-zeros}
 use Rattle.bhtf.proofs.Slots.{slot-store-data, field-store-other}
 use Rattle.bhtf.proofs.Kept.{kept-store}

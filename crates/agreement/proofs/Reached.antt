@@ -5,30 +5,18 @@
 --     reached-sound       the check says sound
 -- Assumes nothing.
 use mathlib.Core.Path.{_≡_, refl, sym, ap, _∙_, subst}
-use Prim.Native.Nat.{ℕ, zero, suc, _+_, _<_}
-use native.Mathlib.Omega.{arith}
-use mathlib.Core.Bool.{Bool, false, not}
+use Prim.Native.Nat.{ℕ, _<_}
 use mathlib.Core.List.{List, [], _∷_, _++_}
-use mathlib.Core.Option.{none}
 use lib.ListN.{length}
-use lib.Dec.{eqb}
-use borrow.Author.Tests.{eq-eqb}
-use Rattle.bhtf.specs.Bytes.{Bytes, allZero}
-use Rattle.bhtf.specs.Image.{Layout, layoutOf, slot, vacant}
-use Rattle.bhtf.specs.Search.{search, met}
-use Rattle.bhtf.specs.Questions.{nameAllowed}
+use Rattle.bhtf.specs.Bytes.{Bytes}
+use Rattle.bhtf.specs.Image.{Layout, layoutOf}
 use Rattle.bhtf.specs.Create.{slotsAsked}
 use Rattle.bhtf.specs.Calls.{Outcome, create, perform, Call, stateAfter}
 use Rattle.bhtf.specs.Book.{Book, newBook, bookStep}
 use Rattle.bhtf.specs.Demand.{termsOf}
-use Rattle.bhtf.specs.Inspect.{lowest, taken, endsAt, slotSound, slotFails, countSound, verdictOf, check, sound}
-use Rattle.bhtf.proofs.Tests.{by-bool, and-true}
-use Rattle.bhtf.proofs.Slots.{length-slot, length-keyOf}
-use Rattle.bhtf.proofs.Opened.{facts-opened}
+use Rattle.bhtf.specs.Inspect.{check, sound}
 use Rattle.bhtf.proofs.Table.{Taken, keyAt}
-use Rattle.bhtf.proofs.Probe.{search-finds}
-use Rattle.bhtf.proofs.Insert.{entry-taken, count-taken}
-use Rattle.agreement.proofs.File.{Allowed, File, file-room, file-some}
+use Rattle.agreement.proofs.File.{File}
 use Rattle.agreement.proofs.Reflect.{Reflected}
 use Rattle.agreement.proofs.Checked.{file-check}
 use Rattle.agreement.proofs.Theorem.{reflects-after, reflects-created}

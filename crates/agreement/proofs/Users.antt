@@ -9,7 +9,7 @@
 --     stays-gone          a point that is not found stays so until it is added; deleted-stays-gone: so of one that was deleted
 --     free-grows          X never falls; free-grows-each: over calls that give no space back
 -- Assumes nothing.
-use mathlib.Core.Path.{_≡_, refl, sym, ap, _∙_, subst}
+use mathlib.Core.Path.{_≡_, refl, sym, ap, _∙_}
 use Prim.Native.Nat.{ℕ, suc, _+_, _≤_}
 use native.Mathlib.Omega.{arith}
 use mathlib.Core.List.{List, [], _∷_, _++_, append-nil}
