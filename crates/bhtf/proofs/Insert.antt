@@ -92,8 +92,6 @@ same-entries g img img′ key pos ok ok′ z both =
     (both (slot g img′ j) k .1 (met-stands g img′ key pos j z f))))
     (λ n′. n′ ∙ sym n))
 
--- ---- a table without one key, in which the slots of every other key stand as before
-
 -- ---- weights
 
 module _ (g : Layout) (w : Bytes → ℕ) (s : Bytes) where
