@@ -74,7 +74,7 @@ module _ (g : Layout) (img : Bytes) (b : Book) (r : Reflects g img b) (key : Byt
     empty-number : (p : Option Bytes) → freshText bytes mode ≡ p → addNumber img key bytes mode ≡ placeNumber g img p
     empty-number p q =
         rw (r .file .layout) at
-        (add-fresh img key (open₀ g img b r key) bytes mode (rw (r .file .layout) a) k i (rw (r .file .layout) m) (rw (r .file .layout) lt))
+        (add-fresh img key (open₀ r) bytes mode (rw (r .file .layout) a) k i (rw (r .file .layout) m) (rw (r .file .layout) lt))
         ∙ ap (placeNumber g img) q
 
     book-ten : (more : List Question) → firstNo (ask 10 (ltb (length (b .entries)) (b .terms .N)) ∷ more) ≡ firstNo more
@@ -127,7 +127,7 @@ module _ (g : Layout) (img : Bytes) (b : Book) (r : Reflects g img b) (key : Byt
       (λ i m. by-bool (ltb (field img pointsField) (g .N))
       (λ y. same-empty i m y)
       (λ n. same-full
-      (add-10-full img key (open₀ g img b r key) bytes mode (rw (r .file .layout) a) k i (rw (r .file .layout) m) (rw (r .file .layout) n)) n))
+      (add-10-full img key (open₀ r) bytes mode (rw (r .file .layout) a) k i (rw (r .file .layout) m) (rw (r .file .layout) n)) n))
       (λ m. same-full
-      (add-10-exhausted img key (open₀ g img b r key) bytes mode (rw (r .file .layout) a) k (rw (r .file .layout) m))
+      (add-10-exhausted img key (open₀ r) bytes mode (rw (r .file .layout) a) k (rw (r .file .layout) m))
       (le-ltb (field img pointsField) (g .N) (omega (arith, r .file .counted, weight-full g img (λ j l. search-exhausted g img key (file-some (r .file)) m j l .0))))))

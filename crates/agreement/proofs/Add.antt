@@ -25,15 +25,15 @@ use Rattle.agreement.proofs.Absent.{same-absent}
 module _ (g : Layout) (img : Bytes) (b : Book) (r : Reflects g img b) (key : Bytes) (mode : ℕ) where
   book-7 : nameAllowed (g .K) key ≡ false → firstNo (named (b .terms .K) key mode []) ≡ 7
   unfolding named
-  book-7 h = rw (book-key g img b r key) (firstNo-no 7 _ _ h)
+  book-7 h = rw (book-key r) (firstNo-no 7 _ _ h)
 
   book-8 : Allowed g key → modeKnown mode ≡ false → firstNo (named (b .terms .K) key mode []) ≡ 8
   unfolding named
-  book-8 a h = rw (book-key g img b r key) (firstNo-yes 7 _ _ a ∙ firstNo-no 8 _ [] h)
+  book-8 a h = rw (book-key r) (firstNo-yes 7 _ _ a ∙ firstNo-no 8 _ [] h)
 
   book-0 : Allowed g key → modeKnown mode ≡ true → firstNo (named (b .terms .K) key mode []) ≡ 0
   unfolding named
-  book-0 a h = rw (book-key g img b r key) (firstNo-yes 7 _ _ a ∙ firstNo-yes 8 _ [] h ∙ firstNo-none)
+  book-0 a h = rw (book-key r) (firstNo-yes 7 _ _ a ∙ firstNo-yes 8 _ [] h ∙ firstNo-none)
 
 -- ---- add
 
@@ -45,8 +45,8 @@ same-add g img b r key bytes mode =
     (λ a. by-bool (modeKnown mode)
     (λ k. rw (guarded-yes b _ (addFound b key bytes mode (find key (b .entries))) (book-0 g img b r key mode a k))
     (by-met g img b r key (λ i m. same-present g img b r key a bytes i m mode k) (λ h. same-absent g img b r key a bytes mode k h)))
-    (λ k. refuse (book-8 g img b r key mode a k) (λ z. omega arith) (add-8 img key (open₀ g img b r key) bytes mode (rw (r .file .layout) a) k)))
-    (λ h. refuse (book-7 g img b r key mode h) (λ z. omega arith) (add-7 img key (open₀ g img b r key) bytes mode (rw (r .file .layout) h)))
+    (λ k. refuse (book-8 g img b r key mode a k) (λ z. omega arith) (add-8 img key (open₀ r) bytes mode (rw (r .file .layout) a) k)))
+    (λ h. refuse (book-7 g img b r key mode h) (λ z. omega arith) (add-7 img key (open₀ r) bytes mode (rw (r .file .layout) h)))
   where
     refuse : {n : ℕ} → firstNo (named (b .terms .K) key mode []) ≡ n → (n ≡ 0 → ⊥) → addNumber img key bytes mode ≡ n
         → Same g (add img key bytes mode) (guarded b (named (b .terms .K) key mode []) (addFound b key bytes mode (find key (b .entries))))

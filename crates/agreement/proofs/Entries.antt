@@ -1,5 +1,6 @@
 -- Laws of the book's entries: find, without and withEntry, by name.
---     Distinct es      no name stands twice
+--     Distinct es       no name stands twice
+--     removed name b    the book without the entry of that name
 -- Assumes nothing.
 use mathlib.Core.Path.{_≡_, refl, sym, ap, _∙_}
 use Prim.Native.Nat.{suc}
@@ -8,13 +9,17 @@ use mathlib.Core.List.{List, [], _∷_}
 use mathlib.Core.Option.{none, some, Option·none-ne-some, Option·some-injective}
 use lib.ListN.{length}
 use Rattle.bhtf.specs.Bytes.{Bytes, same}
-use Rattle.bhtf.specs.Book.{Entry, find, without, withEntry}
+use Rattle.bhtf.specs.Book.{Entry, Book, find, without, withEntry}
 use Rattle.bhtf.proofs.Tests.{by-bool}
 use Rattle.bhtf.proofs.Bytes.{same-refl, same-true, by-same}
 
 abbrev pub Distinct : List Entry → Type 0
 Distinct [] = Unit {0}
 Distinct (e ∷ es) = (find (e .name) es ≡ none) × Distinct es
+
+-- the book without the entry of that name
+abbrev pub removed : Bytes → Book → Book
+removed name b = record { terms = b .terms; entries = without name (b .entries); used = b .used }
 
 -- ---- the first entry
 

@@ -51,7 +51,7 @@ module _ (g : Layout) (img : Bytes) (b : Book) (r : Reflects g img b) (key : Byt
       length-withEntry-old e (b .entries) _ (ap (λ (k : Bytes). find k (b .entries)) q ∙ found) ∙ r .number
 
   open₁ : openNumber img ≡ 0
-  open₁ = open₀ g img b r key
+  open₁ = open₀ r
 
   -- in modes 2 and 3 questions 12 and 13 decide, of the text p to be placed
   present-number : (mode : ℕ) (p : Option Bytes) → modeKnown mode ≡ true → eqb mode 1 ≡ false → renewedText g img o bytes mode ≡ p

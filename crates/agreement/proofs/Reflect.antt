@@ -18,7 +18,7 @@ use Rattle.bhtf.specs.Book.{Entry, Terms, Book, find, without, withEntry, enter
 use Rattle.bhtf.proofs.Tests.{not-both}
 use Rattle.bhtf.proofs.Bytes.{by-same}
 use Rattle.agreement.proofs.File.{Allowed, pointOf, File, Change, file-change, point-other}
-use Rattle.agreement.proofs.Entries.{Distinct, find-without-other, find-without-same, distinct-without, find-withEntry, find-withEntry-other, distinct-withEntry}
+use Rattle.agreement.proofs.Entries.{Distinct, removed, find-without-other, find-without-same, distinct-without, find-withEntry, find-withEntry-other, distinct-withEntry}
 
 -- the book's terms of a file of L bytes
 abbrev pub termsFor : Layout → ℕ → Terms
@@ -77,7 +77,7 @@ module _ (g : Layout) (img img′ key : Bytes) (b : Book) (r : Reflects g img b)
   -- the point is gone
   pub reflect-without : pointOf g img′ key ≡ none → field img′ freeField ≡ field img freeField
       → length (without key (b .entries)) ≡ field img′ pointsField
-      → Reflects g img′ (record { terms = b .terms; entries = without key (b .entries); used = b .used })
+      → Reflects g img′ (removed key b)
   reflect-without p x n =
       reflect-change (without key (b .entries)) (b .used) (p ∙ sym (find-without-same key (b .entries) (r .distinct)))
       (λ name q. find-without-other key name (b .entries) q) (distinct-without key (b .entries) (r .distinct)) (x ∙ r .used) n

@@ -22,7 +22,7 @@ use Rattle.bhtf.specs.Demand.{bookText, textOf}
 use Rattle.bhtf.proofs.Tests.{by-bool, by-eq, by-le}
 use Rattle.bhtf.proofs.Bytes.{by-same}
 use Rattle.bhtf.proofs.Opened.{firstNo-none, firstNo-no}
-use Rattle.agreement.proofs.Entries.{find-same, find-without-other, find-withEntry, find-withEntry-other, length-withEntry-new, length-withEntry-old}
+use Rattle.agreement.proofs.Entries.{removed, find-same, find-without-other, find-withEntry, find-withEntry-other, length-withEntry-new, length-withEntry-old}
 
 -- ---- a text given to a name
 
@@ -165,7 +165,7 @@ by-put (unchanged e f n₁ n₂ z q) kept given = kept q
 pub data Deleted (b : Book) (name : Bytes) (o : Outcome Book) : Type 0 where
   refused : (o .answer .number ≡ 0 → ⊥) → o .after ≡ b → Deleted b name o
   gone : (e : Entry) → find name (b .entries) ≡ some e
-      → o .after ≡ record { terms = b .terms; entries = without name (b .entries); used = b .used } → Deleted b name o
+      → o .after ≡ removed name b → Deleted b name o
 
 module _ (b : Book) (name : Bytes) where
   delete-found : (f : Option Entry) → find name (b .entries) ≡ f → Deleted b name (deleteFound b name f)
@@ -199,7 +199,7 @@ pub data Effect (b : Book) (c : Call) (b′ : Book) : Type 0 where
   nothing : b′ ≡ b → Effect b c b′
   enters : (name bytes : Bytes) (mode : ℕ) (text : Bytes) → c ≡ adding name bytes mode → Given name text b b′ → Effect b c b′
   leaves : (name : Bytes) (e : Entry) → c ≡ deleting name → find name (b .entries) ≡ some e
-      → b′ ≡ record { terms = b .terms; entries = without name (b .entries); used = b .used } → Effect b c b′
+      → b′ ≡ removed name b → Effect b c b′
 
 delete-effect : {b : Book} {name : Bytes} {o : Outcome Book} → Deleted b name o → Effect b (deleting name) (o .after)
 delete-effect (refused z q) = nothing q
