@@ -13,11 +13,11 @@ use borrow.Author.Tests.{eq-eqb, ne-eqb, ltb-true, le-ltb}
 use Rattle.bhtf.specs.Bytes.{Bytes}
 use Rattle.bhtf.specs.Limits.{pointsField, freeField}
 use Rattle.bhtf.specs.Image.{field, Layout, layoutOf, slot}
-use Rattle.bhtf.specs.Search.{empty, search, isMet}
+use Rattle.bhtf.specs.Search.{empty, exhausted, search, isMet}
 use Rattle.bhtf.specs.Messages.{shown, held, isActive, enter, inserted, freshText, addedAt, added}
-use Rattle.bhtf.specs.Questions.{Question, ask, firstNo, modeKnown, addNumber, placeNumber}
+use Rattle.bhtf.specs.Questions.{Question, ask, firstNo, nameAllowed, modeKnown, addNumber, placeNumber}
 use Rattle.bhtf.specs.Calls.{add}
-use Rattle.bhtf.specs.Book.{Terms, Book, find, roomAsks, entered, addAbsent, addFound}
+use Rattle.bhtf.specs.Book.{Terms, Book, find, stepOf, roomAsks, entered, addAbsent, addFound}
 use Rattle.bhtf.proofs.Tests.{by-bool, by-eq, not-both}
 use Rattle.bhtf.proofs.Opened.{firstNo-none, firstNo-yes, firstNo-no}
 use Rattle.bhtf.proofs.Outcomes.{room-none, add-10-exhausted, add-10-full, add-fresh}
@@ -39,11 +39,15 @@ use Rattle.agreement.proofs.Place.{place-both, place-length, place-spac
 weight-full : (g : Layout) (img : Bytes) → ((k : ℕ) → k < g .N → Taken g img k) → weight g img (λ s. 1) ≡ g .N
 unfolding weight
 weight-full g img h =
-    total-same (λ i. weigh g (λ s. 1) (slot g img i)) (λ i. 1) (g .N) (λ i l. weigh-taken g (λ s. 1) (slot g img i) (h i l))
+    total-same (λ i. weigh g (λ s. 1) (slot g img i)) (λ i. 1) (g .N)
+    (λ i l. weigh-taken g (λ s. 1) (slot g img i) (h i l))
     ∙ omega (arith, total-const 1 (g .N))
 
-module _ (g : Layout) (img : Bytes) (b : Book) (r : Reflects g img b) (key : Bytes) (a : Allowed g key) (bytes : Bytes) (mode : ℕ)
-    (k : modeKnown mode ≡ true) (h : isMet (search g img key) ≡ false) where
+module _ (g : Layout) (img : Bytes) (b : Book) (r : Reflects g img b) (key : Bytes) (a : Allowed g key) (bytes : Bytes)
+    (mode : ℕ) (k : modeKnown mode ≡ true) (h : isMet (search g img key) ≡ false) where
+  a₁ : nameAllowed (layoutOf img .K) key ≡ true
+  a₁ = rw (r .file .layout) a
+
   not-found : find key (b .entries) ≡ none
   not-found = found-none g img b r key a h
 
@@ -51,18 +55,20 @@ module _ (g : Layout) (img : Bytes) (b : Book) (r : Reflects g img b) (key : Byt
   book-10 : ltb (length (b .entries)) (b .terms .N) ≡ ltb (field img pointsField) (g .N)
   book-10 = ap₂ ltb (r .number) (ap (λ (t : Terms). t .N) (r .terms))
 
+  abbrev ask-10 : Question
+  ask-10 = ask 10 (ltb (length (b .entries)) (b .terms .N))
+
   -- the book refuses with 10 too
   same-full : addNumber img key bytes mode ≡ 10 → ltb (field img pointsField) (g .N) ≡ false
       → Same g (add img key bytes mode) (addAbsent b key bytes)
   unfolding add addAbsent
   same-full e e′ =
-      by-bool (eqb (length bytes) 0)
-      (λ y. rw y
-      (same-refused g img b r (addNumber img key bytes mode) _ _ _ (e ∙ sym (ten [])) (λ z. omega (arith, z, ten []))))
-      (λ n. rw n
-      (same-refused g img b r (addNumber img key bytes mode) _ _ _ (e ∙ sym (ten (roomAsks b (length bytes)))) (λ z. omega (arith, z, ten (roomAsks b (length bytes))))))
+      let n = addNumber img key bytes mode in
+      let refuse : (more : List Question) (y : Book) → Same g (add img key bytes mode) (stepOf b (ask-10 ∷ more) y) =
+      λ more y. same-refused g img b r n _ _ y (e ∙ sym (ten more)) (λ z. omega (arith, z, ten more)) in
+      by-bool (eqb (length bytes) 0) (λ y. rw y (refuse _ _)) (λ n. rw n (refuse _ _))
     where
-      ten : (more : List Question) → firstNo (ask 10 (ltb (length (b .entries)) (b .terms .N)) ∷ more) ≡ 10
+      ten : (more : List Question) → firstNo (ask-10 ∷ more) ≡ 10
       ten more = firstNo-no 10 _ more (book-10 ∙ e′)
 
   -- ---- with an empty slot
@@ -74,13 +80,14 @@ module _ (g : Layout) (img : Bytes) (b : Book) (r : Reflects g img b) (key : Byt
     empty-number : (p : Option Bytes) → freshText bytes mode ≡ p → addNumber img key bytes mode ≡ placeNumber g img p
     empty-number p q =
         rw (r .file .layout) at
-        (add-fresh img key (open₀ r) bytes mode (rw (r .file .layout) a) k i (rw (r .file .layout) m) (rw (r .file .layout) lt))
+        (add-fresh img key (open₀ r) bytes mode a₁ k i (rw (r .file .layout) m) (rw (r .file .layout) lt))
         ∙ ap (placeNumber g img) q
 
-    book-ten : (more : List Question) → firstNo (ask 10 (ltb (length (b .entries)) (b .terms .N)) ∷ more) ≡ firstNo more
+    book-ten : (more : List Question) → firstNo (ask-10 ∷ more) ≡ firstNo more
     book-ten more = firstNo-yes 10 _ more (book-10 ∙ lt)
 
-    after-empty : (p : Option Bytes) → freshText bytes mode ≡ p → added (layoutOf img) img key bytes mode ≡ inserted g img i key p
+    after-empty : (p : Option Bytes) → freshText bytes mode ≡ p
+        → added (layoutOf img) img key bytes mode ≡ inserted g img i key p
     unfolding added addedAt
     after-empty p q = rw (r .file .layout, m) (ap (inserted g img i key) q)
 
@@ -115,7 +122,8 @@ module _ (g : Layout) (img : Bytes) (b : Book) (r : Reflects g img b) (key : Byt
         (by-eq (firstNo (roomAsks b (length bytes))) 0
         (λ q. same-accepted g img b r n _ _ _ (num ∙ q) (book-ten _ ∙ q)
         (rw (after-empty (some bytes) fr)
-        (insert g img b r key a bytes (omega arith) (place-length g img b r bytes q) (place-space g img b r bytes q) i m left)))
+        (insert g img b r key a bytes (omega arith)
+        (place-length g img b r bytes q) (place-space g img b r bytes q) i m left)))
         (λ q. same-refused g img b r n _ _ _ (num ∙ sym (book-ten _)) (λ w. q (sym (book-ten _) ∙ w)))))
 
   pub same-absent : Same g (add img key bytes mode) (addFound b key bytes mode (find key (b .entries)))
@@ -127,7 +135,10 @@ module _ (g : Layout) (img : Bytes) (b : Book) (r : Reflects g img b) (key : Byt
       (λ i m. by-bool (ltb (field img pointsField) (g .N))
       (λ y. same-empty i m y)
       (λ n. same-full
-      (add-10-full img key (open₀ r) bytes mode (rw (r .file .layout) a) k i (rw (r .file .layout) m) (rw (r .file .layout) n)) n))
+      (add-10-full img key (open₀ r) bytes mode a₁ k i (rw (r .file .layout) m) (rw (r .file .layout) n)) n))
       (λ m. same-full
-      (add-10-exhausted img key (open₀ r) bytes mode (rw (r .file .layout) a) k (rw (r .file .layout) m))
-      (le-ltb (field img pointsField) (g .N) (omega (arith, r .file .counted, weight-full g img (λ j l. search-exhausted g img key (file-some (r .file)) m j l .0))))))
+      (add-10-exhausted img key (open₀ r) bytes mode a₁ k (rw (r .file .layout) m))
+      (le-ltb (field img pointsField) (g .N) (omega (arith, r .file .counted, full m)))))
+    where
+      full : search g img key ≡ exhausted → weight g img (λ s. 1) ≡ g .N
+      full m = weight-full g img (λ j l. search-exhausted g img key (file-some (r .file)) m j l .0)
