@@ -1,5 +1,5 @@
--- "Space once taken is never handed out again": of the bytes between D and X an add or a delete changes none but those of the
--- message of the point that it names. New space begins at X. This holds of any image bytes.
+-- "Space once taken is never handed out again": of the bytes between D and X an add or a delete changes none but those
+-- of the message of the point that it names. New space begins at X. This holds of any image bytes.
 --     Clear img key p n       the n bytes from p on have none in common with the point's message
 --     add-keeps-bytes, delete-keeps-bytes      such bytes are as they were
 -- Assumes nothing.
@@ -58,7 +58,8 @@ module _ (img : Bytes) (o : Opened img) (p n : ℕ) (low : layoutOf img .D ≤ p
       letter (inl h) = inl h
       letter (inr h) = inr (unfold headSize in omega arith)
 
-  overwrite-keeps : (at : ℕ) → messageSound g img at ≡ true → Off img at p n → (at ≡ 0 → ⊥) → (t : Bytes) → length t ≤ held g img at
+  overwrite-keeps : (at : ℕ) → messageSound g img at ≡ true → Off img at p n → (at ≡ 0 → ⊥) → (t : Bytes)
+      → length t ≤ held g img at
       → part (overwrite g img at t) p n ≡ part img p n
   unfolding overwrite
   overwrite-keeps at s c z t le =
@@ -71,7 +72,8 @@ module _ (img : Bytes) (o : Opened img) (p n : ℕ) (low : layoutOf img .D ≤ p
   put-keeps : (i : ℕ) (s : Bytes) → i < g .N → length s ≡ slotSize g → part (putSlot g img i s) p n ≡ part img p n
   put-keeps i s l len = part-putSlot-outside g img (opened-room img o) i s p n l len (inr low)
 
-  enter-keeps : (i : ℕ) (key : Bytes) (x : ℕ) → i < g .N → length (slotBytes key x) ≡ slotSize g → part (enter g img i key x) p n ≡ part img p n
+  enter-keeps : (i : ℕ) (key : Bytes) (x : ℕ) → i < g .N → length (slotBytes key x) ≡ slotSize g
+      → part (enter g img i key x) p n ≡ part img p n
   unfolding enter
   enter-keeps i key x l len =
       part-setField-other (putSlot g img i (slotBytes key x)) pointsField _ p n
@@ -96,29 +98,35 @@ module _ (img : Bytes) (o : Opened img) (p n : ℕ) (low : layoutOf img .D ≤ p
       let off = retire img at in
       let long : pointsField + 4 ≤ length off = omega (arith, retire-kept img o at s .size, o .size-low) in
       part-closed (layoutOf img) (setField off pointsField (field img pointsField - 1))
-      (rw (length-setField off pointsField (field img pointsField - 1) long, retire-kept img o at s .size) (opened-room img o))
+      (rw (length-setField off pointsField (field img pointsField - 1) long, retire-kept img o at s .size)
+      (opened-room img o))
       i l p n (inr low)
-      ∙ part-setField-other off pointsField (field img pointsField - 1) p n long (inr (omega (arith, above img o p n low)))
+      ∙ part-setField-other off pointsField (field img pointsField - 1) p n long
+      (inr (omega (arith, above img o p n low)))
       ∙ retire-keeps img o p n low at s c
 
   module _ (high : p + n ≤ field img freeField) (key : Bytes) (named : length key ≡ layoutOf img .K) where
     entry-size : (x : ℕ) → length (slotBytes key x) ≡ slotSize (layoutOf img)
     entry-size x = length-entry (layoutOf img) key x named
 
-    fits : (t : Bytes) → placeNumber (layoutOf img) img (some t) ≡ 0 → field img freeField + headSize (layoutOf img) + length t ≤ length img
+    fits : (t : Bytes) → placeNumber (layoutOf img) img (some t) ≡ 0
+        → field img freeField + headSize (layoutOf img) + length t ≤ length img
     unfolding spaceLeft
     fits t h =
         leb-true _ _
-        (firstNo-head 13 (leb (field img freeField + headSize (layoutOf img) + length t) (length img)) [] (λ z. omega arith)
+        (firstNo-head 13 (leb (field img freeField + headSize (layoutOf img) + length t) (length img)) []
+        (λ z. omega arith)
         (firstNo-tail 12 (lengthAllowed (layoutOf img) (some t)) _ (λ z. omega arith) h))
 
-    insert-keeps : (t : Option Bytes) → placeNumber (layoutOf img) img t ≡ 0 → part (inserted (layoutOf img) img i key t) p n ≡ part img p n
+    insert-keeps : (t : Option Bytes) → placeNumber (layoutOf img) img t ≡ 0
+        → part (inserted (layoutOf img) img i key t) p n ≡ part img p n
     unfolding inserted
     insert-keeps none h = enter-keeps img o p n low i key 0 l (entry-size 0)
     insert-keeps (some t) h =
         let same = kept-layout (space-kept img o t (fits t h)) (o .last) in
         (rw same at
-        (enter-keeps (takeSpace (layoutOf img) img t) (space-opened img o t (fits t h)) p n (rw same low) i key (field img freeField) (rw same l)
+        (enter-keeps (takeSpace (layoutOf img) img t) (space-opened img o t (fits t h)) p n (rw same low) i key
+        (field img freeField) (rw same l)
         (rw same (entry-size (field img freeField)))))
         ∙ space-keeps img o p n low t (fits t h) high
 
@@ -131,7 +139,8 @@ module _ (img : Bytes) (o : Opened img) (p n : ℕ) (low : layoutOf img .D ≤ p
           let same = kept-layout (retire-kept img o at s) (o .last) in
           let x = retire-field img o at s freeField (omega arith) in
           let is : Spaced (layoutOf img) off t =
-          rw same at (spaced off (retire-opened img o at s) t (rw (same, x, retire-kept img o at s .size) (fits t h))) in
+          rw same at (spaced off (retire-opened img o at s) t
+          (rw (same, x, retire-kept img o at s .size) (fits t h))) in
           part-putSlot-outside (layoutOf img) (takeSpace (layoutOf img) off t)
           (rw (is .kept .size, retire-kept img o at s .size) (opened-room img o))
           i (slotBytes key (field img freeField)) p n l (entry-size (field img freeField)) (inr low)
@@ -139,7 +148,8 @@ module _ (img : Bytes) (o : Opened img) (p n : ℕ) (low : layoutOf img .D ≤ p
           ∙ retire-keeps img o p n low at s c
 
       renew-keeps : (bytes : Bytes) (mode : ℕ) (t : Option Bytes) → renewedText (layoutOf img) img at bytes mode ≡ t
-          → placeNumber (layoutOf img) img t ≡ 0 → part (renewed (layoutOf img) img i at key bytes mode t) p n ≡ part img p n
+          → placeNumber (layoutOf img) img t ≡ 0
+          → part (renewed (layoutOf img) img i at key bytes mode t) p n ≡ part img p n
       unfolding renewed
       renew-keeps bytes mode (some t) q h = relocate-keeps t h
       renew-keeps bytes mode none q h =
@@ -148,7 +158,8 @@ module _ (img : Bytes) (o : Opened img) (p n : ℕ) (low : layoutOf img .D ≤ p
           (λ z. rw (eq-eqb (length bytes) 0 z) (retire-keeps img o p n low at s c))
           (λ z. rw (ne-eqb (length bytes) 0 z)
           (let le = replaced-held (layoutOf img) img i at key bytes (rw two at q) in
-          overwrite-keeps img o p n low at s c (λ w. z (omega (arith, le, held-none (layoutOf img) img at w))) bytes le))))
+          overwrite-keeps img o p n low at s c
+          (λ w. z (omega (arith, le, held-none (layoutOf img) img at w))) bytes le))))
           (λ other. rw (ne-eqb mode 2 other) refl)
 
 -- ---- the calls

@@ -29,7 +29,8 @@ lowest-all p zero i h = refl
 lowest-all p (suc left) i h = rw (h i (omega arith), lowest) (lowest-all p left (suc i) (λ k l. h k (omega arith)))
 
 -- a taken slot's key is a name that is allowed
-pub taken-allowed : (g : Layout) (img : Bytes) (f : File g img) (i : ℕ) → i < g .N → Taken g img i → Allowed g (keyAt g img i)
+pub taken-allowed : (g : Layout) (img : Bytes) (f : File g img) (i : ℕ) → i < g .N → Taken g img i
+    → Allowed g (keyAt g img i)
 unfolding nameAllowed vacant
 taken-allowed g img f i l t =
     and-true (eqb (length (keyAt g img i)) (g .K)) (not (allZero (keyAt g img i)))

@@ -35,8 +35,9 @@ file-above f = omega (arith, file-room f .table)
 -- ---- a step that changes no slot and not C
 
 module _ (g : Layout) (img img′ : Bytes) (f : File g img) (kept₁ : Kept img img′)
-    (slots : (k : ℕ) → k < g .N → slot g img′ k ≡ slot g img k) (points₁ : field img′ pointsField ≡ field img pointsField)
-    (low : field img freeField ≤ field img′ freeField) (high : field img′ freeField ≤ length img) where
+    (slots : (k : ℕ) → k < g .N → slot g img′ k ≡ slot g img k)
+    (points₁ : field img′ pointsField ≡ field img pointsField) (low : field img freeField ≤ field img′ freeField)
+    (high : field img′ freeField ≤ length img) where
   same-entry : (key : Bytes) → entryOf g img′ key ≡ entryOf g img key
   same-entry key = entryOf-frame g img img′ key (file-some f) slots
 
@@ -65,13 +66,15 @@ module _ (g : Layout) (img img′ : Bytes) (f : File g img) (kept₁ : Kept img 
 
   -- inside the message of one point, which stays sound and does not grow
   pub point-change : (key s : Bytes) → Allowed g key → entryOf g img key ≡ some s
-      → ((p n : ℕ) → ((offsetOf g s ≡ 0 → ⊥) → Apart p n (offsetOf g s) (span g img (offsetOf g s))) → SameOn img img′ p n)
+      → ((p n : ℕ) → ((offsetOf g s ≡ 0 → ⊥) → Apart p n (offsetOf g s) (span g img (offsetOf g s)))
+      → SameOn img img′ p n)
       → messageSound g img′ (offsetOf g s) ≡ true → lengthAt g img′ (offsetOf g s) ≤ lengthAt g img (offsetOf g s)
       → Change g img img′ key
   point-change key s a e away sound₁ le =
       frame-change key
       (λ key′ s′ a′ n e′ z′. away (offsetOf g s′) _ (λ z. f .apart key′ key s′ s a′ a n e′ e z′ z))
-      (λ s₁ a₁ e₁. rw (is-s s₁ e₁) (record { sound = sound₁; short = λ z. omega (arith, le, f .messages key s a e .short z) }))
+      (λ s₁ a₁ e₁. rw (is-s s₁ e₁)
+      (record { sound = sound₁; short = λ z. omega (arith, le, f .messages key s a e .short z) }))
       (λ s₁ key′ s′ a₁ a′ n e₁ e′ z₁ z′.
       apart-inside (offsetOf g s₁) (span g img (offsetOf g s₁)) (offsetOf g s′) _ (offsetOf g s₁) _ (omega arith)
       (rw (is-s s₁ e₁) (omega arith))
@@ -82,8 +85,8 @@ module _ (g : Layout) (img img′ : Bytes) (f : File g img) (kept₁ : Kept img 
 
 -- ---- the message of a point
 
-module _ (g : Layout) (img : Bytes) (f : File g img) (key s : Bytes) (a : Allowed g key) (e : entryOf g img key ≡ some s)
-    (z : offsetOf g s ≡ 0 → ⊥) where
+module _ (g : Layout) (img : Bytes) (f : File g img) (key s : Bytes) (a : Allowed g key)
+    (e : entryOf g img key ≡ some s) (z : offsetOf g s ≡ 0 → ⊥) where
   pub point-lies : Lies g img (offsetOf g s)
   point-lies = sound-lies g img (offsetOf g s) (f .messages key s a e .sound) z
 

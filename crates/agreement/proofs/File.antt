@@ -1,7 +1,7 @@
 -- The invariant of a file that calls have reached, and how a change to one point keeps it.
---     File g img            1. its header is accepted; 2. searches find what stands in the table; 3. C is the number of taken
---                           slots; 4. messages pass question 11, and their lengths are below 256 ^ W; 5. messages of
---                           different points have no byte in common
+--     File g img            1. its header is accepted; 2. searches find what stands in the table; 3. C is the number of
+--                           taken slots; 4. messages pass question 11, and their lengths are below 256 ^ W; 5. messages
+--                           of different points have no byte in common
 --     pointOf g img key     name, text and length held of a point, as the book has them
 --     Change g img img′ key what a step that concerns the point `key` alone leaves
 --     file-change, point-other    such a step keeps the invariant, and every other point
@@ -132,7 +132,8 @@ pub record Change (g : Layout) (img img′ key : Bytes) : Type 0 where
   pub table : Findable g img′
   pub counted : field img′ pointsField ≡ weight g img′ (λ s. 1)
   pub others : (key′ : Bytes) → Allowed g key′ → (key′ ≡ key → ⊥) → entryOf g img′ key′ ≡ entryOf g img key′
-  pub still : (key′ s : Bytes) → Allowed g key′ → (key′ ≡ key → ⊥) → entryOf g img key′ ≡ some s → (offsetOf g s ≡ 0 → ⊥)
+  pub still : (key′ s : Bytes) → Allowed g key′ → (key′ ≡ key → ⊥) → entryOf g img key′ ≡ some s
+      → (offsetOf g s ≡ 0 → ⊥)
       → SameOn img img′ (offsetOf g s) (span g img (offsetOf g s))
   pub here : (s : Bytes) → Allowed g key → entryOf g img′ key ≡ some s → Stored g img′ (offsetOf g s)
   pub here-apart : (s key′ s′ : Bytes) → Allowed g key → Allowed g key′ → (key′ ≡ key → ⊥)
@@ -141,10 +142,12 @@ pub record Change (g : Layout) (img img′ key : Bytes) : Type 0 where
 
 module _ (g : Layout) (img img′ key : Bytes) (f : File g img) (c : Change g img img′ key) where
   -- an entry of another point was there before
-  before : (key′ s : Bytes) → Allowed g key′ → (key′ ≡ key → ⊥) → entryOf g img′ key′ ≡ some s → entryOf g img key′ ≡ some s
+  before : (key′ s : Bytes) → Allowed g key′ → (key′ ≡ key → ⊥) → entryOf g img′ key′ ≡ some s
+      → entryOf g img key′ ≡ some s
   before key′ s a n e = sym (c .others key′ a n) ∙ e
 
-  other-size : (key′ s : Bytes) → Allowed g key′ → (key′ ≡ key → ⊥) → entryOf g img key′ ≡ some s → (offsetOf g s ≡ 0 → ⊥)
+  other-size : (key′ s : Bytes) → Allowed g key′ → (key′ ≡ key → ⊥) → entryOf g img key′ ≡ some s
+      → (offsetOf g s ≡ 0 → ⊥)
       → span g img′ (offsetOf g s) ≡ span g img (offsetOf g s)
   other-size key′ s a n e z = span-same g img img′ (offsetOf g s) (c .still key′ s a n e z)
 
@@ -169,7 +172,8 @@ module _ (g : Layout) (img img′ key : Bytes) (f : File g img) (c : Change g im
       (λ n₁. by-same k′ key
       (λ q′.
       let b = before k s a n₁ e in
-      rw (other-size k s a n₁ b z) (apart-sym (offsetOf g s′) _ (offsetOf g s) _ (c .here-apart s′ k s (rw q′ at a′) a n₁ (rw q′ at e′) b z′ z)))
+      rw (other-size k s a n₁ b z)
+      (apart-sym (offsetOf g s′) _ (offsetOf g s) _ (c .here-apart s′ k s (rw q′ at a′) a n₁ (rw q′ at e′) b z′ z)))
       (λ n₂.
       let b = before k s a n₁ e in
       let b′ = before k′ s′ a′ n₂ e′ in
@@ -201,7 +205,8 @@ module _ (g : Layout) (img img′ key : Bytes) (f : File g img) (c : Change g im
 -- ---- changes in turn
 
 module _ (g : Layout) (img img₁ img₂ key : Bytes) (c : Change g img img₁ key) (d : Change g img₁ img₂ key) where
-  on₁ : (key′ s : Bytes) → Allowed g key′ → (key′ ≡ key → ⊥) → entryOf g img key′ ≡ some s → entryOf g img₁ key′ ≡ some s
+  on₁ : (key′ s : Bytes) → Allowed g key′ → (key′ ≡ key → ⊥) → entryOf g img key′ ≡ some s
+      → entryOf g img₁ key′ ≡ some s
   on₁ key′ s a n e = c .others key′ a n ∙ e
 
   size₁ : (key′ s : Bytes) → Allowed g key′ → (key′ ≡ key → ⊥) → entryOf g img key′ ≡ some s → (offsetOf g s ≡ 0 → ⊥)
@@ -222,11 +227,13 @@ module _ (g : Layout) (img img₁ img₂ key : Bytes) (c : Change g img img₁ k
         still =
             λ key′ s a n e z.
             same-on-trans (c .still key′ s a n e z)
-            (subst (λ (m : ℕ). SameOn img₁ img₂ (offsetOf g s) m) (size₁ key′ s a n e z) (d .still key′ s a n (on₁ key′ s a n e) z));
+            (subst (λ (m : ℕ). SameOn img₁ img₂ (offsetOf g s) m) (size₁ key′ s a n e z)
+            (d .still key′ s a n (on₁ key′ s a n e) z));
         here = d .here;
         here-apart =
             λ s key′ s′ a a′ n e e′ z z′.
-            subst (λ (m : ℕ). Apart (offsetOf g s) (span g img₂ (offsetOf g s)) (offsetOf g s′) m) (size₁ key′ s′ a′ n e′ z′)
+            subst (λ (m : ℕ). Apart (offsetOf g s) (span g img₂ (offsetOf g s)) (offsetOf g s′) m)
+            (size₁ key′ s′ a′ n e′ z′)
             (d .here-apart s key′ s′ a a′ n e (on₁ key′ s′ a′ n e′) z z′);
       }
 
@@ -252,5 +259,6 @@ module _ (g : Layout) (img img′ : Bytes) (f : File g img) (c : Change g img im
             λ s key′ s′ a a′ n e e′ z z′.
             subst (λ (m : ℕ). Apart (offsetOf g s) (span g img′ (offsetOf g s)) (offsetOf g s′) m)
             (span-same g img img′ (offsetOf g s′) (c .still key′ s′ a′ (none-of key′ a′) e′ z′))
-            (file-change g img img′ [] f c .apart key key′ s s′ a a′ (λ q. n (sym q)) e (c .others key′ a′ (none-of key′ a′) ∙ e′) z z′);
+            (file-change g img img′ [] f c .apart key key′ s s′ a a′ (λ q. n (sym q)) e
+            (c .others key′ a′ (none-of key′ a′) ∙ e′) z z′);
       }

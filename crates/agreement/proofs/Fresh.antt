@@ -169,7 +169,11 @@ module _ (L K N seed : ℕ) (ok : Accepted L K N) (pos : 1 ≤ N) where
       record {
         layout = refl;
         opened = fresh-opened;
-        table = record { paths = λ i k li lk t h. absurd (none-taken i li t); distinct = λ i j li lj t u e. absurd (none-taken i li t) };
+        table =
+            record {
+              paths = λ i k li lk t h. absurd (none-taken i li t);
+              distinct = λ i j li lj t u e. absurd (none-taken i li t);
+            };
         counted = fresh-C ∙ sym nothing;
         messages = λ key s a e. absurd (Option·none-ne-some s (sym (fresh-entry key a) ∙ e));
         apart = λ key key′ s s′ a a′ n e e′ z z′. absurd (Option·none-ne-some s (sym (fresh-entry key a) ∙ e));
@@ -178,7 +182,8 @@ module _ (L K N seed : ℕ) (ok : Accepted L K N) (pos : 1 ≤ N) where
       nothing : weight g img (λ s. 1) ≡ 0
       nothing =
           unfold weight in
-          (total-same (λ i. weigh g (λ s. 1) (slot g img i)) (λ i. 0) (g .N) (λ i l. weigh-vacant g (λ s. 1) (slot g img i) (fresh-vacant i l))
+          (total-same (λ i. weigh g (λ s. 1) (slot g img i)) (λ i. 0) (g .N)
+          (λ i l. weigh-vacant g (λ s. 1) (slot g img i) (fresh-vacant i l))
           ∙ omega (arith, total-const 0 (g .N)))
 
   pub fresh-reflects : Reflects (layoutOf (freshImage L K N seed)) (freshImage L K N seed) (newBook (termsOf L K N))

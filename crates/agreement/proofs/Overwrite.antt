@@ -25,8 +25,9 @@ use Rattle.agreement.proofs.Data.{file-above, point-change, point-lies,
 use Rattle.agreement.proofs.Space.{Written, written, written-value, written-lies}
 use Rattle.agreement.proofs.File.{Allowed, pointOf, pointOf-some, File, file-room, file-some, Change}
 
-module _ (g : Layout) (img : Bytes) (f : File g img) (key s : Bytes) (a : Allowed g key) (e : entryOf g img key ≡ some s)
-    (z : offsetOf g s ≡ 0 → ⊥) (t : Bytes) (least : leastLength ≤ length t) (le : length t ≤ held g img (offsetOf g s)) where
+module _ (g : Layout) (img : Bytes) (f : File g img) (key s : Bytes) (a : Allowed g key)
+    (e : entryOf g img key ≡ some s) (z : offsetOf g s ≡ 0 → ⊥) (t : Bytes) (least : leastLength ≤ length t)
+    (le : length t ≤ held g img (offsetOf g s)) where
   small : length t < 256 ^ g .W
   small = omega (arith, le, held-some g img (offsetOf g s) z, f .messages key s a e .short z)
 
@@ -52,7 +53,8 @@ module _ (g : Layout) (img : Bytes) (f : File g img) (key s : Bytes) (a : Allowe
       ap (λ (x : ℕ). part (store img (offsetOf g s) bytes) x (headSize g + length t)) (sym (add-zero (offsetOf g s)))
       ∙ part-store-inside img (offsetOf g s) bytes 0 (headSize g + length t) (omega (arith, fits))
       (rw length-bytes (omega (arith, held-some g img (offsetOf g s) z, le)))
-      ∙ take-at (message (g .W) t) (zeros (held g img (offsetOf g s) - length t)) (headSize g + length t) (length-message g t)
+      ∙ take-at (message (g .W) t) (zeros (held g img (offsetOf g s) - length t)) (headSize g + length t)
+      (length-message g t)
 
   now-written : Written g (store img (offsetOf g s) bytes) (offsetOf g s) t
   now-written = written g (store img (offsetOf g s) bytes) (offsetOf g s) t small there
@@ -76,7 +78,8 @@ module _ (g : Layout) (img : Bytes) (f : File g img) (key s : Bytes) (a : Allowe
   overwrite-change =
       rw is-overwrite
       (point-change g img (store img (offsetOf g s) bytes) f
-      (kept-store img (offsetOf g s) bytes fits (omega (arith, lies .low, file-above f))) now-slot (now-field pointsField (omega arith))
+      (kept-store img (offsetOf g s) bytes fits (omega (arith, lies .low, file-above f))) now-slot
+      (now-field pointsField (omega arith))
       (rw (now-field freeField (omega arith)) (omega arith))
       (rw (now-field freeField (omega arith)) (f .opened .free-high))
       key s a e
@@ -87,7 +90,8 @@ module _ (g : Layout) (img : Bytes) (f : File g img) (key s : Bytes) (a : Allowe
   pub overwrite-field : (at : ℕ) → at + 4 ≤ tableStart → field (overwrite g img (offsetOf g s) t) at ≡ field img at
   overwrite-field at h = rw is-overwrite (now-field at h)
 
-  pub overwrite-point : pointOf g (overwrite g img (offsetOf g s) t) key ≡ some (record { name = key; text = t; held = length t })
+  pub overwrite-point : pointOf g (overwrite g img (offsetOf g s) t) key
+      ≡ some (record { name = key; text = t; held = length t })
   overwrite-point =
       rw is-overwrite
       (pointOf-some g (store img (offsetOf g s) bytes) key s (entryOf-frame g img _ key (file-some f) now-slot ∙ e)

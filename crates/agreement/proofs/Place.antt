@@ -1,7 +1,7 @@
--- Messages in new space: the file's questions 12 and 13 are the book's, and the relation is kept by an insert and a relocation.
+-- Messages in new space: questions 12 and 13 of the file are the book's; an insert and a relocation keep the relation.
 --     place-both                  questions 12 and 13, of the file and of the book
 --     place-length, place-space    what a yes to both gives
---     relocate, insert           the relation after a message is placed, of any length that is allowed where there is space
+--     relocate, insert           the relation after a message is placed: its length is allowed, and there is space
 -- Assumes nothing.
 use mathlib.Core.Path.{_≡_, sym, ap, ap₂, _∙_, subst}
 use Prim.Native.Nat.{ℕ, _+_, _-_, _^_, _≤_, _<_}
@@ -48,7 +48,8 @@ module _ (g : Layout) (img : Bytes) (b : Book) (r : Reflects g img b) (t : Bytes
       ap₂ (λ (x y : Bool). firstNo (ask 12 x ∷ ask 13 y ∷ []))
       (ap (λ (m : Terms). leb (length t) (m .most)) (sym (r .terms)))
       (ap (λ (n : ℕ). leb n (length img)) (regroup (field img freeField))
-      ∙ leb-shift (g .D) (b .used) (field img freeField) (length img) (headSize g + length t) (r .used) (file-room (r .file) .area)
+      ∙ leb-shift (g .D) (b .used) (field img freeField) (length img) (headSize g + length t) (r .used)
+      (file-room (r .file) .area)
       ∙ ap (λ (n : ℕ). leb n (length img - g .D)) (sym (regroup (b .used)))
       ∙ ap (λ (m : Terms). leb (b .used + m .head + length t) (m .R)) (sym (r .terms)))
     where
@@ -151,7 +152,8 @@ module _ (g : Layout) (img : Bytes) (b : Book) (r : Reflects g img b) (key : Byt
     final-point =
         set-point g grown grown-file key a (field off freeField) own₁ i grown-met
         ∙ ap some
-        (written-value g grown (field off freeField) t (space-written g off off-file t s₁ off-fits) (space-some g off off-file t s₁ off-fits) key)
+        (written-value g grown (field off freeField) t (space-written g off off-file t s₁ off-fits)
+        (space-some g off off-file t s₁ off-fits) key)
 
     final-free : field final freeField ≡ x + (b .terms .head + length t)
     final-free =
@@ -168,8 +170,10 @@ module _ (g : Layout) (img : Bytes) (b : Book) (r : Reflects g img b) (key : Byt
     pub relocate : Reflects g (relocated g img i (offsetOf g (slot g img i)) key t) (placed b key t)
     unfolding relocated placed
     relocate =
-        subst (λ (y : ℕ). Reflects g (putSlot g grown i (slotBytes key y)) (entered b key t (length t) (b .terms .head + length t))) off-free
-        (reflect-entered g img final key b r a final-change t (length t) (b .terms .head + length t) final-point final-free
+        subst (λ (y : ℕ). Reflects g (putSlot g grown i (slotBytes key y))
+        (entered b key t (length t) (b .terms .head + length t))) off-free
+        (reflect-entered g img final key b r a final-change t (length t) (b .terms .head + length t)
+        final-point final-free
         (length-withEntry-old _ (b .entries) _ (found-met g img b r key a i m) ∙ r .number ∙ sym final-points))
 
   -- "Add, key absent: the entry goes to the empty slot where the search ended"
@@ -201,9 +205,15 @@ module _ (g : Layout) (img : Bytes) (b : Book) (r : Reflects g img b) (key : Byt
         (enter-change g wide wide-file key a x own₂ i wide-empty wide-left))
         t (length t) (b .terms .head + length t)
         (enter-point g wide wide-file key a x own₂ i wide-empty wide-left
-        ∙ ap some (written-value g wide x t (space-written g img (r .file) t s₁ l₁) (space-some g img (r .file) t s₁ l₁) key))
+        ∙ ap some (written-value g wide x t (space-written g img (r .file) t s₁ l₁)
+        (space-some g img (r .file) t s₁ l₁) key))
         (enter-free g wide wide-file key a x own₂ i wide-empty wide-left
         ∙ space-is g img (r .file) t s₁ l₁ .free
         ∙ omega (arith, more-is g img b r (length t)))
         (length-withEntry-new _ (b .entries) absent
-        ∙ omega (arith, r .number, enter-points g wide wide-file key a x own₂ i wide-empty wide-left, space-is g img (r .file) t s₁ l₁ .points))
+        ∙ omega (
+          arith,
+          r .number,
+          enter-points g wide wide-file key a x own₂ i wide-empty wide-left,
+          space-is g img (r .file) t s₁ l₁ .points,
+        ))

@@ -35,8 +35,8 @@ use Rattle.agreement.proofs.Place.{place-both, place-length, place-spac
 
 -- ---- a point that is present
 
-module _ (g : Layout) (img : Bytes) (b : Book) (r : Reflects g img b) (key : Bytes) (a : Allowed g key) (bytes : Bytes) (i : ℕ)
-    (m : search g img key ≡ met i) where
+module _ (g : Layout) (img : Bytes) (b : Book) (r : Reflects g img b) (key : Bytes) (a : Allowed g key) (bytes : Bytes)
+    (i : ℕ) (m : search g img key ≡ met i) where
   abbrev o : ℕ
   o = offsetOf g (slot g img i)
 
@@ -54,7 +54,8 @@ module _ (g : Layout) (img : Bytes) (b : Book) (r : Reflects g img b) (key : Byt
   open₁ = open₀ r
 
   -- in modes 2 and 3 questions 12 and 13 decide, of the text p to be placed
-  present-number : (mode : ℕ) (p : Option Bytes) → modeKnown mode ≡ true → eqb mode 1 ≡ false → renewedText g img o bytes mode ≡ p
+  present-number : (mode : ℕ) (p : Option Bytes) → modeKnown mode ≡ true → eqb mode 1 ≡ false
+      → renewedText g img o bytes mode ≡ p
       → addNumber img key bytes mode ≡ placeNumber g img p
   present-number mode p k h q =
       rw (r .file .layout) at
@@ -67,7 +68,8 @@ module _ (g : Layout) (img : Bytes) (b : Book) (r : Reflects g img b) (key : Byt
   after-present mode = rw (r .file .layout, m) refl
 
   -- a text in new space
-  same-placed : (mode : ℕ) (t : Bytes) → modeKnown mode ≡ true → eqb mode 1 ≡ false → renewedText g img o bytes mode ≡ some t
+  same-placed : (mode : ℕ) (t : Bytes) → modeKnown mode ≡ true → eqb mode 1 ≡ false
+      → renewedText g img o bytes mode ≡ some t
       → leastLength ≤ length t
       → Same g (add img key bytes mode) (stepOf b (roomAsks b (length t)) (placed b key t))
   unfolding add
@@ -98,14 +100,16 @@ module _ (g : Layout) (img : Bytes) (b : Book) (r : Reflects g img b) (key : Byt
   same-1 =
       let nine = add-9 img key open₁ bytes 1 (rw (r .file .layout) a) refl i (rw (r .file .layout) m) refl in
       let book = firstNo-no 9 false [] refl in
-      same-refused g img b r (addNumber img key bytes 1) _ (ask 9 false ∷ []) b (nine ∙ sym book) (λ z. omega (arith, z, book))
+      same-refused g img b r (addNumber img key bytes 1) _ (ask 9 false ∷ []) b (nine ∙ sym book)
+      (λ z. omega (arith, z, book))
 
   -- ---- mode 2
   retired : Reflects g (retire img o) (entered b key [] (held g img o) 0)
   retired =
       let f : (at : ℕ) → at + 4 ≤ tableStart → field (retire img o) at ≡ field img at
       = retire-field g img (r .file) key (slot g img i) a e₁ in
-      reflect-entered g img (retire img o) key b r a (retire-change g img (r .file) key (slot g img i) a e₁) [] (held g img o) 0
+      reflect-entered g img (retire img o) key b r a (retire-change g img (r .file) key (slot g img i) a e₁) []
+      (held g img o) 0
       (retire-point g img (r .file) key (slot g img i) a e₁)
       (f freeField (omega arith) ∙ sym (add-zero (field img freeField)))
       (old-number _ refl ∙ sym (f pointsField (omega arith)))

@@ -63,7 +63,8 @@ reached-after img b r calls =
 -- ---- no point stands twice
 
 pub no-point-twice : (img : Bytes) (b : Book) → Reached img b → (i j : ℕ) → i < layoutOf img .N → j < layoutOf img .N
-    → Taken (layoutOf img) img i → Taken (layoutOf img) img j → keyAt (layoutOf img) img i ≡ keyAt (layoutOf img) img j → i ≡ j
+    → Taken (layoutOf img) img i → Taken (layoutOf img) img j → keyAt (layoutOf img) img i ≡ keyAt (layoutOf img) img j
+    → i ≡ j
 no-point-twice img b r i j li lj ti tj e =
     let s = reached-reflects img b r in
     let f : File (layoutOf img) img = subst (λ (l : Layout). File l img) (sym (s .1 .file .layout)) (s .1 .file) in

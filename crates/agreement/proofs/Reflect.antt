@@ -41,8 +41,9 @@ Reflected img b = (g : Layout) × Reflects g img b
 pub other-name : (g : Layout) (key name : Bytes) → Allowed g key → nameAllowed (g .K) name ≡ false → name ≡ key → ⊥
 other-name g key name a h q = not-both (nameAllowed (g .K) name) (rw q a) h
 
-module _ (g : Layout) (img img′ key : Bytes) (b : Book) (r : Reflects g img b) (a : Allowed g key) (c : Change g img img′ key) where
-  -- the book with other entries and another amount used, which tell the point as the file does and every other as before
+module _ (g : Layout) (img img′ key : Bytes) (b : Book) (r : Reflects g img b) (a : Allowed g key)
+    (c : Change g img img′ key) where
+  -- the book with other entries, which tell the point as the file does and others as before, and another amount used
   reflect-change : (es : List Entry) (u : ℕ) → pointOf g img′ key ≡ find key es
       → ((name : Bytes) → (name ≡ key → ⊥) → find name es ≡ find name (b .entries)) → Distinct es
       → field img′ freeField ≡ g .D + u → length es ≡ field img′ pointsField
@@ -72,7 +73,8 @@ module _ (g : Layout) (img img′ key : Bytes) (b : Book) (r : Reflects g img b)
   reflect-entered text held more p x n =
       let new : Entry = record { name = key; text = text; held = held } in
       reflect-change (withEntry new (b .entries)) (b .used + more) (p ∙ sym (find-withEntry new (b .entries)))
-      (find-withEntry-other new (b .entries)) (distinct-withEntry new (b .entries) (r .distinct)) (omega (arith, x, r .used)) n
+      (find-withEntry-other new (b .entries)) (distinct-withEntry new (b .entries) (r .distinct))
+      (omega (arith, x, r .used)) n
 
   -- the point is gone
   pub reflect-without : pointOf g img′ key ≡ none → field img′ freeField ≡ field img freeField
@@ -80,4 +82,5 @@ module _ (g : Layout) (img img′ key : Bytes) (b : Book) (r : Reflects g img b)
       → Reflects g img′ (removed key b)
   reflect-without p x n =
       reflect-change (without key (b .entries)) (b .used) (p ∙ sym (find-without-same key (b .entries) (r .distinct)))
-      (λ name q. find-without-other key name (b .entries) q) (distinct-without key (b .entries) (r .distinct)) (x ∙ r .used) n
+      (λ name q. find-without-other key name (b .entries) q) (distinct-without key (b .entries) (r .distinct))
+      (x ∙ r .used) n

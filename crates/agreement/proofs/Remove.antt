@@ -26,8 +26,8 @@ use Rattle.agreement.proofs.File.{Allowed, allowed-zero, pointOf, point
 
 -- ---- a point gone
 
-module _ (g : Layout) (img : Bytes) (f : File g img) (key : Bytes) (a : Allowed g key) (i : ℕ) (m : search g img key ≡ met i)
-    (some-point : 1 ≤ field img pointsField) where
+module _ (g : Layout) (img : Bytes) (f : File g img) (key : Bytes) (a : Allowed g key) (i : ℕ)
+    (m : search g img key ≡ met i) (some-point : 1 ≤ field img pointsField) where
   fewer : Bytes
   fewer = setField img pointsField (field img pointsField - 1)
 
@@ -110,7 +110,12 @@ module _ (g : Layout) (img : Bytes) (f : File g img) (key : Bytes) (a : Allowed 
   unfolding gone
   gone-counted =
       gone-points
-      ∙ omega (arith, f .counted, weight-closed g fewer room-fewer i lt₁ taken₁ (λ s. 1), weight-frame g img fewer (λ s. 1) fewer-slot)
+      ∙ omega (
+        arith,
+        f .counted,
+        weight-closed g fewer room-fewer i lt₁ taken₁ (λ s. 1),
+        weight-frame g img fewer (λ s. 1) fewer-slot,
+      )
 
   remove-change′ : Change g img gone key
   remove-change′ =
@@ -136,10 +141,12 @@ module _ (g : Layout) (img : Bytes) (f : File g img) (key : Bytes) (a : Allowed 
   unfolding gone fewer
   remove-point = pointOf-none g gone key remove-entry
 
-  pub remove-points : field (closed g (setField img pointsField (field img pointsField - 1)) i) pointsField ≡ field img pointsField - 1
+  pub remove-points : field (closed g (setField img pointsField (field img pointsField - 1)) i) pointsField
+      ≡ field img pointsField - 1
   unfolding gone fewer
   remove-points = gone-points
 
-  pub remove-free : field (closed g (setField img pointsField (field img pointsField - 1)) i) freeField ≡ field img freeField
+  pub remove-free : field (closed g (setField img pointsField (field img pointsField - 1)) i) freeField
+      ≡ field img freeField
   unfolding gone fewer
   remove-free = gone-free

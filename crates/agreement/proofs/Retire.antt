@@ -33,7 +33,8 @@ unfolding shown
 shown-inactive g img o h = rw h refl
 
 -- what retire leaves of a point with message offset o: no text, the length held as before
-module _ (g : Layout) (img : Bytes) (f : File g img) (key s : Bytes) (a : Allowed g key) (e : entryOf g img key ≡ some s) where
+module _ (g : Layout) (img : Bytes) (f : File g img) (key s : Bytes) (a : Allowed g key)
+    (e : entryOf g img key ≡ some s) where
   abbrev o : ℕ
   o = offsetOf g s
 
@@ -80,7 +81,8 @@ module _ (g : Layout) (img : Bytes) (f : File g img) (key s : Bytes) (a : Allowe
 
   pub retire-change : Change g img off key
   retire-change =
-      point-change g img off f (retire-kept img (f .opened) o sound₁) retire-slot (retire-field pointsField (omega arith))
+      point-change g img off f (retire-kept img (f .opened) o sound₁) retire-slot
+      (retire-field pointsField (omega arith))
       (rw (retire-field freeField (omega arith)) (omega arith))
       (rw (retire-field freeField (omega arith)) (f .opened .free-high))
       key s a e
@@ -94,7 +96,8 @@ module _ (g : Layout) (img : Bytes) (f : File g img) (key s : Bytes) (a : Allowe
       letter-apart : (p n : ℕ) → Apart p n o (span g img o) → Apart p n o 1
       letter-apart p n h =
           apart-sym o 1 p n
-          (apart-inside o (span g img o) p n o 1 (omega arith) (unfold headSize in omega arith) (apart-sym p n o (span g img o) h))
+          (apart-inside o (span g img o) p n o 1 (omega arith) (unfold headSize in omega arith)
+          (apart-sym p n o (span g img o) h))
 
   pub retire-point : pointOf g off key ≡ some (record { name = key; text = []; held = held g img o })
   unfolding held

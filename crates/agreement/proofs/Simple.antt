@@ -1,6 +1,6 @@
 -- Count, lookup and delete: the file's answer is the book's, and the relation is kept.
---     Same g o p      an outcome of the file and one of the book: equal answers, and states that reflect one another in layout g
---     Alike o p       in some layout
+--     Same g o p      an outcome of the file and one of the book: equal answers, and states that are in `Reflects g`
+--     Alike o p       so in some layout
 -- Assumes nothing.
 use mathlib.Core.Path.{_≡_, refl, sym, ap, _∙_, subst}
 use Prim.Native.Nat.{ℕ, suc, _-_, _≤_}

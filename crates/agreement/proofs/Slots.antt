@@ -38,8 +38,8 @@ pub unshared-none : (g : Layout) (img key : Bytes) → Unshared g img key 0
 unshared-none g img key =
     record { stored = none-stored g img; small = omega arith; away = λ z. absurd (z refl) }
 
-module _ (g : Layout) (img : Bytes) (f : File g img) (key : Bytes) (a : Allowed g key) (x : ℕ) (fr : Unshared g img key x)
-    (img′ : Bytes) (k : Kept img img′) (free : field img′ freeField ≡ field img freeField)
+module _ (g : Layout) (img : Bytes) (f : File g img) (key : Bytes) (a : Allowed g key) (x : ℕ)
+    (fr : Unshared g img key x) (img′ : Bytes) (k : Kept img img′) (free : field img′ freeField ≡ field img freeField)
     (same-on : (p n : ℕ) → g .D ≤ p → SameOn img img′ p n) (e : entryOf g img′ key ≡ some (slotBytes key x)) where
   -- the offset is read back
   offset-is : offsetOf g (slotBytes key x) ≡ x
@@ -56,7 +56,8 @@ module _ (g : Layout) (img : Bytes) (f : File g img) (key : Bytes) (a : Allowed 
       ∙ ap some (value-same g img img′ key x x-same)
 
   pub slot-change : field img′ pointsField ≤ g .N → Findable g img′ → field img′ pointsField ≡ weight g img′ (λ s. 1)
-      → ((key′ : Bytes) → Allowed g key′ → (key′ ≡ key → ⊥) → entryOf g img′ key′ ≡ entryOf g img key′) → Change g img img′ key
+      → ((key′ : Bytes) → Allowed g key′ → (key′ ≡ key → ⊥) → entryOf g img′ key′ ≡ entryOf g img key′)
+      → Change g img img′ key
   slot-change points table counted others =
       record {
         kept = k;
@@ -76,7 +77,8 @@ module _ (g : Layout) (img : Bytes) (f : File g img) (key : Bytes) (a : Allowed 
       is-x s e₁ = ap (offsetOf g) (Option·some-injective s (slotBytes key x) (sym e₁ ∙ e)) ∙ offset-is
 
       apart₁ : (s key′ s′ : Bytes) → Allowed g key′ → (key′ ≡ key → ⊥)
-          → entryOf g img′ key ≡ some s → entryOf g img key′ ≡ some s′ → (offsetOf g s ≡ 0 → ⊥) → (offsetOf g s′ ≡ 0 → ⊥)
+          → entryOf g img′ key ≡ some s → entryOf g img key′ ≡ some s′ → (offsetOf g s ≡ 0 → ⊥)
+          → (offsetOf g s′ ≡ 0 → ⊥)
           → Apart (offsetOf g s) (span g img′ (offsetOf g s)) (offsetOf g s′) (span g img (offsetOf g s′))
       apart₁ s key′ s′ a′ n e₁ e′ z z′ =
           let z₁ : x ≡ 0 → ⊥ = λ q. z (is-x s e₁ ∙ q) in
@@ -84,7 +86,8 @@ module _ (g : Layout) (img : Bytes) (f : File g img) (key : Bytes) (a : Allowed 
 
 -- ---- a slot's write
 
-module _ (g : Layout) (img : Bytes) (f : File g img) (i : ℕ) (s : Bytes) (l : i < g .N) (len : length s ≡ slotSize g) where
+module _ (g : Layout) (img : Bytes) (f : File g img) (i : ℕ) (s : Bytes) (l : i < g .N)
+    (len : length s ≡ slotSize g) where
   put-kept : Kept img (putSlot g img i s)
   unfolding putSlot
   put-kept =
@@ -100,8 +103,8 @@ module _ (g : Layout) (img : Bytes) (f : File g img) (i : ℕ) (s : Bytes) (l : 
 
 -- ---- the offset x written into the slot where the point was met
 
-module _ (g : Layout) (img : Bytes) (f : File g img) (key : Bytes) (a : Allowed g key) (x : ℕ) (fr : Unshared g img key x) (i : ℕ)
-    (m : search g img key ≡ met i) where
+module _ (g : Layout) (img : Bytes) (f : File g img) (key : Bytes) (a : Allowed g key) (x : ℕ)
+    (fr : Unshared g img key x) (i : ℕ) (m : search g img key ≡ met i) where
   set-lt : i < g .N
   set-lt = search-met g img key (file-some f) i m .0
 
@@ -117,10 +120,15 @@ module _ (g : Layout) (img : Bytes) (f : File g img) (key : Bytes) (a : Allowed 
   pub set-field : (at : ℕ) → at + 4 ≤ tableStart → field (putSlot g img i (slotBytes key x)) at ≡ field img at
   set-field = put-field g img f i (slotBytes key x) set-lt set-length
 
-  set-counted : field (putSlot g img i (slotBytes key x)) pointsField ≡ weight g (putSlot g img i (slotBytes key x)) (λ s. 1)
+  set-counted : field (putSlot g img i (slotBytes key x)) pointsField
+      ≡ weight g (putSlot g img i (slotBytes key x)) (λ s. 1)
   set-counted =
       set-field pointsField (omega arith) ∙ f .counted
-      ∙ omega (arith, replace-weight g img key i (slotBytes key x) (file-room f) (file-some f) set-length set-key m (allowed-zero g key a) (λ s. 1))
+      ∙ omega (
+        arith,
+        replace-weight g img key i (slotBytes key x) (file-room f) (file-some f) set-length set-key m
+            (allowed-zero g key a) (λ s. 1),
+      )
 
   pub set-change : Change g img (putSlot g img i (slotBytes key x)) key
   set-change =
@@ -144,8 +152,8 @@ module _ (g : Layout) (img : Bytes) (f : File g img) (key : Bytes) (a : Allowed 
 
 -- ---- a new point, in the empty slot where its search ended
 
-module _ (g : Layout) (img : Bytes) (f : File g img) (key : Bytes) (a : Allowed g key) (x : ℕ) (fr : Unshared g img key x) (i : ℕ)
-    (m : search g img key ≡ empty i) (left : field img pointsField < g .N) where
+module _ (g : Layout) (img : Bytes) (f : File g img) (key : Bytes) (a : Allowed g key) (x : ℕ)
+    (fr : Unshared g img key x) (i : ℕ) (m : search g img key ≡ empty i) (left : field img pointsField < g .N) where
   put : Bytes
   put = putSlot g img i (slotBytes key x)
 
@@ -182,7 +190,9 @@ module _ (g : Layout) (img : Bytes) (f : File g img) (key : Bytes) (a : Allowed 
   is-enter = refl
 
   enter-slot : (k : ℕ) → k < g .N → slot g (enter g img i key x) k ≡ slot g put k
-  enter-slot k h = ap (λ (j : Bytes). slot g j k) is-enter ∙ slot-setField g put room-put pointsField (field img pointsField + 1) k (omega arith) h
+  enter-slot k h =
+      ap (λ (j : Bytes). slot g j k) is-enter ∙ slot-setField g put room-put pointsField (field img pointsField + 1) k
+      (omega arith) h
 
   enter-entry : (k : Bytes) → entryOf g (enter g img i key x) k ≡ entryOf g put k
   enter-entry k = entryOf-frame g put (enter g img i key x) k (file-some f) enter-slot
@@ -191,7 +201,8 @@ module _ (g : Layout) (img : Bytes) (f : File g img) (key : Bytes) (a : Allowed 
   unfolding put
   entry-is =
       enter-entry key
-      ∙ insert-entry g img key i (slotBytes key x) (file-room f) (file-some f) (f .table) len key-is (allowed-zero g key a) m
+      ∙ insert-entry g img key i (slotBytes key x) (file-room f) (file-some f) (f .table) len key-is
+      (allowed-zero g key a) m
 
   pub enter-points : field (enter g img i key x) pointsField ≡ field img pointsField + 1
   enter-points =
@@ -206,14 +217,19 @@ module _ (g : Layout) (img : Bytes) (f : File g img) (key : Bytes) (a : Allowed 
 
   enter-kept : Kept img (enter g img i key x)
   unfolding put
-  enter-kept = rw is-enter (kept-trans (put-kept g img f i (slotBytes key x) lt len) (points-kept put put-opened (field img pointsField + 1) more))
+  enter-kept =
+      rw is-enter (kept-trans (put-kept g img f i (slotBytes key x) lt len)
+      (points-kept put put-opened (field img pointsField + 1) more))
 
   enter-same : (p n : ℕ) → g .D ≤ p → SameOn img (enter g img i key x) p n
   unfolding put
   enter-same p n h =
       rw is-enter
       (same-on-trans (put-same g img f i (slotBytes key x) lt len p n h)
-      (record { on = λ q m lo hi. points-behind put put-opened (field img pointsField + 1) more q m (omega (arith, h, file-above f)) }))
+      (record {
+        on = λ q m lo hi. points-behind put put-opened (field img pointsField + 1) more q m
+            (omega (arith, h, file-above f));
+      }))
 
   pub enter-change : Change g img (enter g img i key x) key
   unfolding put
@@ -221,14 +237,17 @@ module _ (g : Layout) (img : Bytes) (f : File g img) (key : Bytes) (a : Allowed 
       slot-change g img f key a x fr (enter g img i key x) enter-kept enter-free enter-same entry-is
       (rw enter-points (omega (arith, left)))
       (frame-findable g put (enter g img i key x) (file-some f) enter-slot
-      (insert-findable g img key i (slotBytes key x) (file-room f) (file-some f) (f .table) len key-is (allowed-zero g key a) m))
+      (insert-findable g img key i (slotBytes key x) (file-room f) (file-some f) (f .table) len key-is
+      (allowed-zero g key a) m))
       (enter-points
       ∙ ap (λ (n : ℕ). n + 1) (f .counted)
       ∙ sym (weight-frame g put (enter g img i key x) (λ s. 1) enter-slot
-      ∙ insert-weight g img key i (slotBytes key x) (file-room f) (file-some f) (f .table) len key-is (allowed-zero g key a) m (λ s. 1)))
+      ∙ insert-weight g img key i (slotBytes key x) (file-room f) (file-some f) (f .table) len key-is
+      (allowed-zero g key a) m (λ s. 1)))
       (λ key′ a′ n.
       enter-entry key′
-      ∙ insert-other g img key i (slotBytes key x) (file-room f) (file-some f) (f .table) len key-is (allowed-zero g key a) m key′ n
+      ∙ insert-other g img key i (slotBytes key x) (file-room f) (file-some f) (f .table) len key-is
+      (allowed-zero g key a) m key′ n
       (allowed-zero g key′ a′))
 
   pub enter-point : pointOf g (enter g img i key x) key ≡ some (valueOf g img key x)

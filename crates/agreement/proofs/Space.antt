@@ -64,7 +64,8 @@ module _ (g : Layout) (img : Bytes) (p : ℕ) (t : Bytes) (w : Written g img p t
   unfolding shown held isActive
   written-value key = rw (w .letter, w .text, w .count, ne-eqb p 0 z) refl
 
-  pub written-lies : g .D ≤ p → leastLength ≤ length t → p + (headSize g + length t) ≤ field img freeField → Lies g img p
+  pub written-lies : g .D ≤ p → leastLength ≤ length t → p + (headSize g + length t) ≤ field img freeField
+      → Lies g img p
   written-lies lo le hi =
       record { low = lo; letter = rw (w .letter) refl; least = rw (w .count) le; end = rw (w .count) hi }
 
@@ -110,8 +111,10 @@ module _ (g : Layout) (img : Bytes) (f : File g img) (t : Bytes) (small : length
 
   -- no point's message meets it
   pub space-away : (key s : Bytes) → Allowed g key → entryOf g (takeSpace g img t) key ≡ some s → (offsetOf g s ≡ 0 → ⊥)
-      → Apart (field img freeField) (span g (takeSpace g img t) (field img freeField)) (offsetOf g s) (span g (takeSpace g img t) (offsetOf g s))
+      → Apart (field img freeField) (span g (takeSpace g img t) (field img freeField)) (offsetOf g s)
+      (span g (takeSpace g img t) (offsetOf g s))
   space-away key s a e z =
-      let e′ : entryOf g img key ≡ some s = sym (entryOf-frame g img (takeSpace g img t) key (file-some f) (space-is .slots)) ∙ e in
+      let e′ : entryOf g img key ≡ some s =
+      sym (entryOf-frame g img (takeSpace g img t) key (file-some f) (space-is .slots)) ∙ e in
       let same-on = space-change .still key s a (λ q. not-allowed f (rw q at a)) e′ z in
       inr (rw (span-same g img (takeSpace g img t) (offsetOf g s) same-on) (below key s a e′ z))

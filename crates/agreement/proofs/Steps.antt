@@ -2,7 +2,7 @@
 --     Given name text b b′     b′ is b with that text under the name
 --     Added, book-add          what an add does, by cases; by-put: what they have in common
 --     Deleted, book-delete     what a delete does, by cases
---     Effect, call-effect      what any call does, in one list of all calls; effect-..: what follows of one point and of the space
+--     Effect, call-effect      what any call does, in one list of all calls; effect-..: what follows from it
 --     NotAdding, NotDeleting   the calls that do not add, or delete, a point
 -- Assumes nothing.
 use mathlib.Core.Path.{_≡_, refl, sym, ap, _∙_}
@@ -17,7 +17,7 @@ use borrow.Author.Tests.{eq-eqb, ne-eqb, le-leb, lt-leb}
 use Rattle.bhtf.specs.Bytes.{Bytes}
 use Rattle.bhtf.specs.Questions.{Question, ask, firstNo, nameAllowed}
 use Rattle.bhtf.specs.Calls.{Outcome, plain, Call, adding, deleting, looking, counting}
-use Rattle.bhtf.specs.Book.{Entry, Book, find, without, stepOf, guarded, entered, placed, addAbsent, replace, append, addPresent, addFound, bookAdd, deleteFound, bookDelete, lookupFound, bookLookup, bookCount, bookStep}
+use Rattle.bhtf.specs.Book.{Entry, Book, find, stepOf, guarded, entered, placed, addAbsent, replace, append, addPresent, addFound, bookAdd, deleteFound, bookDelete, lookupFound, bookLookup, bookCount, bookStep}
 use Rattle.bhtf.specs.Demand.{bookText, textOf}
 use Rattle.bhtf.proofs.Tests.{by-bool, by-eq, by-le}
 use Rattle.bhtf.proofs.Bytes.{by-same}
@@ -64,10 +64,12 @@ module _ {name text : Bytes} {b b′ : Book} (w : Given name text b b′) where
 pub data Added (b : Book) (name bytes : Bytes) (mode : ℕ) (o : Outcome Book) : Type 0 where
   refused : (o .answer .number ≡ 0 → ⊥) → o .after ≡ b → Added b name bytes mode o
   fresh : find name (b .entries) ≡ none → Given name bytes b (o .after) → Added b name bytes mode o
-  replaced : (e : Entry) → find name (b .entries) ≡ some e → mode ≡ 2 → Given name bytes b (o .after) → Added b name bytes mode o
+  replaced : (e : Entry) → find name (b .entries) ≡ some e → mode ≡ 2 → Given name bytes b (o .after)
+      → Added b name bytes mode o
   appended : (e : Entry) → find name (b .entries) ≡ some e → (mode ≡ 1 → ⊥) → (mode ≡ 2 → ⊥)
       → Given name (e .text ++ bytes) b (o .after) → Added b name bytes mode o
-  unchanged : (e : Entry) → find name (b .entries) ≡ some e → (mode ≡ 1 → ⊥) → (mode ≡ 2 → ⊥) → bytes ≡ [] → o .after ≡ b
+  unchanged : (e : Entry) → find name (b .entries) ≡ some e → (mode ≡ 1 → ⊥) → (mode ≡ 2 → ⊥) → bytes ≡ []
+      → o .after ≡ b
       → Added b name bytes mode o
 
 no-bytes : (d : Bytes) → length d ≡ 0 → d ≡ []
@@ -92,7 +94,8 @@ module _ (b : Book) (name bytes : Bytes) (mode : ℕ) where
   step-refused n y z =
       rw (firstNo-no n false [] refl, ne-eqb n 0 z) (refused z refl)
 
-  gives : (text : Bytes) (h more : ℕ) (k : Bytes) (b′ : Book) → k ≡ name → b′ ≡ entered b k text h more → Given name text b b′
+  gives : (text : Bytes) (h more : ℕ) (k : Bytes) (b′ : Book) → k ≡ name → b′ ≡ entered b k text h more
+      → Given name text b b′
   gives text h more k b′ q e = record { held = h; more = more; is = e ∙ ap (λ (x : Bytes). entered b x text h more) q }
 
   add-new : find name (b .entries) ≡ none → Here (addAbsent b name bytes)
@@ -100,7 +103,8 @@ module _ (b : Book) (name bytes : Bytes) (mode : ℕ) where
   add-new n =
       by-eq (length bytes) 0
       (λ z. rw (eq-eqb (length bytes) 0 z)
-      (step-cases _ _ (λ e. fresh n (gives bytes 0 0 name _ refl (e ∙ ap (λ (t : Bytes). entered b name t 0 0) (sym (no-bytes bytes z)))))))
+      (step-cases _ _ (λ e. fresh n
+      (gives bytes 0 0 name _ refl (e ∙ ap (λ (t : Bytes). entered b name t 0 0) (sym (no-bytes bytes z)))))))
       (λ z. rw (ne-eqb (length bytes) 0 z) (step-cases _ _ (λ e. fresh n (gives bytes _ _ name _ refl e))))
 
   module _ (e : Entry) (f : find name (b .entries) ≡ some e) where
@@ -113,7 +117,8 @@ module _ (b : Book) (name bytes : Bytes) (mode : ℕ) where
         by-eq (length bytes) 0
         (λ z. rw (eq-eqb (length bytes) 0 z)
         (step-cases _ _ (λ q. replaced e f two
-        (gives bytes _ 0 (e .name) _ is-name (q ∙ ap (λ (t : Bytes). entered b (e .name) t (e .held) 0) (sym (no-bytes bytes z)))))))
+        (gives bytes _ 0 (e .name) _ is-name
+        (q ∙ ap (λ (t : Bytes). entered b (e .name) t (e .held) 0) (sym (no-bytes bytes z)))))))
         (λ z. rw (ne-eqb (length bytes) 0 z) (by-le (length bytes) (e .held)
         (λ l. rw (le-leb _ _ l) (step-cases _ _ (λ q. replaced e f two (gives bytes _ _ (e .name) _ is-name q))))
         (λ l. rw (lt-leb _ _ l) (step-cases _ _ (λ q. replaced e f two (gives bytes _ _ (e .name) _ is-name q))))))
@@ -197,7 +202,8 @@ module _ (b : Book) (name : Bytes) where
 -- nothing, or a text is put under the name that it adds, or the entry of the name that it deletes goes
 pub data Effect (b : Book) (c : Call) (b′ : Book) : Type 0 where
   nothing : b′ ≡ b → Effect b c b′
-  enters : (name bytes : Bytes) (mode : ℕ) (text : Bytes) → c ≡ adding name bytes mode → Given name text b b′ → Effect b c b′
+  enters : (name bytes : Bytes) (mode : ℕ) (text : Bytes) → c ≡ adding name bytes mode → Given name text b b′
+      → Effect b c b′
   leaves : (name : Bytes) (e : Entry) → c ≡ deleting name → find name (b .entries) ≡ some e
       → b′ ≡ removed name b → Effect b c b′
 
@@ -230,7 +236,8 @@ Lacks key b = find key (b .entries) ≡ none
 
 module _ {b : Book} {c : Call} {b′ : Book} (key : Bytes) where
   -- a point that the call neither adds nor deletes is as it was
-  pub effect-other : Effect b c b′ → NotAdding key c → NotDeleting key c → find key (b′ .entries) ≡ find key (b .entries)
+  pub effect-other : Effect b c b′ → NotAdding key c → NotDeleting key c
+      → find key (b′ .entries) ≡ find key (b .entries)
   effect-other (nothing q) na nd = ap (λ (x : Book). find key (x .entries)) q
   effect-other (enters name bytes mode text q w) na nd =
       given-other w key (λ s. na bytes mode (q ∙ ap (λ (x : Bytes). adding x bytes mode) (sym s)))
@@ -255,7 +262,8 @@ module _ {b : Book} {c : Call} {b′ : Book} (key : Bytes) where
   effect-lacks (enters name bytes mode text q w) na h =
       given-other w key (λ s. na bytes mode (q ∙ ap (λ (x : Bytes). adding x bytes mode) (sym s))) ∙ h
   effect-lacks (leaves name e q f is) na h =
-      let present : (key ≡ name → ⊥) = λ s. Option·none-ne-some e (sym h ∙ ap (λ (x : Bytes). find x (b .entries)) s ∙ f) in
+      let present : (key ≡ name → ⊥) =
+      λ s. Option·none-ne-some e (sym h ∙ ap (λ (x : Bytes). find x (b .entries)) s ∙ f) in
       ap (λ (x : Book). find key (x .entries)) is ∙ find-without-other name key (b .entries) present ∙ h
 
 -- no call gives space back

@@ -1,5 +1,5 @@
--- Demand 3: on every list of calls, from every accepted create, file and book give the same answers, and after it the file finds
--- exactly the book's points with the book's texts. The statement is `Agreement` of crates/bhtf/specs/Demand.antt.
+-- Demand 3: on every list of calls, from every accepted create, file and book give the same answers, and after it the
+-- file finds exactly the book's points with the book's texts. It is `Agreement` of crates/bhtf/specs/Demand.antt.
 --     step            one call keeps the relation, with equal answers; step-kept: and the layout
 --     same-answers, reflects-after    so does every list
 --     points-agree    files and books in the relation find the same points with the same texts
@@ -29,7 +29,8 @@ use Rattle.agreement.proofs.Add.{same-add}
 use Rattle.agreement.proofs.Fresh.{slotsAsked-some, fresh-reflects}
 
 -- a call that keeps the layout, as every one does
-pub step-kept : (g : Layout) (img : Bytes) (b : Book) → Reflects g img b → (c : Call) → Same g (perform c img) (bookStep c b)
+pub step-kept : (g : Layout) (img : Bytes) (b : Book) → Reflects g img b → (c : Call)
+    → Same g (perform c img) (bookStep c b)
 unfolding perform bookStep
 step-kept g img b r (adding key bytes mode) = same-add g img b r key bytes mode
 step-kept g img b r (deleting key) = same-delete g img b r key
@@ -41,7 +42,8 @@ step img b (g, r) c = (g, step-kept g img b r c)
 
 -- ---- lists of calls
 
-pub reflects-step : (img : Bytes) (b : Book) → Reflected img b → (c : Call) → Reflected (perform c img .after) (bookStep c b .after)
+pub reflects-step : (img : Bytes) (b : Book) → Reflected img b → (c : Call)
+    → Reflected (perform c img .after) (bookStep c b .after)
 reflects-step img b r c = (step img b r c .0, step img b r c .1 .after)
 
 pub same-answers : (calls : List Call) (img : Bytes) (b : Book) → Reflected img b
@@ -49,7 +51,8 @@ pub same-answers : (calls : List Call) (img : Bytes) (b : Book) → Reflected im
 unfolding answers
 same-answers [] img b r = refl
 same-answers (c ∷ cs) img b r =
-    ap₂ _∷_ (step img b r c .1 .answer) (same-answers cs (perform c img .after) (bookStep c b .after) (reflects-step img b r c))
+    ap₂ _∷_ (step img b r c .1 .answer)
+    (same-answers cs (perform c img .after) (bookStep c b .after) (reflects-step img b r c))
 
 pub reflects-after : (calls : List Call) (img : Bytes) (b : Book) → Reflected img b
     → Reflected (stateAfter perform calls img) (stateAfter bookStep calls b)
@@ -91,7 +94,8 @@ reflects-created img K N seed ok =
       layoutOf fresh,
       subst (λ (i : Bytes). Reflects (layoutOf fresh) i (newBook (termsOf (length img) K (slotsAsked N))))
           (sym (settled-yes (createNumber (length img) K (slotsAsked N)) img fresh ok))
-          (fresh-reflects (length img) K (slotsAsked N) seed (accepted-facts (length img) K (slotsAsked N) ok) (slotsAsked-some N)),
+          (fresh-reflects (length img) K (slotsAsked N) seed (accepted-facts (length img) K (slotsAsked N) ok)
+          (slotsAsked-some N)),
     )
 
 pub agreement : Agreement

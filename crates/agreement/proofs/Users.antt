@@ -1,12 +1,12 @@
--- Corollaries in the words of a user: what was added and not deleted is found, what was deleted is not, a call changes no other
--- point, and C counts. Each is read off the book, which the file agrees with.
---     call-others         a call changes no point but the one that it adds or deletes; delete-others, add-others: so of these
+-- Corollaries in the words of a user: what was added and not deleted is found, what was deleted is not, a call changes
+-- no other point, and C counts. Each is read off the book, which the file agrees with.
+--     call-others         a call changes no point but the one that it adds or deletes; so delete-others, add-others
 --     added-found, replaced-found    after an accepted add in mode 1 or 2 the point is found with the data as its text
 --     appended-found, appended-new   in mode 3 with the data behind its text; with the data alone where it was absent
 --     deleted-gone        after an accepted delete it is not found
 --     count-added, count-replaced, count-deleted      C grows by 1, stays, falls by 1
 --     stays-found         a point that is found stays so until it is deleted
---     stays-gone          a point that is not found stays so until it is added; deleted-stays-gone: so of one that was deleted
+--     stays-gone          a point that is not found stays so until it is added; so deleted-stays-gone
 --     free-grows          X never falls; free-grows-each: over calls that give no space back
 -- Assumes nothing.
 use mathlib.Core.Path.{_≡_, refl, sym, ap, _∙_}
@@ -114,7 +114,8 @@ module _ {b : Book} {name bytes : Bytes} {o : Outcome Book} where
   book-new mode h (unchanged e f n₁ n₂ z q) k = absurd (Option·none-ne-some (e .text) (sym h ∙ the-text b name e f))
 
 -- an accepted delete
-book-gone : {b : Book} {name : Bytes} {o : Outcome Book} → Distinct (b .entries) → Deleted b name o → o .answer .number ≡ 0
+book-gone : {b : Book} {name : Bytes} {o : Outcome Book} → Distinct (b .entries) → Deleted b name o
+    → o .answer .number ≡ 0
     → (bookText (o .after) name ≡ none) × (suc (length (o .after .entries)) ≡ length (b .entries))
 book-gone d (refused z q) k = absurd (z k)
 book-gone {b} {name} {o} d (gone e f q) k = (
@@ -151,7 +152,8 @@ module _ (img : Bytes) (b : Book) (r : Reached img b) where
   call-others c other na nd =
       text-after c other ∙ ap textOf (effect-other other (call-effect c b) na nd) ∙ sym (points-agree img b rel other)
 
-  pub delete-others : (key other : Bytes) → (other ≡ key → ⊥) → fileText (delete img key .after) other ≡ fileText img other
+  pub delete-others : (key other : Bytes) → (other ≡ key → ⊥)
+      → fileText (delete img key .after) other ≡ fileText img other
   unfolding perform
   delete-others key other n =
       call-others (deleting key) other (λ bytes mode q. differ q) (λ q. n (sym (same-deleted q)))
@@ -199,7 +201,8 @@ module _ (img : Bytes) (b : Book) (r : Reached img b) where
       text-after c key ∙ book-gone (rel .1 .distinct) (book-delete b key) (number-too c ok) .0
 
   -- what count answers
-  pub count-added : (key bytes : Bytes) (mode : ℕ) → fileText img key ≡ none → add img key bytes mode .answer .number ≡ 0
+  pub count-added : (key bytes : Bytes) (mode : ℕ) → fileText img key ≡ none
+      → add img key bytes mode .answer .number ≡ 0
       → count (add img key bytes mode .after) .answer .amount ≡ count img .answer .amount + 1
   unfolding perform bookStep
   count-added key bytes mode h ok =
@@ -268,7 +271,8 @@ module _ (img : Bytes) (b : Book) (r : Reached img b) where
   text-after-all calls = points-agree _ _ (reflects-after calls img b (reached-reflects img b r))
 
   -- a point that is found stays found until it is deleted, whatever else is called
-  pub stays-found : (key text : Bytes) → fileText img key ≡ some text → (calls : List Call) → Each (NotDeleting key) calls
+  pub stays-found : (key text : Bytes) → fileText img key ≡ some text → (calls : List Call)
+      → Each (NotDeleting key) calls
       → (text′ : Bytes) × (fileText (stateAfter perform calls img) key ≡ some text′)
   stays-found key text h calls n =
       let e = book-keeps (NotDeleting key) (Has key) (λ c x. effect-has key (call-effect c x)) calls b n
@@ -285,7 +289,8 @@ module _ (img : Bytes) (b : Book) (r : Reached img b) where
       (found-no b key (book-has img b r key _ h)))
 
   -- "Space once taken is never handed out again": new space is taken at X, and X never falls
-  pub free-grows-each : (calls : List Call) → Each Keeping calls → field img freeField ≤ field (stateAfter perform calls img) freeField
+  pub free-grows-each : (calls : List Call) → Each Keeping calls
+      → field img freeField ≤ field (stateAfter perform calls img) freeField
   free-grows-each calls k = free-keeps calls img b (reached-reflects img b r) k
 
   pub free-grows : (calls : List Call) → field img freeField ≤ field (stateAfter perform calls img) freeField
@@ -293,7 +298,9 @@ module _ (img : Bytes) (b : Book) (r : Reached img b) where
 
 -- a point that was deleted stays so until it is added again
 pub deleted-stays-gone : (img : Bytes) (b : Book) → Reached img b → (key : Bytes) → delete img key .answer .number ≡ 0
-    → (calls : List Call) → Each (NotAdding key) calls → fileText (stateAfter perform calls (delete img key .after)) key ≡ none
+    → (calls : List Call) → Each (NotAdding key) calls
+    → fileText (stateAfter perform calls (delete img key .after)) key ≡ none
 deleted-stays-gone img b r key ok calls n =
     stays-gone (delete img key .after) (bookDelete b key .after)
-    (unfold stateAfter perform bookStep in reached-after img b r (deleting key ∷ [])) key (deleted-gone img b r key ok) calls n
+    (unfold stateAfter perform bookStep in reached-after img b r (deleting key ∷ [])) key
+    (deleted-gone img b r key ok) calls n
