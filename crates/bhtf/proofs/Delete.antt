@@ -1,6 +1,7 @@
 -- Delete's walk keeps the invariant of reached tables, and takes one key out.
---     Mending g img h j      the invariant during the walk: paths may be broken at the hole alone, and every slot passed has
---                            its home after the hole; what is passed is told by what is left, dist j h < dist s h
+--     Mending g img h j      the invariant during the walk: paths may be broken at the hole alone, and every slot
+--                            passed has its home after the hole; what is passed is told by what is left,
+--                            dist j h < dist s h
 --     mending-start, -skip, -move, -stop      its start, its two turns and its end
 --     findable-closed           the invariant afterwards
 --     gone-closed            the key stands nowhere afterwards
@@ -91,9 +92,13 @@ module _ (g : Layout) (img : Bytes) (h j : ℕ) (s : Going g img h j) (t : Taken
             by-le (dist (g .N) k h) (dist (g .N) j h)
             (λ le.
             let here : k ≡ j = same-to (g .N) k j h lk (s .slot-lt) (s .hole-lt)
-            (λ e. hole-other g img h k (record { room = s .room; hole-lt = s .hole-lt; slot-lt = lk; hole = s .hole }) tk (sym e))
+            (λ e. hole-other g img h k
+            (record { room = s .room; hole-lt = s .hole-lt; slot-lt = lk; hole = s .hole }) tk (sym e))
             (λ e. hole-other g img h j s t (sym e))
-            (omega (arith, dist-from-next (g .N) j h (s .slot-lt) (s .hole-lt) (λ e. hole-other g img h j s t (sym e)))) in
+            (omega (
+              arith,
+              dist-from-next (g .N) j h (s .slot-lt) (s .hole-lt) (λ e. hole-other g img h j s t (sym e)),
+            )) in
             subst (λ (x : ℕ). dist (g .N) (homeAt g img x) x < dist (g .N) h x) (sym here) (stays-near g img h j s t a))
             (λ lt. m .passed k lk tk lt);
         distinct = m .distinct;
@@ -158,7 +163,8 @@ module _ (g : Layout) (img : Bytes) (h j : ℕ) (s : Going g img h j) (t : Taken
           keys p q = ap (keyOf g) (sym p) ∙ e ∙ ap (keyOf g) q
 
 -- ---- the end: slot j is vacant
-module _ (g : Layout) (img : Bytes) (h j : ℕ) (s : Going g img h j) (v : vacant g (slot g img j) ≡ true) (m : Mending g img h j) where
+module _ (g : Layout) (img : Bytes) (h j : ℕ) (s : Going g img h j) (v : vacant g (slot g img j) ≡ true)
+    (m : Mending g img h j) where
   -- a vacant slot and a taken one
   apart : (i k : ℕ) → vacant g (slot g img i) ≡ true → Taken g img k → i ≡ k → ⊥
   apart i k vi tk e = not-both (vacant g (slot g img k)) (subst (λ (x : ℕ). vacant g (slot g img x) ≡ true) e vi) tk
@@ -190,7 +196,8 @@ module _ (g : Layout) (img : Bytes) (h j : ℕ) (s : Going g img h j) (v : vacan
   mending-stop =
       record {
         paths = λ x k lx lk tx f. by-eq k h
-            (λ e. absurd (whole x lx tx (subst (λ (y : ℕ). dist (g .N) (homeAt g img x) y < dist (g .N) (homeAt g img x) x) e f)))
+            (λ e. absurd (whole x lx tx
+            (subst (λ (y : ℕ). dist (g .N) (homeAt g img x) y < dist (g .N) (homeAt g img x) x) e f)))
             (λ n. m .paths x k lx lk tx f n);
         distinct = m .distinct;
       }
@@ -209,7 +216,8 @@ module _ (g : Layout) (img : Bytes) (r : Room g (length img)) (i : ℕ) (l : i <
       (mending-start g img r i l ok)
 
   -- the key stands nowhere afterwards
-  pub gone-closed : Taken g img i → (k : ℕ) → k < g .N → Taken g (closed g img i) k → keyAt g (closed g img i) k ≡ keyAt g img i → ⊥
+  pub gone-closed : Taken g img i → (k : ℕ) → k < g .N → Taken g (closed g img i) k
+      → keyAt g (closed g img i) k ≡ keyAt g img i → ⊥
   gone-closed ti k lk t e = was (stands-walked g img r i l (slot g (closed g img i) k) .1 (k, lk, t, refl))
     where
       was : Stands g (putSlot g img i (blank g)) (slot g (closed g img i) k) → ⊥

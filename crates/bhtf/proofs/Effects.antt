@@ -1,4 +1,4 @@
--- The effects of a call on any image whose header is accepted: what they leave as it was, so that the next step may rely on it.
+-- The effects of a call on any image whose header is accepted, and what they leave as it was for the next step.
 --     retire, takeSpace, setField C      each keeps what no call changes, and the header is accepted again
 --     by-retire          what an image with its message retired is
 --     Spaced, spaced     what new space leaves, and what stands in it
@@ -39,7 +39,8 @@ pub message-end : (img : Bytes) → Opened img → (at : ℕ) → messageSound (
     → at + span (layoutOf img) img at ≤ field img freeField
 message-end img o at s z = sound-lies (layoutOf img) img at s z .end
 
-pub message-head : (img : Bytes) → Opened img → (at : ℕ) → messageSound (layoutOf img) img at ≡ true → at + 4 ≤ length img
+pub message-head : (img : Bytes) → Opened img → (at : ℕ) → messageSound (layoutOf img) img at ≡ true
+    → at + 4 ≤ length img
 unfolding headSize layoutOf
 message-head img o at s =
     Rattle.bhtf.proofs.Tests.by-eq at 0
@@ -79,7 +80,8 @@ module _ (img : Bytes) (o : Opened img) (at : ℕ) (s : messageSound (layoutOf i
   pub retire-slot : (k : ℕ) → k < layoutOf img .N → slot (layoutOf img) (retire img at) k ≡ slot (layoutOf img) img k
   retire-slot k l =
       by-retire (λ (i : Bytes). slot (layoutOf img) i k ≡ slot (layoutOf img) img k)
-      (λ h lo hi. slot-store-data (layoutOf img) img (opened-room img o) at (inactive ∷ []) k l (unfold layoutOf in lo) hi)
+      (λ h lo hi. slot-store-data (layoutOf img) img (opened-room img o) at (inactive ∷ []) k l
+      (unfold layoutOf in lo) hi)
       (λ h. refl)
 
   -- what stands behind the letter is as it was
@@ -199,14 +201,16 @@ module _ (img : Bytes) (o : Opened img) (t : Bytes)
             (kept-trans (kept-free written ends long-written) (kept-page first (lastPage (g .D) ends) long-first)));
         free =
             not-page freeField (omega arith)
-            ∙ field-setField-same written freeField ends (omega (arith, long-written)) (omega (arith, fits, o .size-high));
+            ∙ field-setField-same written freeField ends (omega (arith, long-written))
+            (omega (arith, fits, o .size-high));
         points =
             not-page pointsField (omega arith)
             ∙ field-setField-other written freeField ends pointsField (omega (arith, long-written)) (inl (omega arith))
             ∙ field-store-other img x (message (g .W) t) pointsField in-image (inl (omega (arith, low, above)));
         slots = slots₁;
         below =
-            λ p m lo hi. behind p m (omega (arith, above)) ∙ part-store-below img x (message (g .W) t) p m (o .free-high) hi;
+            λ p m lo hi.
+            behind p m (omega (arith, above)) ∙ part-store-below img x (message (g .W) t) p m (o .free-high) hi;
         there =
             behind x (headSize g + length t) (omega (arith, low, above))
             ∙ ap (part written x) (sym (length-message g t))

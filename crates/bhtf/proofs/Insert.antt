@@ -64,7 +64,8 @@ module _ (g : Layout) (img key : Bytes) (pos : 0 < g .N) where
       → entryOf g img key ≡ none
   entry-absent n z =
       by-entry
-      (λ i e. absurd (n i (search-met g img key pos i e .0) (met-taken g img key pos i z e) (search-met g img key pos i e .1)))
+      (λ i e. absurd (n i (search-met g img key pos i e .0) (met-taken g img key pos i z e)
+      (search-met g img key pos i e .1)))
       (λ none′. none′)
 
 -- a taken slot of a table in which all are found is what its key's search meets
@@ -74,7 +75,8 @@ entry-taken g img i pos ok l t =
     entry-stands g img (keyAt g img i) pos (slot g img i) ok refl (i, l, t, refl)
 
 -- two such tables in which the same slots of a key stand answer the key alike
-pub same-entries : (g : Layout) (img img′ key : Bytes) → 0 < g .N → Findable g img → Findable g img′ → allZero key ≡ false
+pub same-entries : (g : Layout) (img img′ key : Bytes) → 0 < g .N → Findable g img → Findable g img′
+    → allZero key ≡ false
     → ((s : Bytes) → keyOf g s ≡ key → Stands g img s ↔ Stands g img′ s)
     → entryOf g img′ key ≡ entryOf g img key
 same-entries g img img′ key pos ok ok′ z both =
@@ -284,7 +286,8 @@ one-taken g img i = go (vacant g (slot g img i))
     go false = refl
 
 -- those from i on, and those below i
-taken-total : (g : Layout) (img : Bytes) (n i : ℕ) → takenFrom g img n i + total (ones g img) i ≡ total (ones g img) (i + n)
+taken-total : (g : Layout) (img : Bytes) (n i : ℕ)
+    → takenFrom g img n i + total (ones g img) i ≡ total (ones g img) (i + n)
 unfolding takenFrom total
 taken-total g img zero i = rw (add-zero i) (zero-add (total (ones g img) i))
 taken-total g img (suc n) i =

@@ -19,7 +19,7 @@ use Rattle.bhtf.specs.Questions.{versionKnown}
 use Rattle.bhtf.proofs.Bytes.{Apart, apart-inside, length-store, part-store-other, part-part, length-digits}
 use Rattle.bhtf.proofs.Opened.{Opened}
 
--- the bytes before C (magic, version, serial with K and N), 24 to 51 (multiplier to D), and 60 to 2,047 (the scramble among them)
+-- the bytes before C (magic; version; serial, K and N), 24 to 51 (multiplier to D), 60 to 2,047 (with the scramble)
 pub record Kept (img img′ : Bytes) : Type 0 where
   pub size : length img′ ≡ length img
   pub magic : part img′ 0 5 ≡ part img 0 5
@@ -43,7 +43,8 @@ kept-trans p q =
     }
 
 -- a store that meets none of the three
-kept-apart : (img : Bytes) (p : ℕ) (v : Bytes) → p + length v ≤ length img → Apart 0 20 p (length v) → Apart 24 28 p (length v)
+kept-apart : (img : Bytes) (p : ℕ) (v : Bytes) → p + length v ≤ length img → Apart 0 20 p (length v)
+    → Apart 24 28 p (length v)
     → Apart 60 1988 p (length v) → Kept img (store img p v)
 kept-apart img p v h a b c =
     let before : (q m : ℕ) → q + m ≤ 20 → part (store img p v) q m ≡ part img q m =
@@ -57,7 +58,8 @@ kept-apart img p v h a b c =
       rest = part-store-other img p v 60 1988 h c;
     }
 
-pub kept-store : (img : Bytes) (p : ℕ) (v : Bytes) → p + length v ≤ length img → tableStart ≤ p → Kept img (store img p v)
+pub kept-store : (img : Bytes) (p : ℕ) (v : Bytes) → p + length v ≤ length img → tableStart ≤ p
+    → Kept img (store img p v)
 kept-store img p v h f = kept-apart img p v h (inl (omega arith)) (inl (omega arith)) (inl (omega arith))
 
 -- a field that meets none of the three
@@ -69,7 +71,8 @@ kept-field img at n h a b c =
     kept-apart img at (digits 4 n) (rw e h) (rw e a) (rw e b) (rw e c)
 
 pub kept-points : (img : Bytes) (n : ℕ) → 60 ≤ length img → Kept img (setField img pointsField n)
-kept-points img n h = kept-field img pointsField n (omega arith) (inl (omega arith)) (inr (omega arith)) (inr (omega arith))
+kept-points img n h =
+    kept-field img pointsField n (omega arith) (inl (omega arith)) (inr (omega arith)) (inr (omega arith))
 
 pub kept-free : (img : Bytes) (n : ℕ) → 60 ≤ length img → Kept img (setField img freeField n)
 kept-free img n h = kept-field img freeField n (omega arith) (inl (omega arith)) (inl (omega arith)) (inr (omega arith))
@@ -176,6 +179,7 @@ module _ {img img′ : Bytes} (k : Kept img img′) where
   pub kept-known : Opened img → versionKnown img′ ≡ true
   kept-known o = kept-version ∙ o .version
 
-  pub opened-kept : Opened img → field img′ pointsField ≤ field img slotsField → field img dataField ≤ field img′ freeField
+  pub opened-kept : Opened img → field img′ pointsField ≤ field img slotsField
+      → field img dataField ≤ field img′ freeField
       → field img′ freeField ≤ length img → Opened img′
   opened-kept o = opened-known o (kept-known o)

@@ -1,6 +1,6 @@
--- Laws of the definitions in ../specs, of any image bytes; the code's crates and the theorem over lists of calls rest on them.
--- In this order each module rests on those above it. To begin with: the heads of Bytes, Slots and Table, then Probe; for the
--- calls Opened, Kept and Outcomes. Cases can be read beside document 01 with nothing else.
+-- Laws of the definitions in ../specs, of any image bytes. The code's crates rest on them, and the theorem over lists.
+-- In this order each module rests on those above it. To begin with: the heads of Bytes, Slots and Table, then Probe;
+-- for the calls Opened, Kept and Outcomes. Cases can be read beside document 01 with nothing else.
 
 -- ---- bytes and numbers
 pub mod Tests  -- tests on Bools and numbers, as facts and case splits

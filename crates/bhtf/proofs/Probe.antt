@@ -119,7 +119,8 @@ module _ (g : Layout) (img key : Bytes) (pos : 0 < g .N) where
       (dist-lt (g .N) (home g key) k (home-lt g key pos) kl)
 
   -- the three ways in which a search ends
-  pub by-search {ℓ} : {A : Type ℓ} → ((i : ℕ) → search g img key ≡ met i → A) → ((i : ℕ) → search g img key ≡ empty i → A)
+  pub by-search {ℓ} : {A : Type ℓ} → ((i : ℕ) → search g img key ≡ met i → A)
+      → ((i : ℕ) → search g img key ≡ empty i → A)
       → (search g img key ≡ exhausted → A) → A
   by-search {A = A} yes′ free none′ = go (search g img key) refl
     where
@@ -134,7 +135,8 @@ module _ (g : Layout) (img key : Bytes) (pos : 0 < g .N) where
 
   -- ---- present and absent keys
 
-  pub search-finds : (i : ℕ) → Findable g img → i < g .N → Taken g img i → keyAt g img i ≡ key → search g img key ≡ met i
+  pub search-finds : (i : ℕ) → Findable g img → i < g .N → Taken g img i → keyAt g img i ≡ key
+      → search g img key ≡ met i
   search-finds i s l t k =
       by-search
       (λ j e.
@@ -188,6 +190,9 @@ module _ (g : Layout) (img img′ key : Bytes) (pos : 0 < g .N) where
   unfolding entryOf slotMet
   entryOf-frame f =
       by-search g img key pos
-      (λ i e. ap (slotMet g img′) (search-frame f ∙ e) ∙ ap some (f i (search-met g img key pos i e .0)) ∙ sym (ap (slotMet g img) e))
+      (λ i e.
+      ap (slotMet g img′) (search-frame f ∙ e)
+      ∙ ap some (f i (search-met g img key pos i e .0))
+      ∙ sym (ap (slotMet g img) e))
       (λ i e. ap (slotMet g img′) (search-frame f ∙ e) ∙ sym (ap (slotMet g img) e))
       (λ e. ap (slotMet g img′) (search-frame f ∙ e) ∙ sym (ap (slotMet g img) e))

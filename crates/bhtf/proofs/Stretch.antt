@@ -69,7 +69,8 @@ lies-sound g img o l =
     let c = leb leastLength (lengthAt g img o) in
     let end₁ : o + headSize g + lengthAt g img o ≤ field img freeField = omega (arith, l .end) in
     or-right (eqb o 0) _
-    (and-true (a && b && c) _ (and-true (a && b) c (and-true a b (le-leb _ _ (l .low)) (l .letter)) (le-leb _ _ (l .least))) (le-leb _ _ end₁))
+    (and-true (a && b && c) _
+    (and-true (a && b) c (and-true a b (le-leb _ _ (l .low)) (l .letter)) (le-leb _ _ (l .least))) (le-leb _ _ end₁))
 
 pub none-sound : (g : Layout) (img : Bytes) → messageSound g img 0 ≡ true
 unfolding messageSound

@@ -1,6 +1,6 @@
--- The table as the proofs see it: taken slots, the invariant of tables that searches go by, and what a name's slot holds.
+-- The table as the proofs see it: taken slots, tables in which searches find what stands, and what a name's slot holds.
 --     Taken g img i       slot i is taken
---     Findable g img         1. no vacant slot from an entry's home up to it; 2. no key stands twice
+--     Findable g img      1. no vacant slot from an entry's home up to it; 2. no key stands twice
 --     entryOf g img key   the bytes of the slot where the search meets the key
 --     weight g img w      the sum of w over the taken slots' bytes
 -- Assumes nothing.

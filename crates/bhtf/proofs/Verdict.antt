@@ -2,7 +2,8 @@
 --     lowest-some, lowest-none      what the answer of `lowest` says
 --     lowest-yes, lowest-no, lowest-end      one number looked at, as a loop from i up to n has it
 --     searches-findable      a table where each taken slot's key, searched, ends there is findable
---     check-open, check-searches, check-messages, check-count, check-weight, check-findable      of an image that the check calls sound
+--     check-open, check-searches, check-messages, check-count, check-weight, check-findable
+--                         of an image that the check calls sound
 -- Assumes nothing.
 use mathlib.Core.Path.{_≡_, refl, sym, ap, _∙_}
 use Prim.Native.Nat.{ℕ, zero, suc, _+_, _-_, _≤_, _<_}
@@ -105,7 +106,8 @@ searches-findable g img f =
     }
 
 -- a taken slot that does not fail
-pub fails-not : (g : Layout) (img : Bytes) (i : ℕ) → slotFails g img i ≡ false → Taken g img i → slotSound g img i ≡ true
+pub fails-not : (g : Layout) (img : Bytes) (i : ℕ) → slotFails g img i ≡ false → Taken g img i
+    → slotSound g img i ≡ true
 unfolding slotFails taken
 fails-not g img i e t = not-false (slotSound g img i) (ap (λ (b : Bool). not b && not (slotSound g img i)) (sym t) ∙ e)
 
@@ -142,7 +144,8 @@ module _ (img : Bytes) (ok : check img ≡ sound) where
   check-slot i l t =
       fails-not (layoutOf img) img i
       (lowest-none (slotFails (layoutOf img) img) (layoutOf img .N) 0
-      (verdict-none (countSound (layoutOf img) img) (lowest (slotFails (layoutOf img) img) (layoutOf img .N) 0) (parts .1))
+      (verdict-none (countSound (layoutOf img) img) (lowest (slotFails (layoutOf img) img) (layoutOf img .N) 0)
+      (parts .1))
       i (omega arith) (omega arith))
       t
 
@@ -168,7 +171,8 @@ module _ (img : Bytes) (ok : check img ≡ sound) where
   check-count =
       eqb-true (field img pointsField) (takenFrom (layoutOf img) img (layoutOf img .N) 0)
       (unfold countSound in
-      verdict-count (countSound (layoutOf img) img) (lowest (slotFails (layoutOf img) img) (layoutOf img .N) 0) (parts .1))
+      verdict-count (countSound (layoutOf img) img) (lowest (slotFails (layoutOf img) img) (layoutOf img .N) 0)
+      (parts .1))
 
   pub check-weight : field img pointsField ≡ weight (layoutOf img) img (λ s. 1)
   check-weight = check-count ∙ count-taken (layoutOf img) img
