@@ -1,5 +1,5 @@
--- Document 01, "Messages": a message in the image, new space, and what an accepted add leaves. Delete stands in `Delete`, the
--- questions that come before in `Questions`; the calls, questions and effect together, in `Calls`.
+-- Document 01, "Messages": a message in the image, new space, and what an accepted add leaves. Delete stands in
+-- `Delete`, the questions that come before in `Questions`; the calls, questions and effect together, in `Calls`.
 --     shown g img o           the text of the active message at offset o, nothing where there is none
 --     takeSpace g img t       the image with a new message t at X
 --     added g img key data mode       the image that an accepted add leaves
