@@ -14,7 +14,7 @@ use lib.ListN.{length, length-append}
 use lib.Dec.{eqb, leb, ltb}
 use borrow.Author.Tests.{leb-true, eq-eqb, ne-eqb}
 use Rattle.bhtf.specs.Bytes.{Bytes, part, zeros}
-use Rattle.bhtf.specs.Limits.{inactive, pointsField, freeField}
+use Rattle.bhtf.specs.Limits.{inactive, pointsField, freeField, tableStart}
 use Rattle.bhtf.specs.Image.{field, setField, Layout, layoutOf, slotSize, slot, putSlot, offsetOf, slotBytes}
 use Rattle.bhtf.specs.Search.{met, empty, exhausted, search, isMet}
 use Rattle.bhtf.specs.Messages.{headSize, held, message, takeSpace, retire, overwrite, freshText, renewedText, enter, inserted, relocated, renewed, renewedAt, addedAt, added}
@@ -44,7 +44,7 @@ module _ (img : Bytes) (o : Opened img) (p n : ℕ) (low : layoutOf img .D ≤ p
   abbrev g : Layout
   g = layoutOf img
 
-  above : 2048 ≤ p
+  above : tableStart ≤ p
   unfolding layoutOf
   above = omega (arith, area-above img o, low)
 

@@ -2,7 +2,7 @@
 --     fresh-reflects      create's image and the new book
 -- Assumes nothing.
 use mathlib.Core.Path.{_≡_, refl, sym, ap, ap₂, _∙_}
-use Prim.Native.Nat.{ℕ, _+_, _-_, _≤_, _<_}
+use Prim.Native.Nat.{ℕ, _+_, _-_, _*_, _≤_, _<_}
 use native.Mathlib.Omega.{arith}
 use native.Mathlib.Nat.{add-zero}
 use mathlib.Core.Bool.{true}
@@ -13,7 +13,7 @@ use lib.Seq.{drop-append-add, take-at, drop-at}
 use lib.Dec.{eqb}
 use borrow.Author.Tests.{eqb-false}
 use Rattle.bhtf.specs.Bytes.{Bytes, part, number, digits, zeros, same}
-use Rattle.bhtf.specs.Limits.{keyField, slotsField, pointsField, dataField, freeField, scrambleCount}
+use Rattle.bhtf.specs.Limits.{keyField, slotsField, pointsField, dataField, freeField, headerSize, scrambleStart, scrambleCount}
 use Rattle.bhtf.specs.Image.{field, dataStart, Layout, layoutOf, slotSize, slotStart, slot, blank, vacant}
 use Rattle.bhtf.specs.Create.{drawnBytes, slotsAsked, freshHeader, freshImage}
 use Rattle.bhtf.specs.Messages.{headSize}
@@ -68,30 +68,37 @@ module _ (L K N seed : ℕ) (ok : Accepted L K N) (pos : 1 ≤ N) where
   img : Bytes
   img = freshImage L K N seed
 
-  front : Bytes
-  front = freshHeader K N ++ zeros 452 ++ drawnBytes seed 0 scrambleCount
+  -- what create fills: the header, and behind a gap the scramble
+  abbrev gap : ℕ
+  gap = scrambleStart - headerSize
 
-  img-front : img ≡ front ++ zeros (L - 892)
+  abbrev filled : ℕ
+  filled = scrambleStart + 4 * scrambleCount
+
+  front : Bytes
+  front = freshHeader K N ++ zeros gap ++ drawnBytes seed 0 scrambleCount
+
+  img-front : img ≡ front ++ zeros (L - filled)
   unfolding img front freshImage
   img-front = refl
 
-  length-front : length front ≡ 892
+  length-front : length front ≡ filled
   unfolding front freshHeader digits
   length-front =
-      length-append (freshHeader K N ++ zeros 452) (drawnBytes seed 0 scrambleCount)
-      ∙ ap₂ _+_ (length-append (freshHeader K N) (zeros 452)) (length-drawnBytes seed 0 scrambleCount)
-      ∙ ap (λ (n : ℕ). 60 + n + 380) (length-zeros 452)
+      length-append (freshHeader K N ++ zeros gap) (drawnBytes seed 0 scrambleCount)
+      ∙ ap₂ _+_ (length-append (freshHeader K N) (zeros gap)) (length-drawnBytes seed 0 scrambleCount)
+      ∙ ap (λ (n : ℕ). headerSize + n + 4 * scrambleCount) (length-zeros gap)
 
   fresh-length : length img ≡ L
   fresh-length =
-      ap length img-front ∙ length-append front (zeros (L - 892)) ∙ ap₂ _+_ length-front (length-zeros (L - 892))
+      ap length img-front ∙ length-append front (zeros (L - filled)) ∙ ap₂ _+_ length-front (length-zeros (L - filled))
       ∙ omega (arith, ok .size-low)
 
-  fresh-zeros : (p m : ℕ) → 892 ≤ p → p + m ≤ L → part img p m ≡ zeros m
+  fresh-zeros : (p m : ℕ) → filled ≤ p → p + m ≤ L → part img p m ≡ zeros m
   fresh-zeros p m lo hi =
       ap (λ (l : Bytes). part l p m) img-front
-      ∙ part-behind front (zeros (L - 892)) p m 892 length-front lo
-      ∙ part-zeros (L - 892) (p - 892) m (omega arith)
+      ∙ part-behind front (zeros (L - filled)) p m filled length-front lo
+      ∙ part-zeros (L - filled) (p - filled) m (omega arith)
 
   -- the header's fields
   fresh-K : field img keyField ≡ K

@@ -13,11 +13,11 @@ use lib.ListN.{length, length-append}
 use lib.Dec.{eqb}
 use borrow.Author.Tests.{eq-eqb, not-true}
 use Rattle.bhtf.specs.Bytes.{Bytes, part, store, digits}
-use Rattle.bhtf.specs.Limits.{active, inactive, pointsField, freeField, pageField, slotsField, dataField, tableStart}
+use Rattle.bhtf.specs.Limits.{pageSize, active, inactive, pointsField, freeField, pageField, slotsField, dataField, headerSize, tableStart}
 use Rattle.bhtf.specs.Image.{field, setField, lastPage, Layout, layoutOf, slotSize, slotStart, slot}
 use Rattle.bhtf.specs.Messages.{headSize, isActive, message, setFree, takeSpace, retire}
 use Rattle.bhtf.specs.Questions.{messageSound}
-use Rattle.bhtf.proofs.Tests.{by-bool, and-left, not-both}
+use Rattle.bhtf.proofs.Tests.{by-bool, by-eq, and-left, not-both}
 use Rattle.bhtf.proofs.Bytes.{length-store, part-store-same, part-store-below, part-store-above, length-digits}
 use Rattle.bhtf.proofs.Slots.{slot-above, slot-store-data, part-setField-other, field-store-other, field-setField-other, field-setField-same, length-setField}
 use Rattle.bhtf.proofs.Opened.{Opened, opened-room}
@@ -39,13 +39,26 @@ pub message-end : (img : Bytes) → Opened img → (at : ℕ) → messageSound (
     → at + span (layoutOf img) img at ≤ field img freeField
 message-end img o at s z = sound-lies (layoutOf img) img at s z .end
 
+head-small : (img : Bytes) → headSize (layoutOf img) ≤ pageSize
+unfolding headSize layoutOf
+head-small img = omega arith
+
+pub message-fits : (img : Bytes) → Opened img → (at : ℕ) → messageSound (layoutOf img) img at ≡ true
+    → at + headSize (layoutOf img) ≤ length img
+message-fits img o at s =
+    by-eq at 0
+    (λ z. omega (arith, o .size-low, head-small img))
+    (λ z. omega (arith, message-end img o at s z, o .free-high))
+
+-- the header has 4 bytes
 pub message-head : (img : Bytes) → Opened img → (at : ℕ) → messageSound (layoutOf img) img at ≡ true
     → at + 4 ≤ length img
-unfolding headSize layoutOf
-message-head img o at s =
-    Rattle.bhtf.proofs.Tests.by-eq at 0
-    (λ z. omega (arith, o .size-low))
-    (λ z. omega (arith, message-end img o at s z, o .free-high))
+message-head img o at s = unfold headSize layoutOf in message-fits img o at s
+
+-- the letter is the header's first byte
+letter-first : (img : Bytes) → 1 ≤ headSize (layoutOf img)
+unfolding headSize
+letter-first img = omega arith
 
 -- ---- retire
 
@@ -62,7 +75,8 @@ module _ (img : Bytes) (o : Opened img) (at : ℕ) (s : messageSound (layoutOf i
   by-retire P yes′ no′ =
       by-bool (isActive img at)
       (λ h. rw h
-      (yes′ h (message-low img o at s (active-some img at h)) (omega (arith, message-head img o at s))))
+      (yes′ h (message-low img o at s (active-some img at h))
+      (omega (arith, message-fits img o at s, letter-first img))))
       (λ h. rw h (no′ h))
 
   pub retire-kept : Kept img (retire img at)
@@ -101,7 +115,7 @@ module _ (img : Bytes) (o : Opened img) (at : ℕ) (s : messageSound (layoutOf i
 -- ---- C
 
 module _ (img : Bytes) (o : Opened img) (n : ℕ) (l : n ≤ field img slotsField) where
-  long : 60 ≤ length img
+  long : headerSize ≤ length img
   long = omega (arith, o .size-low)
 
   pub points-kept : Kept img (setField img pointsField n)
@@ -164,10 +178,10 @@ module _ (img : Bytes) (o : Opened img) (t : Bytes)
   above : tableStart ≤ g .D
   above = omega (arith, opened-room img o .table)
 
-  long-written : 60 ≤ length written
+  long-written : headerSize ≤ length written
   long-written = rw (length-store img x (message (g .W) t) in-image) (omega (arith, o .size-low))
 
-  long-first : 60 ≤ length first
+  long-first : headerSize ≤ length first
   long-first = rw (length-setField written freeField ends (omega (arith, long-written))) long-written
 
   is-space : takeSpace g img t ≡ setField first pageField (lastPage (g .D) ends)

@@ -5,17 +5,17 @@
 --     stands-closed        what stands, but for the deleted entry, is what stood
 -- Assumes nothing.
 use mathlib.Core.Path.{_≡_, refl, sym, ap, _∙_}
-use Prim.Native.Nat.{ℕ, _+_, _≤_, _<_}
+use Prim.Native.Nat.{ℕ, _+_, _-_, _≤_, _<_}
 use native.Mathlib.Omega.{arith}
 use mathlib.Core.Logic.{_↔_, inl}
 use lib.ListN.{length}
 use Rattle.bhtf.specs.Bytes.{Bytes, part, number}
-use Rattle.bhtf.specs.Limits.{tableStart}
+use Rattle.bhtf.specs.Limits.{serialField, pointsField, multiplierField, headerSize, tableStart}
 use Rattle.bhtf.specs.Image.{field, Layout, slot, putSlot, keyOf, blank, vacant}
 use Rattle.bhtf.specs.Delete.{moved, closed}
 use Rattle.bhtf.proofs.Tests.{by-eq, not-both}
 use Rattle.bhtf.proofs.Slots.{Room, length-slot, slot-putSlot-same, slot-putSlot-other, Outside, part-putSlot-outside, length-blank, vacant-blank}
-use Rattle.bhtf.proofs.Kept.{Kept}
+use Rattle.bhtf.proofs.Kept.{Kept, middleSize, restSize}
 use Rattle.bhtf.proofs.Table.{Taken, keyAt, weigh, weight}
 use Rattle.bhtf.proofs.Spread.{over, over-moved, room-half, slot-moved-from, slot-moved-hole, slot-moved-other}
 use Rattle.bhtf.proofs.Closing.{Going, hole-other, closed-induct, length-closed}
@@ -48,9 +48,9 @@ module _ (g : Layout) (img : Bytes) (r : Room g (length img)) (i : ℕ) (l : i <
         size = length-closed g img r i l;
         magic = part-closed 0 5 (inl (omega arith));
         version = part-closed 5 3 (inl (omega arith));
-        front = part-closed 8 12 (inl (omega arith));
-        middle = part-closed 24 28 (inl (omega arith));
-        rest = part-closed 60 1988 (inl (omega arith));
+        front = part-closed serialField (pointsField - serialField) (inl (omega arith));
+        middle = part-closed multiplierField middleSize (inl (omega arith));
+        rest = part-closed headerSize restSize (inl (omega arith));
       }
 
   pub field-closed : (at : ℕ) → at + 4 ≤ tableStart → field (closed g img i) at ≡ field img at
