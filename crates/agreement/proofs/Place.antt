@@ -21,6 +21,7 @@ use Rattle.bhtf.specs.Questions.{ask, firstNo, lengthAllowed, spaceLeft, placeN
 use Rattle.bhtf.specs.Book.{Terms, Book, find, roomAsks, entered, placed}
 use Rattle.bhtf.proofs.Tests.{by-le}
 use Rattle.bhtf.proofs.Opened.{firstNo-head, firstNo-tail}
+use Rattle.bhtf.proofs.Effects.{Spaced}
 use Rattle.bhtf.proofs.Table.{entryOf}
 use Rattle.bhtf.proofs.Probe.{search-frame}
 use Rattle.bhtf.proofs.Insert.{entry-met, entry-empty}
@@ -126,12 +127,15 @@ module _ (g : Layout) (img : Bytes) (b : Book) (r : Reflects g img b) (key : Byt
     abbrev grown : Bytes
     grown = takeSpace g off t
 
+    space₁ : Spaced g off t
+    space₁ = space-is g off off-file t s₁ off-fits
+
     grown-file : File g grown
     grown-file = space-file g off off-file t s₁ off-fits
 
     grown-met : search g grown key ≡ met i
     grown-met =
-        search-frame g off grown key (file-some (r .file)) (space-is g off off-file t s₁ off-fits .slots)
+        search-frame g off grown key (file-some (r .file)) (space₁ .slots)
         ∙ search-frame g img off key (file-some (r .file)) (retire-slot g img (r .file) key (slot g img i) a e₁)
         ∙ m
 
@@ -158,13 +162,13 @@ module _ (g : Layout) (img : Bytes) (b : Book) (r : Reflects g img b) (key : Byt
     final-free : field final freeField ≡ x + (b .terms .head + length t)
     final-free =
         set-field g grown grown-file key a (field off freeField) own₁ i grown-met freeField (omega arith)
-        ∙ space-is g off off-file t s₁ off-fits .free
+        ∙ space₁ .free
         ∙ omega (arith, off-free, more-is g img b r (length t))
 
     final-points : field final pointsField ≡ field img pointsField
     final-points =
         set-field g grown grown-file key a (field off freeField) own₁ i grown-met pointsField (omega arith)
-        ∙ space-is g off off-file t s₁ off-fits .points
+        ∙ space₁ .points
         ∙ retire-field g img (r .file) key (slot g img i) a e₁ pointsField (omega arith)
 
     pub relocate : Reflects g (relocated g img i (offsetOf g (slot g img i)) key t) (placed b key t)
@@ -181,14 +185,17 @@ module _ (g : Layout) (img : Bytes) (b : Book) (r : Reflects g img b) (key : Byt
     abbrev wide : Bytes
     wide = takeSpace g img t
 
+    space₂ : Spaced g img t
+    space₂ = space-is g img (r .file) t s₁ l₁
+
     wide-file : File g wide
     wide-file = space-file g img (r .file) t s₁ l₁
 
     wide-empty : search g wide key ≡ empty i
-    wide-empty = search-frame g img wide key (file-some (r .file)) (space-is g img (r .file) t s₁ l₁ .slots) ∙ m
+    wide-empty = search-frame g img wide key (file-some (r .file)) (space₂ .slots) ∙ m
 
     wide-left : field wide pointsField < g .N
-    wide-left = rw (space-is g img (r .file) t s₁ l₁ .points) left
+    wide-left = rw (space₂ .points) left
 
     own₂ : Unshared g wide key x
     own₂ = unshared-space g img (r .file) t s₁ l₁ least key
@@ -208,12 +215,12 @@ module _ (g : Layout) (img : Bytes) (b : Book) (r : Reflects g img b) (key : Byt
         ∙ ap some (written-value g wide x t (space-written g img (r .file) t s₁ l₁)
         (space-some g img (r .file) t s₁ l₁) key))
         (enter-free g wide wide-file key a x own₂ i wide-empty wide-left
-        ∙ space-is g img (r .file) t s₁ l₁ .free
+        ∙ space₂ .free
         ∙ omega (arith, more-is g img b r (length t)))
         (length-withEntry-new _ (b .entries) absent
         ∙ omega (
           arith,
           r .number,
           enter-points g wide wide-file key a x own₂ i wide-empty wide-left,
-          space-is g img (r .file) t s₁ l₁ .points,
+          space₂ .points,
         ))

@@ -248,7 +248,7 @@ unfolding stateAfter
 book-keeps p P one [] b a h = h
 book-keeps p P one (c ∷ cs) b a h = book-keeps p P one cs (bookStep c b .after) (a .1) (one c b (a .0) h)
 
--- the call gives no space back and moves no data area: none does
+-- the call gives no space back and does not move the data area: every call is such a one
 abbrev pub Keeping : Call → Type 0
 Keeping c = Unit {0}
 

@@ -2,7 +2,7 @@
 --     Mending g img h j      the invariant during the walk: paths may be broken at the hole alone, and every slot
 --                            passed has its home after the hole; what is passed is told by what is left,
 --                            dist j h < dist s h
---     mending-start, -skip, -move, -stop      its start, its two turns and its end
+--     mending-begins, -skip, -move, -stop     its beginning, its two turns and its end
 --     findable-closed           the invariant afterwards
 --     gone-closed            the key stands nowhere afterwards
 -- Assumes nothing.
@@ -64,10 +64,10 @@ ahead-of N h j s lh lj ls nj ns n f =
     (λ le. absurd (n (dist-same N h j s lh lj ls (omega arith))))
     (λ lt. lt)
 
--- ---- the start
+-- ---- the beginning
 module _ (g : Layout) (img : Bytes) (r : Room g (length img)) (i : ℕ) (l : i < g .N) (ok : Findable g img) where
-  pub mending-start : Mending g (putSlot g img i (blank g)) i (next (g .N) i)
-  mending-start =
+  pub mending-begins : Mending g (putSlot g img i (blank g)) i (next (g .N) i)
+  mending-begins =
       record {
         paths = λ s k ls lk t f n. zeroed-taken g img r i l k
             (ok .paths s k ls lk (was s t)
@@ -213,7 +213,7 @@ module _ (g : Layout) (img : Bytes) (r : Room g (length img)) (i : ℕ) (l : i <
         skip = λ img′ h j w s t a p m. p (mending-skip g img′ h j s t a m);
         move = λ img′ h j w s t a p m. p (mending-move g img′ h j s t a m);
       })
-      (mending-start g img r i l ok)
+      (mending-begins g img r i l ok)
 
   -- the key stands nowhere afterwards
   pub gone-closed : Taken g img i → (k : ℕ) → k < g .N → Taken g (closed g img i) k
