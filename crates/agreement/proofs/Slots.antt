@@ -101,154 +101,148 @@ module _ (g : Layout) (img : Bytes) (f : File g img) (i : ℕ) (s : Bytes) (l : 
   put-field : (at : ℕ) → at + 4 ≤ tableStart → field (putSlot g img i s) at ≡ field img at
   put-field at h = field-putSlot g img (file-room f) i s at l len h
 
--- ---- the offset x written into the slot where the point was met
+-- ---- the offset x in the point's slot
 
 module _ (g : Layout) (img : Bytes) (f : File g img) (key : Bytes) (a : Allowed g key) (x : ℕ)
-    (fr : Unshared g img key x) (i : ℕ) (m : search g img key ≡ met i) where
-  set-lt : i < g .N
-  set-lt = search-met g img key (file-some f) i m .0
-
-  set-length : length (slotBytes key x) ≡ slotSize g
-  set-length = length-entry g key x (allowed-length g key a)
-
-  set-key : keyOf g (slotBytes key x) ≡ key
-  set-key = keyOf-entry g key x (allowed-length g key a)
-
-  set-entry : entryOf g (putSlot g img i (slotBytes key x)) key ≡ some (slotBytes key x)
-  set-entry = replace-entry g img key i (slotBytes key x) (file-room f) (file-some f) set-length set-key m
-
-  pub set-field : (at : ℕ) → at + 4 ≤ tableStart → field (putSlot g img i (slotBytes key x)) at ≡ field img at
-  set-field = put-field g img f i (slotBytes key x) set-lt set-length
-
-  set-counted : field (putSlot g img i (slotBytes key x)) pointsField
-      ≡ weight g (putSlot g img i (slotBytes key x)) (λ s. 1)
-  set-counted =
-      set-field pointsField (omega arith) ∙ f .counted
-      ∙ omega (
-        arith,
-        replace-weight g img key i (slotBytes key x) (file-room f) (file-some f) set-length set-key m
-            (allowed-zero g key a) (λ s. 1),
-      )
-
-  pub set-change : Change g img (putSlot g img i (slotBytes key x)) key
-  set-change =
-      slot-change g img f key a x fr (putSlot g img i (slotBytes key x))
-      (put-kept g img f i (slotBytes key x) set-lt set-length)
-      (set-field freeField (omega arith))
-      (put-same g img f i (slotBytes key x) set-lt set-length)
-      set-entry
-      (rw (set-field pointsField (omega arith)) (omega (arith, f .opened .points, file-slots f)))
-      (replace-findable g img key i (slotBytes key x) (file-room f) (file-some f) set-length set-key m (f .table))
-      set-counted
-      (λ key′ a′ n. replace-other g img key i (slotBytes key x) (file-room f) (file-some f) set-length set-key m key′ n)
-
-  pub set-point : pointOf g (putSlot g img i (slotBytes key x)) key ≡ some (valueOf g img key x)
-  set-point =
-      slot-point g img f key a x fr (putSlot g img i (slotBytes key x))
-      (put-kept g img f i (slotBytes key x) set-lt set-length)
-      (set-field freeField (omega arith))
-      (put-same g img f i (slotBytes key x) set-lt set-length)
-      set-entry
-
--- ---- a new point, in the empty slot where its search ended
-
-module _ (g : Layout) (img : Bytes) (f : File g img) (key : Bytes) (a : Allowed g key) (x : ℕ)
-    (fr : Unshared g img key x) (i : ℕ) (m : search g img key ≡ empty i) (left : field img pointsField < g .N) where
-  put : Bytes
-  put = putSlot g img i (slotBytes key x)
-
-  lt : i < g .N
-  lt = search-empty g img key (file-some f) i m .0
-
+    (fr : Unshared g img key x) (i : ℕ) where
   len : length (slotBytes key x) ≡ slotSize g
   len = length-entry g key x (allowed-length g key a)
 
   key-is : keyOf g (slotBytes key x) ≡ key
   key-is = keyOf-entry g key x (allowed-length g key a)
 
-  length-put : length put ≡ length img
-  unfolding put
-  length-put = length-putSlot g img (file-room f) i (slotBytes key x) lt len
+  -- ---- written where the point was met
+  module _ (m : search g img key ≡ met i) where
+    set-lt : i < g .N
+    set-lt = search-met g img key (file-some f) i m .0
 
-  room-put : Room g (length put)
-  room-put = rw length-put (file-room f)
+    set-entry : entryOf g (putSlot g img i (slotBytes key x)) key ≡ some (slotBytes key x)
+    set-entry = replace-entry g img key i (slotBytes key x) (file-room f) (file-some f) len key-is m
 
-  put-opened : Opened put
-  unfolding put
-  put-opened =
-      opened-kept (put-kept g img f i (slotBytes key x) lt len) (f .opened)
-      (rw (put-field g img f i (slotBytes key x) lt len pointsField (omega arith)) (f .opened .points))
-      (rw (put-field g img f i (slotBytes key x) lt len freeField (omega arith)) (f .opened .free-low))
-      (rw (put-field g img f i (slotBytes key x) lt len freeField (omega arith)) (f .opened .free-high))
+    pub set-field : (at : ℕ) → at + 4 ≤ tableStart → field (putSlot g img i (slotBytes key x)) at ≡ field img at
+    set-field = put-field g img f i (slotBytes key x) set-lt len
 
-  more : field img pointsField + 1 ≤ field put slotsField
-  unfolding put
-  more = omega (arith, left, file-slots f, kept-slots (put-kept g img f i (slotBytes key x) lt len))
+    set-counted : field (putSlot g img i (slotBytes key x)) pointsField
+        ≡ weight g (putSlot g img i (slotBytes key x)) (λ s. 1)
+    set-counted =
+        set-field pointsField (omega arith) ∙ f .counted
+        ∙ omega (
+          arith,
+          replace-weight g img key i (slotBytes key x) (file-room f) (file-some f) len key-is m
+              (allowed-zero g key a) (λ s. 1),
+        )
 
-  is-enter : enter g img i key x ≡ setField put pointsField (field img pointsField + 1)
-  unfolding enter put
-  is-enter = refl
+    pub set-change : Change g img (putSlot g img i (slotBytes key x)) key
+    set-change =
+        slot-change g img f key a x fr (putSlot g img i (slotBytes key x))
+        (put-kept g img f i (slotBytes key x) set-lt len)
+        (set-field freeField (omega arith))
+        (put-same g img f i (slotBytes key x) set-lt len)
+        set-entry
+        (rw (set-field pointsField (omega arith)) (omega (arith, f .opened .points, file-slots f)))
+        (replace-findable g img key i (slotBytes key x) (file-room f) (file-some f) len key-is m (f .table))
+        set-counted
+        (λ key′ a′ n. replace-other g img key i (slotBytes key x) (file-room f) (file-some f) len key-is m key′ n)
 
-  enter-slot : (k : ℕ) → k < g .N → slot g (enter g img i key x) k ≡ slot g put k
-  enter-slot k h =
-      ap (λ (j : Bytes). slot g j k) is-enter ∙ slot-setField g put room-put pointsField (field img pointsField + 1) k
-      (omega arith) h
+    pub set-point : pointOf g (putSlot g img i (slotBytes key x)) key ≡ some (valueOf g img key x)
+    set-point =
+        slot-point g img f key a x fr (putSlot g img i (slotBytes key x))
+        (put-kept g img f i (slotBytes key x) set-lt len)
+        (set-field freeField (omega arith))
+        (put-same g img f i (slotBytes key x) set-lt len)
+        set-entry
 
-  enter-entry : (k : Bytes) → entryOf g (enter g img i key x) k ≡ entryOf g put k
-  enter-entry k = entryOf-frame g put (enter g img i key x) k (file-some f) enter-slot
+  -- ---- a new point, in the empty slot where its search ended
+  module _ (m : search g img key ≡ empty i) (left : field img pointsField < g .N) where
+    put : Bytes
+    put = putSlot g img i (slotBytes key x)
 
-  entry-is : entryOf g (enter g img i key x) key ≡ some (slotBytes key x)
-  unfolding put
-  entry-is =
-      enter-entry key
-      ∙ insert-entry g img key i (slotBytes key x) (file-room f) (file-some f) (f .table) len key-is
-      (allowed-zero g key a) m
+    lt : i < g .N
+    lt = search-empty g img key (file-some f) i m .0
 
-  pub enter-points : field (enter g img i key x) pointsField ≡ field img pointsField + 1
-  enter-points =
-      ap (λ (j : Bytes). field j pointsField) is-enter ∙ points-is put put-opened (field img pointsField + 1) more
+    length-put : length put ≡ length img
+    unfolding put
+    length-put = length-putSlot g img (file-room f) i (slotBytes key x) lt len
 
-  pub enter-free : field (enter g img i key x) freeField ≡ field img freeField
-  unfolding put
-  enter-free =
-      ap (λ (j : Bytes). field j freeField) is-enter
-      ∙ points-free put put-opened (field img pointsField + 1) more
-      ∙ put-field g img f i (slotBytes key x) lt len freeField (omega arith)
+    room-put : Room g (length put)
+    room-put = rw length-put (file-room f)
 
-  enter-kept : Kept img (enter g img i key x)
-  unfolding put
-  enter-kept =
-      rw is-enter (kept-trans (put-kept g img f i (slotBytes key x) lt len)
-      (points-kept put put-opened (field img pointsField + 1) more))
+    put-opened : Opened put
+    unfolding put
+    put-opened =
+        opened-kept (put-kept g img f i (slotBytes key x) lt len) (f .opened)
+        (rw (put-field g img f i (slotBytes key x) lt len pointsField (omega arith)) (f .opened .points))
+        (rw (put-field g img f i (slotBytes key x) lt len freeField (omega arith)) (f .opened .free-low))
+        (rw (put-field g img f i (slotBytes key x) lt len freeField (omega arith)) (f .opened .free-high))
 
-  enter-same : (p n : ℕ) → g .D ≤ p → SameOn img (enter g img i key x) p n
-  unfolding put
-  enter-same p n h =
-      rw is-enter
-      (same-on-trans (put-same g img f i (slotBytes key x) lt len p n h)
-      (record {
-        on = λ q m lo hi. points-behind put put-opened (field img pointsField + 1) more q m
-            (omega (arith, h, file-above f));
-      }))
+    more : field img pointsField + 1 ≤ field put slotsField
+    unfolding put
+    more = omega (arith, left, file-slots f, kept-slots (put-kept g img f i (slotBytes key x) lt len))
 
-  pub enter-change : Change g img (enter g img i key x) key
-  unfolding put
-  enter-change =
-      slot-change g img f key a x fr (enter g img i key x) enter-kept enter-free enter-same entry-is
-      (rw enter-points (omega (arith, left)))
-      (frame-findable g put (enter g img i key x) (file-some f) enter-slot
-      (insert-findable g img key i (slotBytes key x) (file-room f) (file-some f) (f .table) len key-is
-      (allowed-zero g key a) m))
-      (enter-points
-      ∙ ap (λ (n : ℕ). n + 1) (f .counted)
-      ∙ sym (weight-frame g put (enter g img i key x) (λ s. 1) enter-slot
-      ∙ insert-weight g img key i (slotBytes key x) (file-room f) (file-some f) (f .table) len key-is
-      (allowed-zero g key a) m (λ s. 1)))
-      (λ key′ a′ n.
-      enter-entry key′
-      ∙ insert-other g img key i (slotBytes key x) (file-room f) (file-some f) (f .table) len key-is
-      (allowed-zero g key a) m key′ n
-      (allowed-zero g key′ a′))
+    is-enter : enter g img i key x ≡ setField put pointsField (field img pointsField + 1)
+    unfolding enter put
+    is-enter = refl
 
-  pub enter-point : pointOf g (enter g img i key x) key ≡ some (valueOf g img key x)
-  enter-point = slot-point g img f key a x fr (enter g img i key x) enter-kept enter-free enter-same entry-is
+    enter-slot : (k : ℕ) → k < g .N → slot g (enter g img i key x) k ≡ slot g put k
+    enter-slot k h =
+        ap (λ (j : Bytes). slot g j k) is-enter ∙ slot-setField g put room-put pointsField (field img pointsField + 1) k
+        (omega arith) h
+
+    enter-entry : (k : Bytes) → entryOf g (enter g img i key x) k ≡ entryOf g put k
+    enter-entry k = entryOf-frame g put (enter g img i key x) k (file-some f) enter-slot
+
+    entry-is : entryOf g (enter g img i key x) key ≡ some (slotBytes key x)
+    unfolding put
+    entry-is =
+        enter-entry key
+        ∙ insert-entry g img key i (slotBytes key x) (file-room f) (file-some f) (f .table) len key-is
+        (allowed-zero g key a) m
+
+    pub enter-points : field (enter g img i key x) pointsField ≡ field img pointsField + 1
+    enter-points =
+        ap (λ (j : Bytes). field j pointsField) is-enter ∙ points-is put put-opened (field img pointsField + 1) more
+
+    pub enter-free : field (enter g img i key x) freeField ≡ field img freeField
+    unfolding put
+    enter-free =
+        ap (λ (j : Bytes). field j freeField) is-enter
+        ∙ points-free put put-opened (field img pointsField + 1) more
+        ∙ put-field g img f i (slotBytes key x) lt len freeField (omega arith)
+
+    enter-kept : Kept img (enter g img i key x)
+    unfolding put
+    enter-kept =
+        rw is-enter (kept-trans (put-kept g img f i (slotBytes key x) lt len)
+        (points-kept put put-opened (field img pointsField + 1) more))
+
+    enter-same : (p n : ℕ) → g .D ≤ p → SameOn img (enter g img i key x) p n
+    unfolding put
+    enter-same p n h =
+        rw is-enter
+        (same-on-trans (put-same g img f i (slotBytes key x) lt len p n h)
+        (record {
+          on = λ q m lo hi. points-behind put put-opened (field img pointsField + 1) more q m
+              (omega (arith, h, file-above f));
+        }))
+
+    pub enter-change : Change g img (enter g img i key x) key
+    unfolding put
+    enter-change =
+        slot-change g img f key a x fr (enter g img i key x) enter-kept enter-free enter-same entry-is
+        (rw enter-points (omega (arith, left)))
+        (frame-findable g put (enter g img i key x) (file-some f) enter-slot
+        (insert-findable g img key i (slotBytes key x) (file-room f) (file-some f) (f .table) len key-is
+        (allowed-zero g key a) m))
+        (enter-points
+        ∙ ap (λ (n : ℕ). n + 1) (f .counted)
+        ∙ sym (weight-frame g put (enter g img i key x) (λ s. 1) enter-slot
+        ∙ insert-weight g img key i (slotBytes key x) (file-room f) (file-some f) (f .table) len key-is
+        (allowed-zero g key a) m (λ s. 1)))
+        (λ key′ a′ n.
+        enter-entry key′
+        ∙ insert-other g img key i (slotBytes key x) (file-room f) (file-some f) (f .table) len key-is
+        (allowed-zero g key a) m key′ n
+        (allowed-zero g key′ a′))
+
+    pub enter-point : pointOf g (enter g img i key x) key ≡ some (valueOf g img key x)
+    enter-point = slot-point g img f key a x fr (enter g img i key x) enter-kept enter-free enter-same entry-is
