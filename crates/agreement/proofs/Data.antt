@@ -11,7 +11,7 @@ use mathlib.Core.Option.{some, Option·some-injective}
 use lib.ListN.{length}
 use Rattle.bhtf.specs.Bytes.{Bytes}
 use Rattle.bhtf.specs.Limits.{pointsField, freeField, tableStart}
-use Rattle.bhtf.specs.Image.{field, Layout, offsetOf, slot}
+use Rattle.bhtf.specs.Image.{field, Layout, offsetOf, slot, keyOf}
 use Rattle.bhtf.specs.Messages.{lengthAt}
 use Rattle.bhtf.specs.Questions.{messageSound}
 use Rattle.bhtf.proofs.Bytes.{Apart, apart-inside}
@@ -26,7 +26,7 @@ use Rattle.agreement.proofs.File.{Allowed, File, file-slots, file-room,
 
 module _ (g : Layout) (img img′ : Bytes) (pos : 0 < g .N) (e : (k : ℕ) → k < g .N → slot g img′ k ≡ slot g img k) where
   pub frame-findable : Findable g img → Findable g img′
-  frame-findable s = findable-keys g img img′ (λ k h. ap (Rattle.bhtf.specs.Image.keyOf g) (e k h)) s
+  frame-findable s = findable-keys g img img′ (λ k h. ap (keyOf g) (e k h)) s
 
 -- where the table ends the data area begins, above the header
 pub file-above : {g : Layout} {img : Bytes} → File g img → tableStart ≤ g .D

@@ -10,7 +10,7 @@ use mathlib.Core.Option.{some, Option·some-injective}
 use lib.ListN.{length}
 use Rattle.bhtf.specs.Bytes.{Bytes}
 use Rattle.bhtf.specs.Limits.{word, slotsField, pointsField, freeField, tableStart}
-use Rattle.bhtf.specs.Image.{field, setField, Layout, slotSize, offsetOf, slot, putSlot, keyOf, slotBytes}
+use Rattle.bhtf.specs.Image.{field, setField, Layout, slotSize, slotStart, offsetOf, slot, putSlot, keyOf, slotBytes}
 use Rattle.bhtf.specs.Messages.{enter}
 use Rattle.bhtf.specs.Search.{search, met, empty}
 use Rattle.bhtf.proofs.Bytes.{Apart}
@@ -91,7 +91,7 @@ module _ (g : Layout) (img : Bytes) (f : File g img) (i : ℕ) (s : Bytes) (l : 
   put-kept : Kept img (putSlot g img i s)
   unfolding putSlot
   put-kept =
-      kept-store img (Rattle.bhtf.specs.Image.slotStart g i) s
+      kept-store img (slotStart g i) s
       (omega (arith, slot-end g (file-room f) i l, file-room f .area)) (slot-above g i)
 
   put-same : (p n : ℕ) → g .D ≤ p → SameOn img (putSlot g img i s) p n
