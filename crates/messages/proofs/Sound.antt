@@ -1,7 +1,8 @@
 -- A message in the image, as code reads it: its letter, its length, and question 11.
 --     letter-byte, length-bound      the header
 --     sound-none, sound-low, sound-high, sound-read, sound-tests      question 11, by where the offset stands
---     active-none, active-letter, held-none     whether it is active, and the length held
+--     active-none, active-letter     whether it is active
+--     length-shown-yes, length-shown-no      how much text it shows
 -- Assumes nothing.
 use mathlib.Core.Path.{_≡_, refl, sym, ap, _∙_}
 use Prim.Native.Nat.{ℕ, _+_, _≤_, _<_, _^_}
@@ -84,7 +85,7 @@ pub sound-tests : (g : Layout) (img : Bytes) (o at head m x : ℕ) → at ≡ o 
 sound-tests g img o at head m x ea eh z d h em ex =
     rw (ea, eh, em, ex) (sym (simp (letter-byte img o h) at (sound-read g img o z d)))
 
--- ---- active messages, and the length held
+-- ---- active messages
 pub active-none : (img : Bytes) (o : ℕ) → o ≡ 0 → isActive img o ≡ false
 unfolding isActive
 active-none img o e = rw (eq-eqb o 0 e)
@@ -92,10 +93,6 @@ active-none img o e = rw (eq-eqb o 0 e)
 pub active-letter : (img : Bytes) (o : ℕ) → (o ≡ 0 → ⊥) → o < length img → isActive img o ≡ eqb (getD img o 0) active
 unfolding isActive
 active-letter img o n h = rw (ne-eqb o 0 n, letter-byte img o h)
-
-pub held-none : (g : Layout) (img : Bytes) (o : ℕ) → o ≡ 0 → held g img o ≡ 0
-unfolding held
-held-none g img o e = rw (eq-eqb o 0 e)
 
 -- ---- how much text an offset shows
 pub length-shown-yes : (g : Layout) (img : Bytes) (o : ℕ) → isActive img o ≡ true → shownLength g img o ≡ lengthAt g img o

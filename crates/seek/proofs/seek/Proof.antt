@@ -1,14 +1,15 @@
 -- Each question in turn, then the search. Assumes nothing.
 use native.Mathlib.Omega.{arith}
-use mathlib.Core.Path.{_≡_, sym, ap, _∙_}
-use mathlib.Core.Bool.{Bool, true, false, not}
+use mathlib.Core.Path.{_≡_, sym, _∙_, subst}
+use mathlib.Core.Bool.{true}
 use borrow.Author.Needs.{needs}
 use borrow.Author.Tests.{not-true, not-false}
 use Rattle.bhtf.specs.Image.{layoutOf}
 use Rattle.bhtf.specs.Questions.{nameAllowed, openNumber}
 use Rattle.bhtf.proofs.Opened.{opened-facts}
 use Rattle.bhtf.proofs.Sought.{seek-closed, seek-7, seek-8, seek-0}
-use Rattle.table.proofs.Taken.{named-no, named-yes}
+use Rattle.table.proofs.Taken.{named-no, named-yes, search-within}
+use Rattle.table.specs.Probes.{Within}
 use Rattle.seek.specs.Seeks.{SoughtIs}
 use Rattle.seek.proofs.seek.Statement.{statement}
 use Rattle.seek.proofs.seek.Tie as tie
@@ -103,6 +104,9 @@ returns-4 c =
       asked = seek-0 (A .image .now) (A .key .now) (A .known) o (named (c .before .before)) (not-false (A .known) (c .before .if3 .left));
       opened = record { accepted = o; shape = (read-shape-at-search c) .read-shape .ensures };
       ended = c .search .ensures;
+      within =
+          subst (Within _) (sym (c .search .ensures))
+          (search-within (A .image .now) (A .key .now) _ (record { accepted = o; shape = (read-shape-at-search c) .read-shape .ensures }));
     }
 
 pub seek-spec : {M : Type 1} → statement M
