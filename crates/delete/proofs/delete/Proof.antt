@@ -1,41 +1,68 @@
+-- `delete::delete` meets its contract: a refusal leaves the image, else the search's end tells what is done. Assumes nothing.
+use mathlib.Core.Bool.{true}
+use borrow.Author.Needs.{needs}
+use Rattle.seek.proofs.Reaching.{refused-is, reached-is}
+use Rattle.delete.proofs.Removed.{refused-answer, found-answer}
 use Rattle.delete.proofs.delete.Statement.{statement}
 use Rattle.delete.proofs.delete.Tie as tie
-use Rattle.delete.proofs.delete.Reads as reads
-use Rattle.delete.proofs.delete.Lts as lts
-use Rattle.delete.proofs.delete_found.Reads as delete-found-reads
-use Rattle.seek.proofs.seek.Reads as seek-reads
 
--- src/lib.rt:68:9
 seek-requires : tie.Need-seek-requires
-seek-requires c κs = ?
+seek-requires c κs = search needs
 
--- src/lib.rt:70:25
 enum-known-sought : tie.Need-enum-known-sought
-enum-known-sought c = ?
+enum-known-sought c = search needs
 
--- src/lib.rt:71:20
 enum-known-sought-2 : tie.Need-enum-known-sought-2
-enum-known-sought-2 c = ?
+enum-known-sought-2 c = search needs
 
--- src/lib.rt:71:37
+abbrev slice-known-at-delete-found-arg : tie.After-delete-found-arg → tie.After-slice-known
+slice-known-at-delete-found-arg c = c .before .before .before .before .before .before .before
+
+abbrev start-at-delete-found-arg : tie.After-delete-found-arg → tie.Start
+start-at-delete-found-arg c = (slice-known-at-delete-found-arg c) .before
+
+abbrev seek-at-delete-found-arg : tie.After-delete-found-arg → tie.After-seek
+seek-at-delete-found-arg c = c .before .before .before .before
+
 delete-found-requires : tie.Need-delete-found-requires
-delete-found-requires c κs = ?
+delete-found-requires c κs =
+    let A = (start-at-delete-found-arg c) .args in
+    let r = reached-is (A .image .now) (A .key .now) true ((seek-at-delete-found-arg c) .seek .ensures) (c .before .before .sought2 .given .1) in
+    (r .opened, r .within)
 
--- src/lib.rt:64:1
 same-length : tie.Need-same-length
-same-length c = ?
+same-length c = search needs
 
--- src/lib.rt:64:1
+abbrev start-at-known-told : tie.After-known-told → tie.Start
+start-at-known-told c = c .before .before .before .before .before .before .before
+
 returns : tie.Need-returns
-returns c = ?
+returns c =
+    let A = (start-at-known-told c) .args in
+    let r = refused-is (A .image .now) (A .key .now) true (c .before .before .before .seek .ensures) (c .before .sought .given .1) in
+    refused-answer (A .image .now) (A .key .now) _ (r .0) (r .1)
 
--- src/lib.rt:64:1
 same-length-2 : tie.Need-same-length-2
-same-length-2 c = ?
+same-length-2 c = search needs
 
--- src/lib.rt:64:1
+abbrev seek-at-slice-known2 : tie.After-slice-known2 → tie.After-seek
+seek-at-slice-known2 c = c .before .before .before .before .before .before .before
+
+abbrev start-at-seek : tie.After-seek → tie.Start
+start-at-seek c = c .before .before .before .before
+
+abbrev start-at-slice-known2 : tie.After-slice-known2 → tie.Start
+start-at-slice-known2 c = start-at-seek (seek-at-slice-known2 c)
+
+abbrev sought2-at-slice-known2 : tie.After-slice-known2 → tie.After-sought2
+sought2-at-slice-known2 c = c .before .before .before .before .before
+
 returns-2 : tie.Need-returns-2
-returns-2 c = ?
+returns-2 c =
+    let A = (start-at-slice-known2 c) .args in
+    let r = reached-is (A .image .now) (A .key .now) true ((seek-at-slice-known2 c) .seek .ensures) ((sought2-at-slice-known2 c) .sought2 .given .1) in
+    let d = c .before .before .delete-found in
+    found-answer (A .image .now) (A .key .now) (r .asked) (d .result) (d .last .0) _ (r .ended) (d .ensures .0) (d .ensures .1)
 
 pub delete-spec : {M : Type 1} → statement M
 delete-spec =

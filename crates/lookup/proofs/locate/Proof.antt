@@ -1,39 +1,56 @@
+-- `lookup::locate` meets its contract: a refusal shows nothing, else the search's end tells what is shown. Assumes nothing.
+use mathlib.Core.Path.{sym, _∙_}
+use mathlib.Core.Bool.{true}
 use borrow.Author.Needs.{needs}
+use Rattle.seek.proofs.Reaching.{refused-is, reached-is}
+use Rattle.lookup.proofs.Answers.{located-refused, located-found}
 use Rattle.lookup.proofs.locate.Statement.{statement}
 use Rattle.lookup.proofs.locate.Tie as tie
-use Rattle.lookup.proofs.locate.Reads as reads
-use Rattle.lookup.proofs.locate.Lts as lts
-use Rattle.lookup.proofs.locate_found.Reads as locate-found-reads
-use Rattle.lookup.proofs.nothing.Reads as nothing-reads
-use Rattle.seek.proofs.seek.Reads as seek-reads
 
--- src/lib.rt:96:9
 seek-requires : tie.Need-seek-requires
 seek-requires c κs = search needs
 
--- src/lib.rt:98:25
 enum-known-sought : tie.Need-enum-known-sought
 enum-known-sought c = search needs
 
--- src/lib.rt:98:36
 nothing-requires : tie.Need-nothing-requires
 nothing-requires c κs = search needs
 
--- src/lib.rt:99:20
 enum-known-sought-2 : tie.Need-enum-known-sought-2
 enum-known-sought-2 c = search needs
 
--- src/lib.rt:99:37
+abbrev start-at-known-told2 : tie.After-known-told2 → tie.Start
+start-at-known-told2 c = c .before .before .before .before .before .before
+
 locate-found-requires : tie.Need-locate-found-requires
-locate-found-requires c κs = ?
+locate-found-requires c κs =
+    let r = reached-is ((start-at-known-told2 c) .args .image .now) ((start-at-known-told2 c) .args .key .now) true (c .before .before .before .seek .ensures) (c .before .sought2 .given .1) in
+    (r .opened, r .within)
 
--- src/lib.rt:91:1
+abbrev start-at-nothing : tie.After-nothing → tie.Start
+start-at-nothing c = c .before .before .before .before .before .before .before
+
+abbrev seek-at-nothing : tie.After-nothing → tie.After-seek
+seek-at-nothing c = c .before .before .before .before
+
 returns : tie.Need-returns
-returns c = ?
+returns c =
+    let A = (start-at-nothing c) .args in
+    let r = refused-is ((start-at-nothing c) .args .image .now) ((start-at-nothing c) .args .key .now) true ((seek-at-nothing c) .seek .ensures) (c .before .before .sought .given .1) in
+    let n = c .nothing .ensures in
+    located-refused (A .image .now) (A .key .now) _ _ _ (n .0 ∙ r .0) (λ z. r .1 (sym (n .0) ∙ z)) (n .1) (n .2)
 
--- src/lib.rt:91:1
+abbrev start-at-locate-found : tie.After-locate-found → tie.Start
+start-at-locate-found c = c .before .before .before .before .before .before .before
+
+abbrev seek-at-locate-found : tie.After-locate-found → tie.After-seek
+seek-at-locate-found c = c .before .before .before .before
+
 returns-2 : tie.Need-returns-2
-returns-2 c = ?
+returns-2 c =
+    let A = (start-at-locate-found c) .args in
+    let r = reached-is ((start-at-locate-found c) .args .image .now) ((start-at-locate-found c) .args .key .now) true ((seek-at-locate-found c) .seek .ensures) (c .before .before .sought2 .given .1) in
+    located-found (A .image .now) (A .key .now) (r .asked) _ _ _ _ (r .ended) (c .locate-found .ensures)
 
 pub locate-spec : {M : Type 1} → statement M
 locate-spec =
