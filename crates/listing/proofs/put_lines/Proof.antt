@@ -43,7 +43,8 @@ put-row-requires c κs =
     let N = c .before .new in
     let l = c .before .before .loop-test .taken in
     let room : L .loop .end + length (row g img i) ≤ length (L .loop .out) =
-    rest-room (row g img i) (lines g img (n - (i + 1)) (i + 1)) (L .loop .inv .1) (lines-step g img n i l) (S .pre .1) in (
+    rest-room (row g img i) (lines g img (n - (i + 1)) (i + 1)) (L .loop .inv .1) (lines-step g img n i l) (S .pre .1)
+    in (
       S .pre .0,
       omega (arith, N .ensures, l),
       omega (arith, room, ap (λ (k : ℕ). length (row g img k)) (N .ensures)),
