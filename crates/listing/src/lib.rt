@@ -21,11 +21,14 @@ ghost use Rattle.text.specs.Puts.{Put};
 ghost use Rattle.listing.specs.Listed.{lengthText, line, row, lines, refusedText, listed, printed, mostPrinted};
 ghost use Rattle.table.specs.Slots.{offsetIn};
 
+// A longer input is not listed.
+const MOST_LISTED: usize = 65536;
+
 // The length of the slot's own active message: 0 if there is none, `bad` where question 11 fails.
 fn put_length(image: &[u8], shape: Shape, i: Slot, out: &mut [u8], at: usize) -> usize
     requires { ⌜ Open (now image) shape × (i .0 < shape .slots)
         × (at + length (lengthText (layoutOf (now image)) (now image) (offsetIn (now image) (i .0)))
-            ≤ length (now out)) ⌝ }
+        ≤ length (now out)) ⌝ }
     ensures { λ r. ⌜ Put (now (out .entry)) at (now (out .exit)) r
         (lengthText (layoutOf (now (image .entry))) (now (image .entry)) (offsetIn (now (image .entry)) (i .0))) ⌝ }
 {
@@ -111,7 +114,7 @@ pub fn print(input: &[u8], out: &mut [u8]) -> usize
     ensures text { λ r. ⌜ Put (now (out .entry)) 0 (now (out .exit)) r (printed (now (input .entry))) ⌝ }
     ensures within { λ r. ⌜ (r ≤ length (now (out .exit))) × (r ≡ length (take r (now (out .exit)))) ⌝ }
 {
-    if 65536 < input.len() {
+    if MOST_LISTED < input.len() {
         return put_bytes(out, 0, b"too long\n");
     }
     list(input, out)

@@ -1,5 +1,4 @@
--- `inspect::check_table` meets its contract: no slot below i fails, and `count` of them are taken.
--- Assumes nothing.
+-- No slot below i fails, and `count` of them are taken. Assumes nothing.
 use Prim.Native.Nat.{ℕ, _+_, _-_}
 use native.Mathlib.Omega.{arith}
 use mathlib.Core.Path.{sym, _∙_, subst}

@@ -132,7 +132,8 @@ returns c =
     let D = key-put E in
     let B = byte-put D in
     let A = decimal-put B in
-    put-six (put-same (ap decimal (A .before .number .ensures)) (A .put-decimal .ensures)) (B .put-byte .ensures)
+    put-six {v₅ = lengthTold (start A)}
+    (put-same (ap decimal (A .before .number .ensures)) (A .put-decimal .ensures)) (B .put-byte .ensures)
     (put-same (ap hexes (D .before .key-of .ensures)) (D .put-key .ensures)) (E .put-byte2 .ensures)
     (F .put-length .ensures) (G .put-byte3 .ensures) (start A .pre .2)
 
