@@ -17,7 +17,7 @@ use Rattle.bhtf.specs.Limits.{pointsField}
 use Rattle.bhtf.specs.Image.{field, Layout, layoutOf, slot, offsetOf}
 use Rattle.bhtf.specs.Search.{Probe, met, empty, exhausted, search}
 use Rattle.bhtf.specs.Questions.{messageSound, openNumber}
-use Rattle.bhtf.specs.Inspect.{lowest, taken, takenFrom, endsAt, slotSound, slotFails, Verdict, sound, countSound, verdictOf, check}
+use Rattle.bhtf.specs.Inspect.{lowest, taken, takenFrom, endsAt, slotSound, slotFails, Verdict, sound, countSound, verdictOf, tableVerdict, check}
 use Rattle.bhtf.proofs.Tests.{by-bool, by-eq, and-left, and-right}
 use Rattle.bhtf.proofs.Table.{Taken, keyAt, Findable, weight}
 use Rattle.bhtf.proofs.Probe.{search-met}
@@ -132,12 +132,8 @@ verdict-open false v n e = let z : _≡_ {A = ℕ} 0 1 = cc in absurd (omega ari
 
 module _ (img : Bytes) (ok : check img ≡ sound) where
   -- the two parts of the verdict
-  parts : (eqb (openNumber img) 0 ≡ true)
-      × (verdictOf (countSound (layoutOf img) img) (lowest (slotFails (layoutOf img) img) (layoutOf img .N) 0) ≡ sound)
-  parts =
-      verdict-open (eqb (openNumber img) 0)
-      (verdictOf (countSound (layoutOf img) img) (lowest (slotFails (layoutOf img) img) (layoutOf img .N) 0))
-      (openNumber img) (unfold check in ok)
+  parts : (eqb (openNumber img) 0 ≡ true) × (tableVerdict img ≡ sound)
+  parts = verdict-open (eqb (openNumber img) 0) (tableVerdict img) (openNumber img) (unfold check in ok)
 
   -- a taken slot is sound
   check-slot : (i : ℕ) → i < layoutOf img .N → Taken (layoutOf img) img i → slotSound (layoutOf img) img i ≡ true

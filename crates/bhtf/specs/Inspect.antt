@@ -93,11 +93,13 @@ verdictOf c (some i) = slotBad i
 verdictOf true none = sound
 verdictOf false none = countBad
 
+-- of the table of an image whose header is accepted
+abbrev pub tableVerdict : Bytes → Verdict
+tableVerdict img =
+    verdictOf (countSound (layoutOf img) img) (lowest (slotFails (layoutOf img) img) (layoutOf img .N) 0)
+
 unfoldable pub check : Bytes → Verdict
-check img =
-    cond (eqb (openNumber img) 0)
-    (verdictOf (countSound (layoutOf img) img) (lowest (slotFails (layoutOf img) img) (layoutOf img .N) 0))
-    (refused (openNumber img))
+check img = cond (eqb (openNumber img) 0) (tableVerdict img) (refused (openNumber img))
 
 -- the check's number
 unfoldable pub verdictNumber : Verdict → ℕ

@@ -1,5 +1,5 @@
-// The check: whether each taken slot's key, searched, ends there, its message passes question 11, and C is the number of
-// taken slots. One search for each taken slot; the first that fails ends it.
+// The check: whether each taken slot's key, searched, ends there, its message passes question 11, and C is the number
+// of taken slots. One search for each taken slot; the first that fails ends it.
 use layout::places::Slot;
 use layout::shape::Shape;
 use layout::shape::read_shape;
@@ -15,9 +15,9 @@ use words::limits::POINTS_FIELD;
 ghost use mathlib.Core.Path.{_≡_};
 ghost use Prim.Native.Nat.{_<_};
 ghost use Rattle.bhtf.specs.Image.{layoutOf};
-ghost use Rattle.bhtf.specs.Inspect.{slotSound, check};
+ghost use Rattle.bhtf.specs.Inspect.{slotSound, tableVerdict, check};
 ghost use Rattle.layout.specs.Shapes.{Open};
-ghost use Rattle.inspect.specs.Verdicts.{verdictIn, tableVerdict};
+ghost use Rattle.inspect.specs.Verdicts.{verdictIn};
 
 // What the check says: refused with a number, sound, the lowest slot that fails, or that C alone fails.
 pub enum Verdict {

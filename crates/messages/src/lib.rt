@@ -6,7 +6,6 @@ use words::fields::read_u32;
 use words::limits::FREE_FIELD;
 use words::limits::LENGTH_WIDTH;
 ghost use mathlib.Core.Path.{_≡_};
-ghost use mathlib.Core.Bool.{true};
 ghost use Prim.Native.Nat.{_+_, _≤_, _<_, _^_};
 ghost use lib.ListN.{length};
 ghost use Rattle.bhtf.specs.Image.{layoutOf};
