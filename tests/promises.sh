@@ -1,18 +1,20 @@
 #!/usr/bin/env bash
-# docs/PROMISES.md names files, statements and must-fail edits as `path` or `path` with `name`: fails where one is gone.
-# A table row's file is the last `crates/..` path before a name; `name` in such a row must stand in that file as a declaration.
+# Fails where docs/PROMISES.md names something that is gone. It reads three forms:
+#     `crates/..`                        a file or folder, also of docs, host, tests, bench and .ci: it exists
+#     [words](../crates/..#name)         the file declares that name
+#     `crates/...edit`: `name` fact      the edit says that it falls at that function's fact, or at the case of that name
 set -u
 cd "$(dirname "$0")/.." || exit 2
 doc=docs/PROMISES.md
 [ -f "$doc" ] || { echo "$doc is missing"; exit 1; }
 bad=0
 checked=0
-# every path in backquotes exists
+# paths in backquotes
 while read -r path; do
   checked=$((checked + 1))
   [ -e "$path" ] || { echo "$doc names $path, which is not there"; bad=1; }
 done < <(grep -oE '`(crates|docs|host|tests|bench|\.ci)/[^` ]+`' "$doc" | tr -d '`' | sort -u)
-# every statement named as `path#name` is declared in that file
+# names behind a link's path
 while IFS='#' read -r path name; do
   checked=$((checked + 1))
   if [ ! -f "$path" ]; then
@@ -23,7 +25,7 @@ while IFS='#' read -r path name; do
     bad=1
   fi
 done < <(grep -oE '\((\.\./)?crates/[^ )]+#[^ )]+\)' "$doc" | sed 's/^(\(\.\.\/\)\?//; s/)$//' | sort -u)
-# a fact named behind an edit is the one that the edit names: a function's part, or a case
+# facts behind an edit
 while IFS='`' read -r _ edit _ name fact; do
   checked=$((checked + 1))
   fact=${fact# }
