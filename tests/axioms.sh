@@ -6,7 +6,7 @@ cd "$(dirname "$0")/.." || exit 2
 logs=target/log
 bad=0
 for crate in $(sed -n 's/^\([a-z_]*\):.*/\1/p' crates.txt); do
-  if ! grep -q '^logic=proved ' "$logs/$crate.say"; then
+  if ! grep -qs '^logic=proved ' "$logs/$crate.say"; then
     echo "$logs/$crate.say tells of no proof"
     bad=1
   elif [ "$crate" != lister ] && grep -E '(^| )axioms[ =]' "$logs/$crate.say"; then
@@ -17,7 +17,7 @@ done
 assumed=$(sed -nE 's/^axioms [a-z]+: (.*) \(.*/\1/p' "$logs/lister.say" | tr -d ' ' | tr ',' '\n' | sort)
 named=$(grep -oE '`(libc|io|os)::[A-Za-z0-9_:]+`' docs/PROMISES.md | tr -d '`' | sort -u)
 if [ -z "$assumed" ] || [ "$assumed" != "$named" ]; then
-  echo "the lister's check assumes (<) what docs/PROMISES.md does not name (>):"
+  echo "what the lister's check assumes (<) is not what docs/PROMISES.md names (>):"
   diff <(echo "$assumed") <(echo "$named") | grep '^[<>]'
   bad=1
 fi

@@ -18,7 +18,8 @@ passed=0
 failed=0
 
 rm -rf "$OUT/right"
-for file in differential.c differential/*.c subject.c reference/plain.c reference/book.c; do
+for file in differential.c differential/*.c subject.c \
+    reference/plain.c reference/book.c; do
     object=$OUT/right/${file%.c}.o
     mkdir -p "$(dirname "$object")" &&
         $CC $FLAGS -Wall -Wextra -Werror -c "$file" -o "$object" || exit 2
