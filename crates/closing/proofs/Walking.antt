@@ -2,7 +2,8 @@
 --     copied-slot, moved-code, stays-code       the code's places and numbers are the layout's
 --     looked-stays, looked-moves                one look, by the test
 --     Walking start s h₀ j₀ img h j             the loop's invariant: the walk goes on from here as from the start
---     walking-start, walking-turn, walking-less, walking-end
+--     walking-start, walking-turn               it holds at the start, and after each look, with less left
+--     walking-end, walking-closed               at an empty slot the walk has ended, and its image is `closed`'s
 -- Assumes nothing.
 use mathlib.Core.Path.{_≡_, refl, sym, ap, ap₂, _∙_, subst}
 use Prim.Native.Nat.{ℕ, _+_, _*_, _<_}
