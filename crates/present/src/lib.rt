@@ -29,8 +29,8 @@ ghost use Rattle.bhtf.specs.Search.{met};
 ghost use Rattle.layout.specs.Shapes.{Open};
 ghost use Rattle.storing.specs.Fits.{Fits};
 
-// The old message, if there is one, becomes inactive; the first `before` bytes of its text, and the bytes, are placed in new
-// space, where the point's entry then points.
+// The old message, if there is one, becomes inactive; the first `before` bytes of its text, and the bytes, are placed
+// in new space, where the point's entry then points.
 fn relocate(
     image: &mut [u8],
     shape: Shape,
@@ -54,7 +54,8 @@ fn relocate(
     put_entry(image, shape, slot, key, free);
 }
 
-// Mode 2: no bytes make the message inactive; as many as the offset holds are written in place; more are placed in new space.
+// Mode 2: no bytes make the message inactive; as many as the offset holds are written in place; more are placed in new
+// space.
 fn replace(image: &mut [u8], shape: Shape, slot: Slot, o: Offset, key: &[u8], bytes: &[u8]) -> u32
     requires { ⌜ Open (now image) shape × (slot .0 < shape .slots) × (length (now key) ≡ shape .keylen)
         × (messageSound (layoutOf (now image)) (now image) (o .0) ≡ true) ⌝ }
@@ -62,7 +63,8 @@ fn replace(image: &mut [u8], shape: Shape, slot: Slot, o: Offset, key: &[u8], by
         (renewedText (layoutOf (now (image .entry))) (now (image .entry)) (o .0) (now (bytes .entry)) 2))
         × (now (image .exit)
         ≡ settled r (now (image .entry))
-        (renewedAt (layoutOf (now (image .entry))) (now (image .entry)) (slot .0) (o .0) (now (key .entry)) (now (bytes .entry)) 2)) ⌝ }
+        (renewedAt (layoutOf (now (image .entry))) (now (image .entry)) (slot .0) (o .0) (now (key .entry))
+        (now (bytes .entry)) 2)) ⌝ }
 {
     if bytes.len() == 0 {
         retire(image, o);
@@ -88,7 +90,8 @@ fn append(image: &mut [u8], shape: Shape, slot: Slot, o: Offset, key: &[u8], byt
         (renewedText (layoutOf (now (image .entry))) (now (image .entry)) (o .0) (now (bytes .entry)) 3))
         × (now (image .exit)
         ≡ settled r (now (image .entry))
-        (renewedAt (layoutOf (now (image .entry))) (now (image .entry)) (slot .0) (o .0) (now (key .entry)) (now (bytes .entry)) 3)) ⌝ }
+        (renewedAt (layoutOf (now (image .entry))) (now (image .entry)) (slot .0) (o .0) (now (key .entry))
+        (now (bytes .entry)) 3)) ⌝ }
 {
     if bytes.len() == 0 {
         return 0;
@@ -103,13 +106,22 @@ fn append(image: &mut [u8], shape: Shape, slot: Slot, o: Offset, key: &[u8], byt
 }
 
 // Add of the point in the slot: question 9 before its message is looked at, then 11, then 12 and 13.
-pub fn add_present(image: &mut [u8], shape: Shape, slot: Slot, key: &[u8], bytes: &[u8], mode: u32) -> u32
+pub fn add_present(
+    image: &mut [u8],
+    shape: Shape,
+    slot: Slot,
+    key: &[u8],
+    bytes: &[u8],
+    mode: u32,
+) -> u32
     requires { ⌜ Open (now image) shape × (slot .0 < shape .slots) × (length (now key) ≡ shape .keylen)
         × (modeKnown mode ≡ true) ⌝ }
-    ensures { λ r. ⌜ (r ≡ firstNo (pointAsks (layoutOf (now (image .entry))) (now (image .entry)) (met (slot .0)) (now (bytes .entry)) mode))
+    ensures { λ r. ⌜ (r ≡ firstNo (pointAsks (layoutOf (now (image .entry))) (now (image .entry)) (met (slot .0))
+        (now (bytes .entry)) mode))
         × (now (image .exit)
         ≡ settled r (now (image .entry))
-        (addedAt (layoutOf (now (image .entry))) (now (image .entry)) (met (slot .0)) (now (key .entry)) (now (bytes .entry)) mode)) ⌝ }
+        (addedAt (layoutOf (now (image .entry))) (now (image .entry)) (met (slot .0)) (now (key .entry))
+        (now (bytes .entry)) mode)) ⌝ }
 {
     if mode == 1 {
         return 9;
