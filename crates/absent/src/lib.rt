@@ -49,7 +49,14 @@ fn insert(image: &mut [u8], shape: Shape, slot: Slot, key: &[u8], bytes: &[u8])
 }
 
 // Questions 12 and 13, where there are bytes; then the point enters, with no message where there are none.
-fn insert_fresh(image: &mut [u8], shape: Shape, slot: Slot, key: &[u8], bytes: &[u8], mode: u32) -> u32
+fn insert_fresh(
+    image: &mut [u8],
+    shape: Shape,
+    slot: Slot,
+    key: &[u8],
+    bytes: &[u8],
+    mode: u32,
+) -> u32
     requires { ⌜ Open (now image) shape × (slot .0 < shape .slots) × (length (now key) ≡ shape .keylen) ⌝ }
     ensures { λ r. ⌜ (r ≡ placeNumber (layoutOf (now (image .entry))) (now (image .entry)) (freshText (now (bytes .entry)) mode))
         × (now (image .exit)
@@ -69,7 +76,14 @@ fn insert_fresh(image: &mut [u8], shape: Shape, slot: Slot, key: &[u8], bytes: &
 }
 
 // Add of a point for which the search ended so, without meeting it: question 10, then 12 and 13.
-pub fn add_absent(image: &mut [u8], shape: Shape, found: Found, key: &[u8], bytes: &[u8], mode: u32) -> u32
+pub fn add_absent(
+    image: &mut [u8],
+    shape: Shape,
+    found: Found,
+    key: &[u8],
+    bytes: &[u8],
+    mode: u32,
+) -> u32
     requires { ⌜ Open (now image) shape × Within (shape .slots) (probeOf found)
         × (length (now key) ≡ shape .keylen) × (isMet (probeOf found) ≡ false) ⌝ }
     ensures { λ r. ⌜ (r ≡ firstNo (pointAsks (layoutOf (now (image .entry))) (now (image .entry)) (probeOf found) (now (bytes .entry)) mode))

@@ -17,7 +17,14 @@ ghost use Rattle.layout.specs.Shapes.{Open};
 ghost use Rattle.table.specs.Probes.{probeOf, Within};
 
 // Add of the point for which the search ended so: questions 9 to 13, then its effect.
-fn add_found(image: &mut [u8], shape: Shape, found: Found, key: &[u8], bytes: &[u8], mode: u32) -> u32
+fn add_found(
+    image: &mut [u8],
+    shape: Shape,
+    found: Found,
+    key: &[u8],
+    bytes: &[u8],
+    mode: u32,
+) -> u32
     requires { ⌜ Open (now image) shape × Within (shape .slots) (probeOf found)
         × (length (now key) ≡ shape .keylen) × (modeKnown mode ≡ true) ⌝ }
     ensures { λ r. ⌜ (r ≡ firstNo (pointAsks (layoutOf (now (image .entry))) (now (image .entry)) (probeOf found) (now (bytes .entry)) mode))

@@ -38,8 +38,12 @@ place-fits {img} {s} o t z =
     record {
       small = omega (arith, leb-true (length t) (g .most) (firstNo-head 12 long _ (λ e. omega arith) z), shape-most o);
       room =
-          omega (arith, leb-true (field img freeField + headSize g + length t) (length img)
-          (firstNo-head 13 room [] (λ e. omega arith) z₁₃), shape-head o);
+          omega (
+            arith,
+            leb-true (field img freeField + headSize g + length t) (length img)
+                (firstNo-head 13 room [] (λ e. omega arith) z₁₃),
+            shape-head o,
+          );
     }
 
 -- ---- the image after a step, as code holds it
