@@ -2,6 +2,7 @@
 --     count-refused, count-accepted      the number and C
 --     shows-refused, shows-inactive, shows-active      what the search's end shows, by question 11 and the message's letter
 --     located-refused, located-found     lookup's number, start and length, from `seek`'s answer
+--     start-none, length-none            where no message is shown
 --     inside                             the part that lookup shows ends in the image
 -- Assumes nothing.
 use mathlib.Core.Path.{_≡_, refl, sym, ap, ap₂, _∙_}
@@ -93,11 +94,11 @@ module _ (img key : Bytes) where
   abbrev pub Located : ℕ → ℕ → ℕ → Type 0
   Located n start m = (n ≡ lookupNumber img key) × (start ≡ lookupStart img key) × (m ≡ lookupLength img key)
 
-  start-none : lookupOffset img key ≡ 0 → lookupStart img key ≡ 0
+  pub start-none : lookupOffset img key ≡ 0 → lookupStart img key ≡ 0
   unfolding lookupStart
   start-none z = rw (eq-eqb (lookupOffset img key) 0 z) refl
 
-  length-none : lookupOffset img key ≡ 0 → lookupLength img key ≡ 0
+  pub length-none : lookupOffset img key ≡ 0 → lookupLength img key ≡ 0
   unfolding lookupLength
   length-none z = held-none g img (lookupOffset img key) z
 
