@@ -19,7 +19,7 @@ struct header {
 /* Only for an image that bhtf_count has accepted. */
 struct header header_read(const uint8_t *image);
 
-/* Where the table's slots begin, and a slot's length in bytes. */
+/* The byte of the image at which a slot begins. */
 uint32_t slot_offset(const struct header *h, uint32_t slot);
 
 /* The number of a slot's message offset; 0 for no message. */

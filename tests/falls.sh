@@ -4,7 +4,8 @@
 #     # falls at: proofs/lookup/Proof.antt returns
 # Held to the log that `rt ci` or `rt must-fail` left of it: that fact must be among those that the prover refused in themselves,
 # and none of those may be refused because the edit changed the code's shape. The last line is 'N passed, M failed'.
-#   tests/falls.sh --list   the edits with their words and facts, as they are written
+#   tests/falls.sh --list      the edits with their words and facts, as they are written
+#   tests/falls.sh EDIT..      these edits alone, and all that the prover refused in them
 set -u
 cd "$(dirname "$0")/.." || exit 2
 . tests/tally.sh
@@ -20,37 +21,39 @@ refused() {
 # The prover's words where a proof names a step that the code no longer has.
 shape='^[^ ]+ [^ ]+ (`[^`]*`: module `[^`]*` has no `|record `|`[^`]*` is not in scope)'
 
+# crates/NAME/must-fail/LABEL.edit left target/must-fail/NAME/LABEL/.log
+log_of() { sed -E 's|^crates/(.*)/must-fail/(.*)\.edit$|target/must-fail/\1/\2/.log|' <<<"$1"; }
+
 fall() {
-  local edit=$1 crate label log words fact own
-  crate=$(basename "$(dirname "$(dirname "$edit")")")
-  label=$(basename "$edit" .edit)
-  log=target/must-fail/$crate/$label/.log
+  local edit=$1 log words fact own
+  log=$(log_of "$edit")
   words=$(sed -n '1s/^# //p' "$edit")
   fact=$(sed -n '2s/^# falls at: //p' "$edit")
   if [ -z "$words" ] || [ -z "$fact" ]; then
-    echo "FAILED: $edit does not say what is wrong and at which fact it falls"
+    echo "$edit does not say what is wrong and at which fact it falls"
     return 1
   fi
-  [ -f "$log" ] || { echo "FAILED: $edit left no log"; return 1; }
+  [ -f "$log" ] || { echo "$edit left no log"; return 1; }
   own=$(refused "$log")
+  [ -z "$shown" ] || cut -c1-300 <<<"$own"
   if ! cut -d' ' -f1,2 <<<"$own" | grep -qxF -- "$fact"; then
-    echo "FAILED: $edit does not fall at $fact, but at: $(cut -d' ' -f1,2 <<<"$own" | uniq | tr '\n' ' ')"
+    echo "$edit does not fall at $fact, but at: $(cut -d' ' -f1,2 <<<"$own" | uniq | tr '\n' ' ')"
     return 1
   fi
   if grep -qE "$shape" <<<"$own"; then
-    echo "FAILED: $edit changes the code's shape: $(grep -m 1 -E "$shape" <<<"$own" | cut -c1-200)"
+    echo "$edit changes the code's shape: $(grep -m 1 -E "$shape" <<<"$own" | cut -c1-200)"
     return 1
   fi
 }
 
-for edit in crates/*/must-fail/*.edit; do
-  if [ "${1:-}" = --list ]; then
+edits=(crates/*/must-fail/*.edit)
+if [ "${1:-}" = --list ]; then
+  for edit in "${edits[@]}"; do
     echo "$edit: $(sed -n '1s/^# //p' "$edit"); falls at $(sed -n '2s/^# falls at: //p' "$edit")"
-  elif fall "$edit"; then
-    passed=$((passed + 1))
-  else
-    failed=$((failed + 1))
-  fi
-done
-[ "${1:-}" = --list ] && exit
+  done
+  exit
+fi
+shown=
+[ $# -eq 0 ] || { shown=yes edits=("$@"); }
+for edit in "${edits[@]}"; do test_that "$edit" fall "$edit"; done
 tally

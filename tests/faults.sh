@@ -10,24 +10,25 @@ CC=${CC:-gcc}
 CALLS=${CALLS:-2000000}
 OUT=${OUT:-build/faults}
 SEED=${1:-1}
-FLAGS="-std=c99 -O2 -I. -Ireference"
+FLAGS="-std=c99 -O2 -Ireference"
 RENAME="-Dplain_create=bhtf_create -Dplain_add=bhtf_add
     -Dplain_delete=bhtf_delete -Dplain_lookup=bhtf_lookup
     -Dplain_count=bhtf_count -Dplain_walk=bhtf_walk -Dplain_check=bhtf_check"
 passed=0
 failed=0
 
-mkdir -p "$OUT" || exit 2
-for file in differential subject reference/plain reference/book; do
-    $CC $FLAGS -Wall -Wextra -Werror -c "$file.c" \
-        -o "$OUT/$(basename $file).o" || exit 2
+rm -rf "$OUT/right"
+for file in differential.c differential/*.c subject.c \
+    reference/plain.c reference/book.c; do
+    object=$OUT/right/${file%.c}.o
+    mkdir -p "$(dirname "$object")" &&
+        $CC $FLAGS -Wall -Wextra -Werror -c "$file" -o "$object" || exit 2
 done
 
 # build SOURCE: a differential with that source as the library.
 build() {
     $CC $FLAGS $RENAME -w -c "$1" -o "$OUT/faulty.o" &&
-        $CC "$OUT/differential.o" "$OUT/subject.o" "$OUT/plain.o" \
-            "$OUT/book.o" "$OUT/faulty.o" -o "$OUT/faulty"
+        $CC "$OUT"/right/*.o "$OUT"/right/*/*.o "$OUT/faulty.o" -o "$OUT/faulty"
 }
 
 run() {

@@ -22,6 +22,8 @@ trap 'rm -rf "$work"' EXIT
 echo "seed $seed, $count names of each size"
 php fnv.php names "$seed" "$count" >"$work/names" && cat fnv-published.txt "$work/names" >"$work/lines" || exit 2
 test_that "PHP's FNV-1 is the published one" cmp -s fnv-published.txt <(php fnv.php again <fnv-published.txt)
+test_that "the published names have 1 to 17, 20 and 32 bytes" \
+  [ "$(awk '{ print length($1) / 2 }' fnv-published.txt | sort -nu | tr '\n' ' ')" = "$(echo {1..17} 20 32) " ]
 test_that "there are $count names of each size" [ "$(wc -l <"$work/names")" -eq $((32 * count)) ]
 
 # One hash made wrong in its last digit: that line must be found, and no other.

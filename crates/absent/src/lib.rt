@@ -11,23 +11,23 @@ use words::fields::write_u32;
 use words::limits::FREE_FIELD;
 use words::limits::POINTS_FIELD;
 ghost use mathlib.Core.Path.{_≡_};
-ghost use mathlib.Core.Bool.{true, false};
+ghost use mathlib.Core.Bool.{false};
 ghost use mathlib.Core.Option.{some};
-ghost use Prim.Native.Nat.{ℕ, _<_, _^_};
+ghost use Prim.Native.Nat.{_<_, _^_};
 ghost use lib.ListN.{length};
-ghost use Rattle.bhtf.specs.Calls.{settled, add};
+ghost use Rattle.bhtf.specs.Calls.{settled};
 ghost use Rattle.bhtf.specs.Image.{layoutOf};
-ghost use Rattle.bhtf.specs.Messages.{enter, inserted, freshText};
-ghost use Rattle.bhtf.specs.Questions.{openNumber, nameAllowed, modeKnown, placeNumber};
-ghost use Rattle.bhtf.specs.Search.{search, isMet};
-ghost use Rattle.layout.specs.Shapes.{shapeOf};
-ghost use Rattle.table.specs.Probes.{probeOf};
-ghost use Rattle.room.specs.Rooms.{roomNumber};
+ghost use Rattle.bhtf.specs.Messages.{enter, inserted, freshText, addedAt};
+ghost use Rattle.bhtf.specs.Questions.{firstNo, pointAsks, placeNumber};
+ghost use Rattle.bhtf.specs.Search.{isMet};
+ghost use Rattle.layout.specs.Shapes.{Open};
+ghost use Rattle.storing.specs.Fits.{Fits};
+ghost use Rattle.table.specs.Probes.{probeOf, Within};
 
 // The entry is put into the slot, and C grows by 1.
 fn enter(image: &mut [u8], shape: Shape, slot: Slot, key: &[u8], o: Offset)
-    requires { ⌜ (openNumber (now image) ≡ 0) × (shape ≡ shapeOf (now image)) × (slot .0 < shape .slots)
-        × (length (now key) ≡ shape .key) × (o .0 < 2 ^ 32) ⌝ }
+    requires { ⌜ Open (now image) shape × (slot .0 < shape .slots)
+        × (length (now key) ≡ shape .keylen) × (o .0 < 2 ^ 32) ⌝ }
     ensures { λ _. ⌜ now (image .exit)
         ≡ enter (layoutOf (now (image .entry))) (now (image .entry)) (slot .0) (now (key .entry)) (o .0) ⌝ }
 {
@@ -38,31 +38,36 @@ fn enter(image: &mut [u8], shape: Shape, slot: Slot, key: &[u8], o: Offset)
 
 // The bytes are placed in new space, and the entry with their offset enters the table.
 fn insert(image: &mut [u8], shape: Shape, slot: Slot, key: &[u8], bytes: &[u8])
-    requires { ⌜ (openNumber (now image) ≡ 0) × (shape ≡ shapeOf (now image)) × (slot .0 < shape .slots)
-        × (length (now key) ≡ shape .key) × (roomNumber (now image) (length (now bytes)) ≡ 0) ⌝ }
+    requires { ⌜ Open (now image) shape × (slot .0 < shape .slots)
+        × (length (now key) ≡ shape .keylen) × Fits (now image) shape (length (now bytes)) ⌝ }
     ensures { λ _. ⌜ now (image .exit)
         ≡ inserted (layoutOf (now (image .entry))) (now (image .entry)) (slot .0) (now (key .entry)) (some (now (bytes .entry))) ⌝ }
 {
-    let area = shape.area;
     let free = Offset::new(read_u32(image, FREE_FIELD) as usize);
-    take_space(image, area, Offset::new(0), 0, bytes);
+    take_space(image, shape, Offset::new(0), 0, bytes);
     enter(image, shape, slot, key, free);
 }
 
 // Questions 12 and 13, where there are bytes; then the point enters, with no message where there are none.
-fn insert_fresh(image: &mut [u8], shape: Shape, slot: Slot, key: &[u8], bytes: &[u8]) -> u32
-    requires { ⌜ (openNumber (now image) ≡ 0) × (shape ≡ shapeOf (now image)) × (slot .0 < shape .slots)
-        × (length (now key) ≡ shape .key) ⌝ }
-    ensures { λ r. ⌜ (r ≡ placeNumber (layoutOf (now (image .entry))) (now (image .entry)) (freshText (now (bytes .entry)) 1))
+fn insert_fresh(
+    image: &mut [u8],
+    shape: Shape,
+    slot: Slot,
+    key: &[u8],
+    bytes: &[u8],
+    mode: u32,
+) -> u32
+    requires { ⌜ Open (now image) shape × (slot .0 < shape .slots) × (length (now key) ≡ shape .keylen) ⌝ }
+    ensures { λ r. ⌜ (r ≡ placeNumber (layoutOf (now (image .entry))) (now (image .entry)) (freshText (now (bytes .entry)) mode))
         × (now (image .exit)
         ≡ settled r (now (image .entry))
-        (inserted (layoutOf (now (image .entry))) (now (image .entry)) (slot .0) (now (key .entry)) (freshText (now (bytes .entry)) 1))) ⌝ }
+        (inserted (layoutOf (now (image .entry))) (now (image .entry)) (slot .0) (now (key .entry)) (freshText (now (bytes .entry)) mode))) ⌝ }
 {
     if bytes.len() == 0 {
         enter(image, shape, slot, key, Offset::new(0));
         return 0;
     }
-    let number = room_number(image, bytes.len());
+    let number = room_number(image, shape, bytes.len());
     if number != 0 {
         return number;
     }
@@ -70,15 +75,21 @@ fn insert_fresh(image: &mut [u8], shape: Shape, slot: Slot, key: &[u8], bytes: &
     0
 }
 
-// Add of a point that is absent, the same in every mode: question 10, then 12 and 13.
-pub fn add_absent(image: &mut [u8], shape: Shape, found: Found, key: &[u8], bytes: &[u8]) -> u32
-    requires { ⌜ (openNumber (now image) ≡ 0) × (shape ≡ shapeOf (now image))
-        × (nameAllowed (layoutOf (now image) .K) (now key) ≡ true)
-        × (probeOf found ≡ search (layoutOf (now image)) (now image) (now key))
-        × (isMet (probeOf found) ≡ false) ⌝ }
-    ensures { λ r. ⌜ ((mode : ℕ) → modeKnown mode ≡ true
-        → (r ≡ add (now (image .entry)) (now (key .entry)) (now (bytes .entry)) mode .answer .number)
-        × (now (image .exit) ≡ add (now (image .entry)) (now (key .entry)) (now (bytes .entry)) mode .after)) ⌝ }
+// Add of a point for which the search ended so, without meeting it: question 10, then 12 and 13.
+pub fn add_absent(
+    image: &mut [u8],
+    shape: Shape,
+    found: Found,
+    key: &[u8],
+    bytes: &[u8],
+    mode: u32,
+) -> u32
+    requires { ⌜ Open (now image) shape × Within (shape .slots) (probeOf found)
+        × (length (now key) ≡ shape .keylen) × (isMet (probeOf found) ≡ false) ⌝ }
+    ensures { λ r. ⌜ (r ≡ firstNo (pointAsks (layoutOf (now (image .entry))) (now (image .entry)) (probeOf found) (now (bytes .entry)) mode))
+        × (now (image .exit)
+        ≡ settled r (now (image .entry))
+        (addedAt (layoutOf (now (image .entry))) (now (image .entry)) (probeOf found) (now (key .entry)) (now (bytes .entry)) mode)) ⌝ }
 {
     let Found::Empty(slot) = found else {
         return 10;
@@ -87,5 +98,5 @@ pub fn add_absent(image: &mut [u8], shape: Shape, found: Found, key: &[u8], byte
     if slots <= read_u32(image, POINTS_FIELD) as usize {
         return 10;
     }
-    insert_fresh(image, shape, slot, key, bytes)
+    insert_fresh(image, shape, slot, key, bytes, mode)
 }

@@ -1,14 +1,42 @@
 // Add, in its three modes: all questions are put before the first byte is written.
 use absent::add_absent;
-use layout::shape::read_shape;
+use layout::shape::Shape;
 use present::add_present;
 use questions::mode_known;
-use questions::name_allowed;
-use questions::open_number;
+use seek::Sought;
+use seek::seek;
 use table::Found;
-use table::search;
 ghost use mathlib.Core.Path.{_≡_};
-ghost use Rattle.bhtf.specs.Calls.{add};
+ghost use mathlib.Core.Bool.{true};
+ghost use lib.ListN.{length};
+ghost use Rattle.bhtf.specs.Calls.{settled, add};
+ghost use Rattle.bhtf.specs.Image.{layoutOf};
+ghost use Rattle.bhtf.specs.Messages.{addedAt};
+ghost use Rattle.bhtf.specs.Questions.{firstNo, pointAsks, modeKnown};
+ghost use Rattle.layout.specs.Shapes.{Open};
+ghost use Rattle.table.specs.Probes.{probeOf, Within};
+
+// Add of the point for which the search ended so: questions 9 to 13, then its effect.
+fn add_found(
+    image: &mut [u8],
+    shape: Shape,
+    found: Found,
+    key: &[u8],
+    bytes: &[u8],
+    mode: u32,
+) -> u32
+    requires { ⌜ Open (now image) shape × Within (shape .slots) (probeOf found)
+        × (length (now key) ≡ shape .keylen) × (modeKnown mode ≡ true) ⌝ }
+    ensures { λ r. ⌜ (r ≡ firstNo (pointAsks (layoutOf (now (image .entry))) (now (image .entry)) (probeOf found) (now (bytes .entry)) mode))
+        × (now (image .exit)
+        ≡ settled r (now (image .entry))
+        (addedAt (layoutOf (now (image .entry))) (now (image .entry)) (probeOf found) (now (key .entry)) (now (bytes .entry)) mode)) ⌝ }
+{
+    let Found::Met(slot) = found else {
+        return add_absent(image, shape, found, key, bytes, mode);
+    };
+    add_present(image, shape, slot, key, bytes, mode)
+}
 
 // Stores the bytes under the key: mode 1 for a key that is absent only, 2 replaces its message, 3 appends to it. Answers 0;
 // or the number of the first question answered no, and then changes no byte.
@@ -16,20 +44,9 @@ pub fn add(image: &mut [u8], key: &[u8], bytes: &[u8], mode: u32) -> u32
     ensures { λ r. ⌜ (r ≡ add (now (image .entry)) (now (key .entry)) (now (bytes .entry)) mode .answer .number)
         × (now (image .exit) ≡ add (now (image .entry)) (now (key .entry)) (now (bytes .entry)) mode .after) ⌝ }
 {
-    let number = open_number(image);
-    if number != 0 {
-        return number;
+    let sought = seek(image, key, mode_known(mode));
+    match sought {
+        Sought::Refused(number) => number,
+        Sought::At(shape, found) => add_found(image, shape, found, key, bytes, mode),
     }
-    let shape = read_shape(image);
-    if !name_allowed(key, shape.key) {
-        return 7;
-    }
-    if !mode_known(mode) {
-        return 8;
-    }
-    let found = search(image, shape, key);
-    let Found::Met(slot) = found else {
-        return add_absent(image, shape, found, key, bytes);
-    };
-    add_present(image, shape, slot, key, bytes, mode)
 }

@@ -4,7 +4,7 @@ use mathlib.Core.Path.{_≡_, refl, sym, ap, ap₂, _∙_}
 use Prim.Native.Nat.{ℕ, _<_}
 use native.Mathlib.Omega.{arith}
 use native.Mathlib.Nat.{add-zero}
-use mathlib.Core.Bool.{Bool, true, false, cond}
+use mathlib.Core.Bool.{true, false}
 use mathlib.Core.List.{List, [], _∷_}
 use mathlib.Core.Option.{Option, none, some}
 use lib.ListN.{length}
@@ -13,24 +13,25 @@ use borrow.Author.Tests.{eq-eqb, ne-eqb, ltb-true, le-ltb}
 use Rattle.bhtf.specs.Bytes.{Bytes}
 use Rattle.bhtf.specs.Limits.{pointsField, freeField}
 use Rattle.bhtf.specs.Image.{field, Layout, layoutOf, slot}
-use Rattle.bhtf.specs.Search.{empty, search, isMet}
+use Rattle.bhtf.specs.Search.{empty, exhausted, search, isMet}
 use Rattle.bhtf.specs.Messages.{shown, held, isActive, enter, inserted, freshText, addedAt, added}
-use Rattle.bhtf.specs.Questions.{Question, ask, firstNo, modeKnown, addNumber, placeNumber}
+use Rattle.bhtf.specs.Questions.{Question, ask, firstNo, nameAllowed, modeKnown, addNumber, placeNumber}
 use Rattle.bhtf.specs.Calls.{add}
-use Rattle.bhtf.specs.Book.{Terms, Book, find, roomAsks, entered, addAbsent, addFound}
+use Rattle.bhtf.specs.Book.{Terms, Book, find, stepOf, roomAsks, entered, addAbsent, addFound}
 use Rattle.bhtf.proofs.Tests.{by-bool, by-eq, not-both}
 use Rattle.bhtf.proofs.Opened.{firstNo-none, firstNo-yes, firstNo-no}
 use Rattle.bhtf.proofs.Outcomes.{room-none, add-10-exhausted, add-10-full, add-fresh}
+use Rattle.bhtf.proofs.Texts.{fresh-none, fresh-some}
 use Rattle.bhtf.proofs.Total.{total-same, total-const}
 use Rattle.bhtf.proofs.Table.{weight, weigh, Taken}
 use Rattle.bhtf.proofs.Probe.{by-search, search-exhausted}
 use Rattle.bhtf.proofs.Insert.{weigh-taken}
 use Rattle.agreement.proofs.File.{Allowed, valueOf, file-some}
-use Rattle.agreement.proofs.Slots.{fresh-none, enter-change, enter-point, enter-points, enter-free}
+use Rattle.agreement.proofs.Slots.{unshared-none, enter-change, enter-point, enter-points, enter-free}
 use Rattle.agreement.proofs.Entries.{length-withEntry-new}
 use Rattle.agreement.proofs.Reflect.{Reflects, reflect-entered}
 use Rattle.agreement.proofs.Simple.{Same, same-refused, same-accepted, open₀, found-none}
-use Rattle.agreement.proofs.Place.{room-both, insert}
+use Rattle.agreement.proofs.Place.{place-both, place-length, place-space, insert}
 
 -- ---- a point that is absent
 
@@ -38,11 +39,15 @@ use Rattle.agreement.proofs.Place.{room-both, insert}
 weight-full : (g : Layout) (img : Bytes) → ((k : ℕ) → k < g .N → Taken g img k) → weight g img (λ s. 1) ≡ g .N
 unfolding weight
 weight-full g img h =
-    total-same (λ i. weigh g (λ s. 1) (slot g img i)) (λ i. 1) (g .N) (λ i l. weigh-taken g (λ s. 1) (slot g img i) (h i l))
+    total-same (λ i. weigh g (λ s. 1) (slot g img i)) (λ i. 1) (g .N)
+    (λ i l. weigh-taken g (λ s. 1) (slot g img i) (h i l))
     ∙ omega (arith, total-const 1 (g .N))
 
-module _ (g : Layout) (img : Bytes) (b : Book) (r : Reflects g img b) (key : Bytes) (a : Allowed g key) (bytes : Bytes) (mode : ℕ)
-    (k : modeKnown mode ≡ true) (h : isMet (search g img key) ≡ false) where
+module _ (g : Layout) (img : Bytes) (b : Book) (r : Reflects g img b) (key : Bytes) (a : Allowed g key) (bytes : Bytes)
+    (mode : ℕ) (k : modeKnown mode ≡ true) (h : isMet (search g img key) ≡ false) where
+  a₁ : nameAllowed (layoutOf img .K) key ≡ true
+  a₁ = rw (r .file .layout) a
+
   not-found : find key (b .entries) ≡ none
   not-found = found-none g img b r key a h
 
@@ -50,47 +55,50 @@ module _ (g : Layout) (img : Bytes) (b : Book) (r : Reflects g img b) (key : Byt
   book-10 : ltb (length (b .entries)) (b .terms .N) ≡ ltb (field img pointsField) (g .N)
   book-10 = ap₂ ltb (r .number) (ap (λ (t : Terms). t .N) (r .terms))
 
+  abbrev ask-10 : Question
+  ask-10 = ask 10 (ltb (length (b .entries)) (b .terms .N))
+
   -- the book refuses with 10 too
   same-full : addNumber img key bytes mode ≡ 10 → ltb (field img pointsField) (g .N) ≡ false
       → Same g (add img key bytes mode) (addAbsent b key bytes)
   unfolding add addAbsent
   same-full e e′ =
-      by-bool (eqb (length bytes) 0)
-      (λ y. rw y
-      (same-refused g img b r (addNumber img key bytes mode) _ _ _ (e ∙ sym (ten [])) (λ z. omega (arith, z, ten []))))
-      (λ n. rw n
-      (same-refused g img b r (addNumber img key bytes mode) _ _ _ (e ∙ sym (ten (roomAsks b (length bytes)))) (λ z. omega (arith, z, ten (roomAsks b (length bytes))))))
+      let n = addNumber img key bytes mode in
+      let refuse : (more : List Question) (y : Book) → Same g (add img key bytes mode) (stepOf b (ask-10 ∷ more) y) =
+      λ more y. same-refused g img b r n _ _ y (e ∙ sym (ten more)) (λ z. omega (arith, z, ten more)) in
+      by-bool (eqb (length bytes) 0) (λ y. rw y (refuse _ _)) (λ n. rw n (refuse _ _))
     where
-      ten : (more : List Question) → firstNo (ask 10 (ltb (length (b .entries)) (b .terms .N)) ∷ more) ≡ 10
+      ten : (more : List Question) → firstNo (ask-10 ∷ more) ≡ 10
       ten more = firstNo-no 10 _ more (book-10 ∙ e′)
 
   -- ---- with an empty slot
   module _ (i : ℕ) (m : search g img key ≡ empty i) (lt : ltb (field img pointsField) (g .N) ≡ true) where
-    room : field img pointsField < g .N
-    room = ltb-true _ _ lt
+    left : field img pointsField < g .N
+    left = ltb-true _ _ lt
 
     -- 12 and 13 decide, of the text p to be placed
     empty-number : (p : Option Bytes) → freshText bytes mode ≡ p → addNumber img key bytes mode ≡ placeNumber g img p
     empty-number p q =
         rw (r .file .layout) at
-        (add-fresh img key (open₀ g img b r key) bytes mode (rw (r .file .layout) a) k i (rw (r .file .layout) m) (rw (r .file .layout) lt))
+        (add-fresh img key (open₀ r) bytes mode a₁ k i (rw (r .file .layout) m) (rw (r .file .layout) lt))
         ∙ ap (placeNumber g img) q
 
-    book-ten : (more : List Question) → firstNo (ask 10 (ltb (length (b .entries)) (b .terms .N)) ∷ more) ≡ firstNo more
+    book-ten : (more : List Question) → firstNo (ask-10 ∷ more) ≡ firstNo more
     book-ten more = firstNo-yes 10 _ more (book-10 ∙ lt)
 
-    after-empty : (p : Option Bytes) → freshText bytes mode ≡ p → added (layoutOf img) img key bytes mode ≡ inserted g img i key p
+    after-empty : (p : Option Bytes) → freshText bytes mode ≡ p
+        → added (layoutOf img) img key bytes mode ≡ inserted g img i key p
     unfolding added addedAt
     after-empty p q = rw (r .file .layout, m) (ap (inserted g img i key) q)
 
     bare : Reflects g (enter g img i key 0) (entered b key [] 0 0)
     bare =
         reflect-entered g img (enter g img i key 0) key b r a
-        (enter-change g img (r .file) key a 0 (fresh-none g img key) i m room) [] 0 0
-        (enter-point g img (r .file) key a 0 (fresh-none g img key) i m room ∙ none-is)
-        (enter-free g img (r .file) key a 0 (fresh-none g img key) i m room ∙ sym (add-zero (field img freeField)))
+        (enter-change g img (r .file) key a 0 (unshared-none g img key) i m left) [] 0 0
+        (enter-point g img (r .file) key a 0 (unshared-none g img key) i m left ∙ none-is)
+        (enter-free g img (r .file) key a 0 (unshared-none g img key) i m left ∙ sym (add-zero (field img freeField)))
         (length-withEntry-new _ (b .entries) not-found
-        ∙ omega (arith, r .number, enter-points g img (r .file) key a 0 (fresh-none g img key) i m room))
+        ∙ omega (arith, r .number, enter-points g img (r .file) key a 0 (unshared-none g img key) i m left))
       where
         none-is : some (valueOf g img key 0) ≡ some (record { name = key; text = []; held = 0 })
         none-is = unfold shown held isActive in refl
@@ -98,22 +106,25 @@ module _ (g : Layout) (img : Bytes) (b : Book) (r : Reflects g img b) (key : Byt
     same-empty : Same g (add img key bytes mode) (addAbsent b key bytes)
     unfolding add addAbsent
     same-empty =
+        let n = addNumber img key bytes mode in
         by-eq (length bytes) 0
         (λ z.
-        let fr : freshText bytes mode ≡ none = unfold freshText in (ap (λ (t : Bool). cond t none (some bytes)) (eq-eqb (length bytes) 0 z)) in
+        let fr = fresh-none bytes mode z in
         rw (eq-eqb (length bytes) 0 z)
-        (same-accepted g img b r (addNumber img key bytes mode) _ _ _
+        (same-accepted g img b r n _ _ _
         (empty-number none fr ∙ room-none g img)
         (book-ten [] ∙ firstNo-none)
         (rw (after-empty none fr) (unfold inserted in bare))))
         (λ z.
-        let fr : freshText bytes mode ≡ some bytes = unfold freshText in (ap (λ (t : Bool). cond t none (some bytes)) (ne-eqb (length bytes) 0 z)) in
-        let num : addNumber img key bytes mode ≡ firstNo (roomAsks b (length bytes)) = empty-number (some bytes) fr ∙ room-both g img b r bytes in
+        let fr = fresh-some bytes mode z in
+        let num : n ≡ firstNo (roomAsks b (length bytes)) = empty-number (some bytes) fr ∙ place-both g img b r bytes in
         rw (ne-eqb (length bytes) 0 z)
         (by-eq (firstNo (roomAsks b (length bytes))) 0
-        (λ q. same-accepted g img b r (addNumber img key bytes mode) _ _ _ (num ∙ q) (book-ten _ ∙ q)
-        (rw (after-empty (some bytes) fr) (insert g img b r key a bytes q (omega arith) i m room)))
-        (λ q. same-refused g img b r (addNumber img key bytes mode) _ _ _ (num ∙ sym (book-ten _)) (λ w. q (sym (book-ten _) ∙ w)))))
+        (λ q. same-accepted g img b r n _ _ _ (num ∙ q) (book-ten _ ∙ q)
+        (rw (after-empty (some bytes) fr)
+        (insert g img b r key a bytes (omega arith)
+        (place-length g img b r bytes q) (place-space g img b r bytes q) i m left)))
+        (λ q. same-refused g img b r n _ _ _ (num ∙ sym (book-ten _)) (λ w. q (sym (book-ten _) ∙ w)))))
 
   pub same-absent : Same g (add img key bytes mode) (addFound b key bytes mode (find key (b .entries)))
   unfolding addFound
@@ -124,7 +135,10 @@ module _ (g : Layout) (img : Bytes) (b : Book) (r : Reflects g img b) (key : Byt
       (λ i m. by-bool (ltb (field img pointsField) (g .N))
       (λ y. same-empty i m y)
       (λ n. same-full
-      (add-10-full img key (open₀ g img b r key) bytes mode (rw (r .file .layout) a) k i (rw (r .file .layout) m) (rw (r .file .layout) n)) n))
+      (add-10-full img key (open₀ r) bytes mode a₁ k i (rw (r .file .layout) m) (rw (r .file .layout) n)) n))
       (λ m. same-full
-      (add-10-exhausted img key (open₀ g img b r key) bytes mode (rw (r .file .layout) a) k (rw (r .file .layout) m))
-      (le-ltb (field img pointsField) (g .N) (omega (arith, r .file .counted, weight-full g img (λ j l. search-exhausted g img key (file-some (r .file)) m j l .0))))))
+      (add-10-exhausted img key (open₀ r) bytes mode a₁ k (rw (r .file .layout) m))
+      (le-ltb (field img pointsField) (g .N) (omega (arith, r .file .counted, full m)))))
+    where
+      full : search g img key ≡ exhausted → weight g img (λ s. 1) ≡ g .N
+      full m = weight-full g img (λ j l. search-exhausted g img key (file-some (r .file)) m j l .0)

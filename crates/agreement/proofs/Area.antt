@@ -1,5 +1,5 @@
--- "Space once taken is never handed out again": of the bytes between D and X an add or a delete changes none but those of the
--- message of the point that it names. New space begins at X. This holds of any image bytes.
+-- "Space once taken is never handed out again": of the bytes between D and X an add or a delete changes none but those
+-- of the message of the point that it names. New space begins at X. This holds of any image bytes.
 --     Clear img key p n       the n bytes from p on have none in common with the point's message
 --     add-keeps-bytes, delete-keeps-bytes      such bytes are as they were
 -- Assumes nothing.
@@ -9,19 +9,19 @@ use native.Mathlib.Omega.{arith}
 use mathlib.Core.Logic.{inl, inr}
 use mathlib.Core.Bool.{true, _&&_}
 use mathlib.Core.List.{[], _∷_, _++_}
-use mathlib.Core.Option.{Option, none, some, Option·none-ne-some}
+use mathlib.Core.Option.{Option, none, some}
 use lib.ListN.{length, length-append}
 use lib.Dec.{eqb, leb, ltb}
-use borrow.Author.Tests.{leb-true, lt-leb, eqb-false}
+use borrow.Author.Tests.{leb-true, eq-eqb, ne-eqb}
 use Rattle.bhtf.specs.Bytes.{Bytes, part, zeros}
-use Rattle.bhtf.specs.Limits.{inactive, pointsField, freeField}
+use Rattle.bhtf.specs.Limits.{inactive, pointsField, freeField, tableStart}
 use Rattle.bhtf.specs.Image.{field, setField, Layout, layoutOf, slotSize, slot, putSlot, offsetOf, slotBytes}
 use Rattle.bhtf.specs.Search.{met, empty, exhausted, search, isMet}
 use Rattle.bhtf.specs.Messages.{headSize, held, message, takeSpace, retire, overwrite, freshText, renewedText, enter, inserted, relocated, renewed, renewedAt, addedAt, added}
 use Rattle.bhtf.specs.Delete.{deletedAt}
 use Rattle.bhtf.specs.Questions.{nameAllowed, modeKnown, messageSound, somePoint, lengthAllowed, spaceLeft, openNumber, addNumber, deleteNumber, placeNumber}
 use Rattle.bhtf.specs.Calls.{add, delete}
-use Rattle.bhtf.proofs.Tests.{by-bool, by-le, by-eq, and-left}
+use Rattle.bhtf.proofs.Tests.{by-bool, by-eq, and-left}
 use Rattle.bhtf.proofs.Bytes.{Apart, part-store-other, length-zeros}
 use Rattle.bhtf.proofs.Slots.{part-setField-other, part-putSlot-outside, length-putSlot, length-setField, length-entry}
 use Rattle.bhtf.proofs.Opened.{Opened, opened-facts, opened-room, firstNo-head, firstNo-tail}
@@ -30,12 +30,13 @@ use Rattle.bhtf.proofs.Probe.{search-met, search-empty, by-search}
 use Rattle.bhtf.proofs.Kept.{kept-layout}
 use Rattle.bhtf.proofs.Effects.{area-above, message-end, active-some, by-retire, retire-kept, retire-field, retire-opened, length-message, Spaced, spaced, space-kept, space-opened}
 use Rattle.bhtf.proofs.Frames.{part-closed}
-use Rattle.bhtf.proofs.Stretch.{size, held-some}
+use Rattle.bhtf.proofs.Texts.{replaced-held}
+use Rattle.bhtf.proofs.Stretch.{span, held-none, held-some}
 use Rattle.agreement.proofs.File.{allowed-length}
 
 -- the n bytes from p on have none in common with the message at the offset
 abbrev Off : Bytes → ℕ → ℕ → ℕ → Type 0
-Off img at p n = (at ≡ 0 → ⊥) → Apart p n at (size (layoutOf img) img at)
+Off img at p n = (at ≡ 0 → ⊥) → Apart p n at (span (layoutOf img) img at)
 
 -- ---- each effect
 
@@ -43,7 +44,7 @@ module _ (img : Bytes) (o : Opened img) (p n : ℕ) (low : layoutOf img .D ≤ p
   abbrev g : Layout
   g = layoutOf img
 
-  above : 2048 ≤ p
+  above : tableStart ≤ p
   unfolding layoutOf
   above = omega (arith, area-above img o, low)
 
@@ -53,15 +54,16 @@ module _ (img : Bytes) (o : Opened img) (p n : ℕ) (low : layoutOf img .D ≤ p
       (λ h lo hi. part-store-other img at (inactive ∷ []) p n hi (letter (c (active-some img at h))))
       (λ h. refl)
     where
-      letter : Apart p n at (size g img at) → Apart p n at 1
+      letter : Apart p n at (span g img at) → Apart p n at 1
       letter (inl h) = inl h
       letter (inr h) = inr (unfold headSize in omega arith)
 
-  overwrite-keeps : (at : ℕ) → messageSound g img at ≡ true → Off img at p n → (at ≡ 0 → ⊥) → (t : Bytes) → length t ≤ held g img at
+  overwrite-keeps : (at : ℕ) → messageSound g img at ≡ true → Off img at p n → (at ≡ 0 → ⊥) → (t : Bytes)
+      → length t ≤ held g img at
       → part (overwrite g img at t) p n ≡ part img p n
   unfolding overwrite
   overwrite-keeps at s c z t le =
-      let len : length (message (g .W) t ++ zeros (held g img at - length t)) ≡ size g img at =
+      let len : length (message (g .W) t ++ zeros (held g img at - length t)) ≡ span g img at =
       length-append (message (g .W) t) (zeros (held g img at - length t))
       ∙ ap₂ _+_ (length-message g t) (length-zeros (held g img at - length t))
       ∙ omega (arith, held-some g img at z, le) in
@@ -70,7 +72,8 @@ module _ (img : Bytes) (o : Opened img) (p n : ℕ) (low : layoutOf img .D ≤ p
   put-keeps : (i : ℕ) (s : Bytes) → i < g .N → length s ≡ slotSize g → part (putSlot g img i s) p n ≡ part img p n
   put-keeps i s l len = part-putSlot-outside g img (opened-room img o) i s p n l len (inr low)
 
-  enter-keeps : (i : ℕ) (key : Bytes) (x : ℕ) → i < g .N → length (slotBytes key x) ≡ slotSize g → part (enter g img i key x) p n ≡ part img p n
+  enter-keeps : (i : ℕ) (key : Bytes) (x : ℕ) → i < g .N → length (slotBytes key x) ≡ slotSize g
+      → part (enter g img i key x) p n ≡ part img p n
   unfolding enter
   enter-keeps i key x l len =
       part-setField-other (putSlot g img i (slotBytes key x)) pointsField _ p n
@@ -95,29 +98,35 @@ module _ (img : Bytes) (o : Opened img) (p n : ℕ) (low : layoutOf img .D ≤ p
       let off = retire img at in
       let long : pointsField + 4 ≤ length off = omega (arith, retire-kept img o at s .size, o .size-low) in
       part-closed (layoutOf img) (setField off pointsField (field img pointsField - 1))
-      (rw (length-setField off pointsField (field img pointsField - 1) long, retire-kept img o at s .size) (opened-room img o))
+      (rw (length-setField off pointsField (field img pointsField - 1) long, retire-kept img o at s .size)
+      (opened-room img o))
       i l p n (inr low)
-      ∙ part-setField-other off pointsField (field img pointsField - 1) p n long (inr (omega (arith, above img o p n low)))
+      ∙ part-setField-other off pointsField (field img pointsField - 1) p n long
+      (inr (omega (arith, above img o p n low)))
       ∙ retire-keeps img o p n low at s c
 
   module _ (high : p + n ≤ field img freeField) (key : Bytes) (named : length key ≡ layoutOf img .K) where
     entry-size : (x : ℕ) → length (slotBytes key x) ≡ slotSize (layoutOf img)
     entry-size x = length-entry (layoutOf img) key x named
 
-    fits : (t : Bytes) → placeNumber (layoutOf img) img (some t) ≡ 0 → field img freeField + headSize (layoutOf img) + length t ≤ length img
+    fits : (t : Bytes) → placeNumber (layoutOf img) img (some t) ≡ 0
+        → field img freeField + headSize (layoutOf img) + length t ≤ length img
     unfolding spaceLeft
     fits t h =
         leb-true _ _
-        (firstNo-head 13 (leb (field img freeField + headSize (layoutOf img) + length t) (length img)) [] (λ z. omega arith)
+        (firstNo-head 13 (leb (field img freeField + headSize (layoutOf img) + length t) (length img)) []
+        (λ z. omega arith)
         (firstNo-tail 12 (lengthAllowed (layoutOf img) (some t)) _ (λ z. omega arith) h))
 
-    insert-keeps : (t : Option Bytes) → placeNumber (layoutOf img) img t ≡ 0 → part (inserted (layoutOf img) img i key t) p n ≡ part img p n
+    insert-keeps : (t : Option Bytes) → placeNumber (layoutOf img) img t ≡ 0
+        → part (inserted (layoutOf img) img i key t) p n ≡ part img p n
     unfolding inserted
     insert-keeps none h = enter-keeps img o p n low i key 0 l (entry-size 0)
     insert-keeps (some t) h =
         let same = kept-layout (space-kept img o t (fits t h)) (o .last) in
         (rw same at
-        (enter-keeps (takeSpace (layoutOf img) img t) (space-opened img o t (fits t h)) p n (rw same low) i key (field img freeField) (rw same l)
+        (enter-keeps (takeSpace (layoutOf img) img t) (space-opened img o t (fits t h)) p n (rw same low) i key
+        (field img freeField) (rw same l)
         (rw same (entry-size (field img freeField)))))
         ∙ space-keeps img o p n low t (fits t h) high
 
@@ -130,7 +139,8 @@ module _ (img : Bytes) (o : Opened img) (p n : ℕ) (low : layoutOf img .D ≤ p
           let same = kept-layout (retire-kept img o at s) (o .last) in
           let x = retire-field img o at s freeField (omega arith) in
           let is : Spaced (layoutOf img) off t =
-          rw same at (spaced off (retire-opened img o at s) t (rw (same, x, retire-kept img o at s .size) (fits t h))) in
+          rw same at (spaced off (retire-opened img o at s) t
+          (rw (same, x, retire-kept img o at s .size) (fits t h))) in
           part-putSlot-outside (layoutOf img) (takeSpace (layoutOf img) off t)
           (rw (is .kept .size, retire-kept img o at s .size) (opened-room img o))
           i (slotBytes key (field img freeField)) p n l (entry-size (field img freeField)) (inr low)
@@ -138,27 +148,19 @@ module _ (img : Bytes) (o : Opened img) (p n : ℕ) (low : layoutOf img .D ≤ p
           ∙ retire-keeps img o p n low at s c
 
       renew-keeps : (bytes : Bytes) (mode : ℕ) (t : Option Bytes) → renewedText (layoutOf img) img at bytes mode ≡ t
-          → placeNumber (layoutOf img) img t ≡ 0 → part (renewed (layoutOf img) img i at key bytes mode t) p n ≡ part img p n
+          → placeNumber (layoutOf img) img t ≡ 0
+          → part (renewed (layoutOf img) img i at key bytes mode t) p n ≡ part img p n
       unfolding renewed
       renew-keeps bytes mode (some t) q h = relocate-keeps t h
       renew-keeps bytes mode none q h =
-          by-bool (eqb mode 2)
-          (λ two. rw two (by-bool (eqb (length bytes) 0)
-          (λ z. rw z (retire-keeps img o p n low at s c))
-          (λ z. rw z
-          (let le : length bytes ≤ held (layoutOf img) img at = in-place bytes mode two q in
-          overwrite-keeps img o p n low at s c (λ w. eqb-false (length bytes) 0 z (omega (arith, le, held-zero w))) bytes le))))
-          (λ other. rw other refl)
-        where
-          held-zero : at ≡ 0 → held (layoutOf img) img at ≡ 0
-          held-zero w = unfold held in rw w refl
-
-          in-place : (bytes : Bytes) (mode : ℕ) → eqb mode 2 ≡ true → renewedText (layoutOf img) img at bytes mode ≡ none
-              → length bytes ≤ held (layoutOf img) img at
-          in-place bytes mode two q =
-              by-le (length bytes) (held (layoutOf img) img at)
-              (λ le. le)
-              (λ lt. absurd (Option·none-ne-some bytes (sym q ∙ (unfold renewedText in rw (two, lt-leb _ _ lt) refl))))
+          by-eq mode 2
+          (λ two. rw two (by-eq (length bytes) 0
+          (λ z. rw (eq-eqb (length bytes) 0 z) (retire-keeps img o p n low at s c))
+          (λ z. rw (ne-eqb (length bytes) 0 z)
+          (let le = replaced-held (layoutOf img) img i at key bytes (rw two at q) in
+          overwrite-keeps img o p n low at s c
+          (λ w. z (omega (arith, le, held-none (layoutOf img) img at w))) bytes le))))
+          (λ other. rw (ne-eqb mode 2 other) refl)
 
 -- ---- the calls
 
@@ -167,7 +169,7 @@ abbrev pub Clear : Bytes → Bytes → ℕ → ℕ → Type 0
 Clear img key p n =
     (i : ℕ) → search (layoutOf img) img key ≡ met i → (offsetOf (layoutOf img) (slot (layoutOf img) img i) ≡ 0 → ⊥)
     → Apart p n (offsetOf (layoutOf img) (slot (layoutOf img) img i))
-    (size (layoutOf img) img (offsetOf (layoutOf img) (slot (layoutOf img) img i)))
+    (span (layoutOf img) img (offsetOf (layoutOf img) (slot (layoutOf img) img i)))
 
 module _ (img key : Bytes) (p n : ℕ) (low : layoutOf img .D ≤ p) (c : Clear img key p n) where
   abbrev G : Layout

@@ -6,64 +6,57 @@
 use mathlib.Core.Path.{_≡_, sym, ap, _∙_}
 use Prim.Native.Nat.{ℕ, _+_, _≤_, _<_}
 use native.Mathlib.Omega.{arith}
-use mathlib.Core.Logic.{inl, inr}
 use mathlib.Core.Bool.{true}
 use mathlib.Core.Option.{some, Option·some-injective}
 use lib.ListN.{length}
 use Rattle.bhtf.specs.Bytes.{Bytes}
 use Rattle.bhtf.specs.Limits.{pointsField, freeField, tableStart}
-use Rattle.bhtf.specs.Image.{field, Layout, offsetOf, slot}
+use Rattle.bhtf.specs.Image.{field, Layout, offsetOf, slot, keyOf}
 use Rattle.bhtf.specs.Messages.{lengthAt}
 use Rattle.bhtf.specs.Questions.{messageSound}
-use Rattle.bhtf.proofs.Bytes.{Apart}
-use Rattle.bhtf.proofs.Kept.{Kept}
-use Rattle.bhtf.proofs.Table.{Sound, entryOf}
+use Rattle.bhtf.proofs.Bytes.{Apart, apart-inside}
+use Rattle.bhtf.proofs.Kept.{Kept, kept-known}
+use Rattle.bhtf.proofs.Table.{Findable, entryOf}
 use Rattle.bhtf.proofs.Probe.{entryOf-frame}
-use Rattle.bhtf.proofs.Insert.{weight-frame, sound-keys}
-use Rattle.bhtf.proofs.Stretch.{size, Lies, sound-lies, SameOn}
+use Rattle.bhtf.proofs.Insert.{weight-frame, findable-keys}
+use Rattle.bhtf.proofs.Stretch.{span, Lies, sound-lies, Stored, SameOn}
 use Rattle.agreement.proofs.File.{Allowed, File, file-slots, file-room, file-some, Change}
 
 -- ---- the table over images with the same slots
 
 module _ (g : Layout) (img img′ : Bytes) (pos : 0 < g .N) (e : (k : ℕ) → k < g .N → slot g img′ k ≡ slot g img k) where
-  pub frame-entry : (key : Bytes) → entryOf g img′ key ≡ entryOf g img key
-  frame-entry key = entryOf-frame g img img′ key pos e
-
-  pub frame-sound : Sound g img → Sound g img′
-  frame-sound s = sound-keys g img img′ (λ k h. ap (Rattle.bhtf.specs.Image.keyOf g) (e k h)) s
+  pub frame-findable : Findable g img → Findable g img′
+  frame-findable s = findable-keys g img img′ (λ k h. ap (keyOf g) (e k h)) s
 
 -- where the table ends the data area begins, above the header
 pub file-above : {g : Layout} {img : Bytes} → File g img → tableStart ≤ g .D
 file-above f = omega (arith, file-room f .table)
 
--- a shorter stretch
-pub apart-shrink : (p n n′ q m : ℕ) → n ≤ n′ → Apart p n′ q m → Apart p n q m
-apart-shrink p n n′ q m h (inl a) = inl (omega arith)
-apart-shrink p n n′ q m h (inr a) = inr a
-
 -- ---- a step that changes no slot and not C
 
 module _ (g : Layout) (img img′ : Bytes) (f : File g img) (kept₁ : Kept img img′)
-    (slots : (k : ℕ) → k < g .N → slot g img′ k ≡ slot g img k) (points₁ : field img′ pointsField ≡ field img pointsField)
-    (low : field img freeField ≤ field img′ freeField) (high : field img′ freeField ≤ length img) where
+    (slots : (k : ℕ) → k < g .N → slot g img′ k ≡ slot g img k)
+    (points₁ : field img′ pointsField ≡ field img pointsField) (low : field img freeField ≤ field img′ freeField)
+    (high : field img′ freeField ≤ length img) where
   same-entry : (key : Bytes) → entryOf g img′ key ≡ entryOf g img key
-  same-entry = frame-entry g img img′ (file-some f) slots
+  same-entry key = entryOf-frame g img img′ key (file-some f) slots
 
   pub frame-change : (key : Bytes)
       → ((key′ s : Bytes) → Allowed g key′ → (key′ ≡ key → ⊥) → entryOf g img key′ ≡ some s → (offsetOf g s ≡ 0 → ⊥)
-      → SameOn img img′ (offsetOf g s) (size g img (offsetOf g s)))
-      → ((s : Bytes) → Allowed g key → entryOf g img key ≡ some s → messageSound g img′ (offsetOf g s) ≡ true)
+      → SameOn img img′ (offsetOf g s) (span g img (offsetOf g s)))
+      → ((s : Bytes) → Allowed g key → entryOf g img key ≡ some s → Stored g img′ (offsetOf g s))
       → ((s key′ s′ : Bytes) → Allowed g key → Allowed g key′ → (key′ ≡ key → ⊥) → entryOf g img key ≡ some s
       → entryOf g img key′ ≡ some s′ → (offsetOf g s ≡ 0 → ⊥) → (offsetOf g s′ ≡ 0 → ⊥)
-      → Apart (offsetOf g s) (size g img′ (offsetOf g s)) (offsetOf g s′) (size g img (offsetOf g s′)))
+      → Apart (offsetOf g s) (span g img′ (offsetOf g s)) (offsetOf g s′) (span g img (offsetOf g s′)))
       → Change g img img′ key
   frame-change key still₁ here₁ apart₁ =
       record {
         kept = kept₁;
+        known = kept-known kept₁ (f .opened);
         free-low = low;
         free-high = high;
         points = rw points₁ (omega (arith, f .opened .points, file-slots f));
-        sound = frame-sound g img img′ (file-some f) slots (f .table);
+        table = frame-findable g img img′ (file-some f) slots (f .table);
         counted = points₁ ∙ f .counted ∙ sym (weight-frame g img img′ (λ s. 1) slots);
         others = λ key′ a n. same-entry key′;
         still = still₁;
@@ -73,15 +66,18 @@ module _ (g : Layout) (img img′ : Bytes) (f : File g img) (kept₁ : Kept img 
 
   -- inside the message of one point, which stays sound and does not grow
   pub point-change : (key s : Bytes) → Allowed g key → entryOf g img key ≡ some s
-      → ((p n : ℕ) → ((offsetOf g s ≡ 0 → ⊥) → Apart p n (offsetOf g s) (size g img (offsetOf g s))) → SameOn img img′ p n)
+      → ((p n : ℕ) → ((offsetOf g s ≡ 0 → ⊥) → Apart p n (offsetOf g s) (span g img (offsetOf g s)))
+      → SameOn img img′ p n)
       → messageSound g img′ (offsetOf g s) ≡ true → lengthAt g img′ (offsetOf g s) ≤ lengthAt g img (offsetOf g s)
       → Change g img img′ key
   point-change key s a e away sound₁ le =
       frame-change key
       (λ key′ s′ a′ n e′ z′. away (offsetOf g s′) _ (λ z. f .apart key′ key s′ s a′ a n e′ e z′ z))
-      (λ s₁ a₁ e₁. rw (is-s s₁ e₁) sound₁)
+      (λ s₁ a₁ e₁. rw (is-s s₁ e₁)
+      (record { sound = sound₁; short = λ z. omega (arith, le, f .messages key s a e .short z) }))
       (λ s₁ key′ s′ a₁ a′ n e₁ e′ z₁ z′.
-      apart-shrink (offsetOf g s₁) _ (size g img (offsetOf g s₁)) (offsetOf g s′) _ (rw (is-s s₁ e₁) (omega arith))
+      apart-inside (offsetOf g s₁) (span g img (offsetOf g s₁)) (offsetOf g s′) _ (offsetOf g s₁) _ (omega arith)
+      (rw (is-s s₁ e₁) (omega arith))
       (f .apart key key′ s₁ s′ a a′ (λ q. n (sym q)) e₁ e′ z₁ z′))
     where
       is-s : (s₁ : Bytes) → entryOf g img key ≡ some s₁ → s₁ ≡ s
@@ -89,10 +85,10 @@ module _ (g : Layout) (img img′ : Bytes) (f : File g img) (kept₁ : Kept img 
 
 -- ---- the message of a point
 
-module _ (g : Layout) (img : Bytes) (f : File g img) (key s : Bytes) (a : Allowed g key) (e : entryOf g img key ≡ some s)
-    (z : offsetOf g s ≡ 0 → ⊥) where
+module _ (g : Layout) (img : Bytes) (f : File g img) (key s : Bytes) (a : Allowed g key)
+    (e : entryOf g img key ≡ some s) (z : offsetOf g s ≡ 0 → ⊥) where
   pub point-lies : Lies g img (offsetOf g s)
-  point-lies = sound-lies g img (offsetOf g s) (f .messages key s a e) z
+  point-lies = sound-lies g img (offsetOf g s) (f .messages key s a e .sound) z
 
-  pub point-end : offsetOf g s + size g img (offsetOf g s) ≤ length img
+  pub point-end : offsetOf g s + span g img (offsetOf g s) ≤ length img
   point-end = omega (arith, point-lies .end, f .opened .free-high)

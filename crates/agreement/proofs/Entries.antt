@@ -1,5 +1,6 @@
 -- Laws of the book's entries: find, without and withEntry, by name.
---     Distinct es      no name stands twice
+--     Distinct es       no name stands twice
+--     removed name b    the book without the entry of that name
 -- Assumes nothing.
 use mathlib.Core.Path.{_≡_, refl, sym, ap, _∙_}
 use Prim.Native.Nat.{suc}
@@ -8,13 +9,17 @@ use mathlib.Core.List.{List, [], _∷_}
 use mathlib.Core.Option.{none, some, Option·none-ne-some, Option·some-injective}
 use lib.ListN.{length}
 use Rattle.bhtf.specs.Bytes.{Bytes, same}
-use Rattle.bhtf.specs.Book.{Entry, find, without, withEntry}
+use Rattle.bhtf.specs.Book.{Entry, Book, find, without, withEntry}
 use Rattle.bhtf.proofs.Tests.{by-bool}
 use Rattle.bhtf.proofs.Bytes.{same-refl, same-true, by-same}
 
 abbrev pub Distinct : List Entry → Type 0
 Distinct [] = Unit {0}
 Distinct (e ∷ es) = (find (e .name) es ≡ none) × Distinct es
+
+-- the book without the entry of that name
+abbrev pub removed : Bytes → Book → Book
+removed name b = record { terms = b .terms; entries = without name (b .entries); used = b .used }
 
 -- ---- the first entry
 
@@ -33,7 +38,8 @@ without-here : (e : Entry) (es : List Entry) (name : Bytes) → e .name ≡ name
 unfolding without
 without-here e es name q = rw (ap (λ (x : Bytes). same x name) q ∙ same-refl name) refl
 
-without-on : (e : Entry) (es : List Entry) (name : Bytes) → (e .name ≡ name → ⊥) → without name (e ∷ es) ≡ e ∷ without name es
+without-on : (e : Entry) (es : List Entry) (name : Bytes) → (e .name ≡ name → ⊥)
+    → without name (e ∷ es) ≡ e ∷ without name es
 unfolding without
 without-on e es name n = rw (same-no (e .name) name n) refl
 
@@ -52,7 +58,8 @@ without-absent name (e ∷ es) h =
     (λ q. absurd (Option·none-ne-some e (sym h ∙ find-here e es name q)))
     (λ n. without-on e es name n ∙ ap (_∷_ e) (ih (sym (find-on e es name n) ∙ h)))
 
-pub find-without-other : (name name′ : Bytes) (es : List Entry) → (name′ ≡ name → ⊥) → find name′ (without name es) ≡ find name′ es
+pub find-without-other : (name name′ : Bytes) (es : List Entry) → (name′ ≡ name → ⊥)
+    → find name′ (without name es) ≡ find name′ es
 unfolding find without
 find-without-other name name′ [] n = refl
 find-without-other name name′ (e ∷ es) n =
@@ -82,14 +89,17 @@ distinct-without name (e ∷ es) d =
     (λ q. rw (without-here e es name q) (d .1))
     (λ n. rw (without-on e es name n) (find-without-other name (e .name) es n ∙ d .0, ih))
 
-pub length-without : (name : Bytes) (es : List Entry) (x : Entry) → find name es ≡ some x → suc (length (without name es)) ≡ length es
+pub length-without : (name : Bytes) (es : List Entry) (x : Entry) → find name es ≡ some x
+    → suc (length (without name es)) ≡ length es
 unfolding find without
 length-without name [] x h = absurd (Option·none-ne-some x h)
 length-without name (e ∷ es) x h =
     let ih : find name es ≡ some x → suc (length (without name es)) ≡ length es = length-without name es x in
     by-same (e .name) name
     (λ q. ap (λ (l : List Entry). suc (length l)) (without-here e es name q))
-    (λ n. ap (λ (l : List Entry). suc (length l)) (without-on e es name n) ∙ ap suc (ih (sym (find-on e es name n) ∙ h)))
+    (λ n.
+    ap (λ (l : List Entry). suc (length l)) (without-on e es name n)
+    ∙ ap suc (ih (sym (find-on e es name n) ∙ h)))
 
 -- ---- withEntry
 
@@ -97,7 +107,8 @@ pub find-withEntry : (e : Entry) (es : List Entry) → find (e .name) (withEntry
 unfolding withEntry
 find-withEntry e es = find-here e (without (e .name) es) (e .name) refl
 
-pub find-withEntry-other : (e : Entry) (es : List Entry) (name : Bytes) → (name ≡ e .name → ⊥) → find name (withEntry e es) ≡ find name es
+pub find-withEntry-other : (e : Entry) (es : List Entry) (name : Bytes) → (name ≡ e .name → ⊥)
+    → find name (withEntry e es) ≡ find name es
 unfolding withEntry
 find-withEntry-other e es name n =
     find-on e (without (e .name) es) name (λ q. n (sym q)) ∙ find-without-other (e .name) name es n
@@ -106,11 +117,13 @@ pub distinct-withEntry : (e : Entry) (es : List Entry) → Distinct es → Disti
 unfolding withEntry
 distinct-withEntry e es d = (find-without-same (e .name) es d, distinct-without (e .name) es d)
 
-pub length-withEntry-new : (e : Entry) (es : List Entry) → find (e .name) es ≡ none → length (withEntry e es) ≡ suc (length es)
+pub length-withEntry-new : (e : Entry) (es : List Entry) → find (e .name) es ≡ none
+    → length (withEntry e es) ≡ suc (length es)
 unfolding withEntry
 length-withEntry-new e es h = ap (λ (l : List Entry). suc (length l)) (without-absent (e .name) es h)
 
-pub length-withEntry-old : (e : Entry) (es : List Entry) (x : Entry) → find (e .name) es ≡ some x → length (withEntry e es) ≡ length es
+pub length-withEntry-old : (e : Entry) (es : List Entry) (x : Entry) → find (e .name) es ≡ some x
+    → length (withEntry e es) ≡ length es
 unfolding withEntry
 length-withEntry-old e es x h = length-without (e .name) es x h
 

@@ -1,15 +1,15 @@
 -- The invariant of a file that calls have reached, and how a change to one point keeps it.
---     File g img            1. its header is accepted; 2. searches find what stands in the table; 3. C is the number of taken
---                           slots; 4. messages pass question 11; 5. messages of different points have no byte in common
+--     File g img            1. its header is accepted; 2. searches find what stands in the table; 3. C is the number of
+--                           taken slots; 4. messages pass question 11, and their lengths are below 256 ^ W; 5. messages
+--                           of different points have no byte in common
 --     pointOf g img key     name, text and length held of a point, as the book has them
 --     Change g img img′ key what a step that concerns the point `key` alone leaves
 --     file-change, point-other    such a step keeps the invariant, and every other point
 --     change-trans, change-any    changes in turn; a step that concerns no point
 -- Assumes nothing.
 use mathlib.Core.Path.{_≡_, refl, sym, ap, ap₂, _∙_, subst}
-use Prim.Native.Nat.{ℕ, _≤_, _<_}
+use Prim.Native.Nat.{ℕ, _^_, _≤_, _<_}
 use native.Mathlib.Omega.{arith}
-use mathlib.Core.Logic.{inl, inr}
 use mathlib.Core.Bool.{true, false, not}
 use mathlib.Core.List.{[]}
 use mathlib.Core.Option.{Option, none, some}
@@ -20,15 +20,15 @@ use Rattle.bhtf.specs.Bytes.{Bytes, allZero}
 use Rattle.bhtf.specs.Limits.{pointsField, freeField, slotsField, dataField}
 use Rattle.bhtf.specs.Image.{field, Layout, layoutOf, offsetOf}
 use Rattle.bhtf.specs.Messages.{shown, held, isActive}
-use Rattle.bhtf.specs.Questions.{nameAllowed, messageSound}
+use Rattle.bhtf.specs.Questions.{nameAllowed, versionKnown}
 use Rattle.bhtf.specs.Book.{Entry}
 use Rattle.bhtf.proofs.Tests.{by-eq, and-left, and-right}
-use Rattle.bhtf.proofs.Bytes.{Apart, by-same}
-use Rattle.bhtf.proofs.Slots.{Room}
+use Rattle.bhtf.proofs.Bytes.{Apart, apart-sym, by-same}
+use Rattle.bhtf.proofs.Slots.{Room, layout-most}
 use Rattle.bhtf.proofs.Opened.{Opened, opened-room}
-use Rattle.bhtf.proofs.Kept.{Kept, kept-trans, kept-layout, opened-kept}
-use Rattle.bhtf.proofs.Table.{Sound, entryOf, weight}
-use Rattle.bhtf.proofs.Stretch.{size, SameOn, same-on-trans, size-same, shown-same, held-same, sound-same}
+use Rattle.bhtf.proofs.Kept.{Kept, kept-trans, kept-layout, opened-known}
+use Rattle.bhtf.proofs.Table.{Findable, entryOf, weight}
+use Rattle.bhtf.proofs.Stretch.{span, Stored, SameOn, same-on-trans, span-same, shown-same, held-same, stored-same}
 
 -- ---- names
 
@@ -70,7 +70,7 @@ unfolding shown held isActive
 none-value g img img′ key = refl
 
 -- a point whose message's stretch is the same has the same value
-pub value-same : (g : Layout) (img img′ key : Bytes) (o : ℕ) → ((o ≡ 0 → ⊥) → SameOn img img′ o (size g img o))
+pub value-same : (g : Layout) (img img′ key : Bytes) (o : ℕ) → ((o ≡ 0 → ⊥) → SameOn img img′ o (span g img o))
     → valueOf g img′ key o ≡ valueOf g img key o
 value-same g img img′ key o same-on =
     by-eq o 0
@@ -88,12 +88,12 @@ by-entry (some s) n y = y s refl
 pub record File (g : Layout) (img : Bytes) : Type 0 where
   pub layout : layoutOf img ≡ g
   pub opened : Opened img
-  pub table : Sound g img
+  pub table : Findable g img
   pub counted : field img pointsField ≡ weight g img (λ s. 1)
-  pub messages : (key s : Bytes) → Allowed g key → entryOf g img key ≡ some s → messageSound g img (offsetOf g s) ≡ true
+  pub messages : (key s : Bytes) → Allowed g key → entryOf g img key ≡ some s → Stored g img (offsetOf g s)
   pub apart : (key key′ s s′ : Bytes) → Allowed g key → Allowed g key′ → (key ≡ key′ → ⊥)
       → entryOf g img key ≡ some s → entryOf g img key′ ≡ some s′ → (offsetOf g s ≡ 0 → ⊥) → (offsetOf g s′ ≡ 0 → ⊥)
-      → Apart (offsetOf g s) (size g img (offsetOf g s)) (offsetOf g s′) (size g img (offsetOf g s′))
+      → Apart (offsetOf g s) (span g img (offsetOf g s)) (offsetOf g s′) (span g img (offsetOf g s′))
 
 -- the header's numbers by the layout
 module _ {g : Layout} {img : Bytes} (f : File g img) where
@@ -108,6 +108,10 @@ module _ {g : Layout} {img : Bytes} (f : File g img) where
   pub file-room : Room g (length img)
   file-room = subst (λ (l : Layout). Room l (length img)) (f .layout) (opened-room img (f .opened))
 
+  -- a length that is allowed can be written in W bytes
+  pub file-most : g .most < 256 ^ g .W
+  file-most = subst (λ (l : Layout). l .most < 256 ^ l .W) (f .layout) (layout-most img)
+
   pub file-some : 0 < g .N
   file-some = omega (arith, f .opened .slots-low, file-slots)
 
@@ -121,43 +125,43 @@ module _ {g : Layout} {img : Bytes} (f : File g img) where
 
 pub record Change (g : Layout) (img img′ key : Bytes) : Type 0 where
   pub kept : Kept img img′
+  pub known : versionKnown img′ ≡ true
   pub free-low : field img freeField ≤ field img′ freeField
   pub free-high : field img′ freeField ≤ length img
   pub points : field img′ pointsField ≤ g .N
-  pub sound : Sound g img′
+  pub table : Findable g img′
   pub counted : field img′ pointsField ≡ weight g img′ (λ s. 1)
   pub others : (key′ : Bytes) → Allowed g key′ → (key′ ≡ key → ⊥) → entryOf g img′ key′ ≡ entryOf g img key′
-  pub still : (key′ s : Bytes) → Allowed g key′ → (key′ ≡ key → ⊥) → entryOf g img key′ ≡ some s → (offsetOf g s ≡ 0 → ⊥)
-      → SameOn img img′ (offsetOf g s) (size g img (offsetOf g s))
-  pub here : (s : Bytes) → Allowed g key → entryOf g img′ key ≡ some s → messageSound g img′ (offsetOf g s) ≡ true
+  pub still : (key′ s : Bytes) → Allowed g key′ → (key′ ≡ key → ⊥) → entryOf g img key′ ≡ some s
+      → (offsetOf g s ≡ 0 → ⊥)
+      → SameOn img img′ (offsetOf g s) (span g img (offsetOf g s))
+  pub here : (s : Bytes) → Allowed g key → entryOf g img′ key ≡ some s → Stored g img′ (offsetOf g s)
   pub here-apart : (s key′ s′ : Bytes) → Allowed g key → Allowed g key′ → (key′ ≡ key → ⊥)
       → entryOf g img′ key ≡ some s → entryOf g img key′ ≡ some s′ → (offsetOf g s ≡ 0 → ⊥) → (offsetOf g s′ ≡ 0 → ⊥)
-      → Apart (offsetOf g s) (size g img′ (offsetOf g s)) (offsetOf g s′) (size g img (offsetOf g s′))
-
-pub apart-sym : (p n q m : ℕ) → Apart p n q m → Apart q m p n
-apart-sym p n q m (inl h) = inr h
-apart-sym p n q m (inr h) = inl h
+      → Apart (offsetOf g s) (span g img′ (offsetOf g s)) (offsetOf g s′) (span g img (offsetOf g s′))
 
 module _ (g : Layout) (img img′ key : Bytes) (f : File g img) (c : Change g img img′ key) where
   -- an entry of another point was there before
-  before : (key′ s : Bytes) → Allowed g key′ → (key′ ≡ key → ⊥) → entryOf g img′ key′ ≡ some s → entryOf g img key′ ≡ some s
+  before : (key′ s : Bytes) → Allowed g key′ → (key′ ≡ key → ⊥) → entryOf g img′ key′ ≡ some s
+      → entryOf g img key′ ≡ some s
   before key′ s a n e = sym (c .others key′ a n) ∙ e
 
-  other-size : (key′ s : Bytes) → Allowed g key′ → (key′ ≡ key → ⊥) → entryOf g img key′ ≡ some s → (offsetOf g s ≡ 0 → ⊥)
-      → size g img′ (offsetOf g s) ≡ size g img (offsetOf g s)
-  other-size key′ s a n e z = size-same g img img′ (offsetOf g s) (c .still key′ s a n e z)
+  other-size : (key′ s : Bytes) → Allowed g key′ → (key′ ≡ key → ⊥) → entryOf g img key′ ≡ some s
+      → (offsetOf g s ≡ 0 → ⊥)
+      → span g img′ (offsetOf g s) ≡ span g img (offsetOf g s)
+  other-size key′ s a n e z = span-same g img img′ (offsetOf g s) (c .still key′ s a n e z)
 
-  new-messages : (k s : Bytes) → Allowed g k → entryOf g img′ k ≡ some s → messageSound g img′ (offsetOf g s) ≡ true
+  new-messages : (k s : Bytes) → Allowed g k → entryOf g img′ k ≡ some s → Stored g img′ (offsetOf g s)
   new-messages k s a e =
       by-same k key
       (λ q. c .here s (rw q at a) (rw q at e))
       (λ n.
       let b = before k s a n e in
-      sound-same g img img′ (offsetOf g s) (c .still k s a n b) (c .free-low) (f .messages k s a b))
+      stored-same g img img′ (offsetOf g s) (c .still k s a n b) (c .free-low) (f .messages k s a b))
 
   new-apart : (k k′ s s′ : Bytes) → Allowed g k → Allowed g k′ → (k ≡ k′ → ⊥)
       → entryOf g img′ k ≡ some s → entryOf g img′ k′ ≡ some s′ → (offsetOf g s ≡ 0 → ⊥) → (offsetOf g s′ ≡ 0 → ⊥)
-      → Apart (offsetOf g s) (size g img′ (offsetOf g s)) (offsetOf g s′) (size g img′ (offsetOf g s′))
+      → Apart (offsetOf g s) (span g img′ (offsetOf g s)) (offsetOf g s′) (span g img′ (offsetOf g s′))
   new-apart k k′ s s′ a a′ n e e′ z z′ =
       by-same k key
       (λ q. by-same k′ key
@@ -168,7 +172,8 @@ module _ (g : Layout) (img img′ key : Bytes) (f : File g img) (c : Change g im
       (λ n₁. by-same k′ key
       (λ q′.
       let b = before k s a n₁ e in
-      rw (other-size k s a n₁ b z) (apart-sym (offsetOf g s′) _ (offsetOf g s) _ (c .here-apart s′ k s (rw q′ at a′) a n₁ (rw q′ at e′) b z′ z)))
+      rw (other-size k s a n₁ b z)
+      (apart-sym (offsetOf g s′) _ (offsetOf g s) _ (c .here-apart s′ k s (rw q′ at a′) a n₁ (rw q′ at e′) b z′ z)))
       (λ n₂.
       let b = before k s a n₁ e in
       let b′ = before k′ s′ a′ n₂ e′ in
@@ -179,9 +184,9 @@ module _ (g : Layout) (img img′ key : Bytes) (f : File g img) (c : Change g im
       record {
         layout = kept-layout (c .kept) (f .opened .last) ∙ f .layout;
         opened =
-            opened-kept (c .kept) (f .opened) (rw (file-slots f) (c .points))
+            opened-known (c .kept) (f .opened) (c .known) (rw (file-slots f) (c .points))
             (omega (arith, f .opened .free-low, c .free-low)) (c .free-high);
-        table = c .sound;
+        table = c .table;
         counted = c .counted;
         messages = new-messages;
         apart = new-apart;
@@ -200,31 +205,35 @@ module _ (g : Layout) (img img′ key : Bytes) (f : File g img) (c : Change g im
 -- ---- changes in turn
 
 module _ (g : Layout) (img img₁ img₂ key : Bytes) (c : Change g img img₁ key) (d : Change g img₁ img₂ key) where
-  on₁ : (key′ s : Bytes) → Allowed g key′ → (key′ ≡ key → ⊥) → entryOf g img key′ ≡ some s → entryOf g img₁ key′ ≡ some s
+  on₁ : (key′ s : Bytes) → Allowed g key′ → (key′ ≡ key → ⊥) → entryOf g img key′ ≡ some s
+      → entryOf g img₁ key′ ≡ some s
   on₁ key′ s a n e = c .others key′ a n ∙ e
 
   size₁ : (key′ s : Bytes) → Allowed g key′ → (key′ ≡ key → ⊥) → entryOf g img key′ ≡ some s → (offsetOf g s ≡ 0 → ⊥)
-      → size g img₁ (offsetOf g s) ≡ size g img (offsetOf g s)
-  size₁ key′ s a n e z = size-same g img img₁ (offsetOf g s) (c .still key′ s a n e z)
+      → span g img₁ (offsetOf g s) ≡ span g img (offsetOf g s)
+  size₁ key′ s a n e z = span-same g img img₁ (offsetOf g s) (c .still key′ s a n e z)
 
   pub change-trans : Change g img img₂ key
   change-trans =
       record {
         kept = kept-trans (c .kept) (d .kept);
+        known = d .known;
         free-low = omega (arith, c .free-low, d .free-low);
         free-high = omega (arith, d .free-high, c .kept .size);
         points = d .points;
-        sound = d .sound;
+        table = d .table;
         counted = d .counted;
         others = λ key′ a n. d .others key′ a n ∙ c .others key′ a n;
         still =
             λ key′ s a n e z.
             same-on-trans (c .still key′ s a n e z)
-            (subst (λ (m : ℕ). SameOn img₁ img₂ (offsetOf g s) m) (size₁ key′ s a n e z) (d .still key′ s a n (on₁ key′ s a n e) z));
+            (subst (λ (m : ℕ). SameOn img₁ img₂ (offsetOf g s) m) (size₁ key′ s a n e z)
+            (d .still key′ s a n (on₁ key′ s a n e) z));
         here = d .here;
         here-apart =
             λ s key′ s′ a a′ n e e′ z z′.
-            subst (λ (m : ℕ). Apart (offsetOf g s) (size g img₂ (offsetOf g s)) (offsetOf g s′) m) (size₁ key′ s′ a′ n e′ z′)
+            subst (λ (m : ℕ). Apart (offsetOf g s) (span g img₂ (offsetOf g s)) (offsetOf g s′) m)
+            (size₁ key′ s′ a′ n e′ z′)
             (d .here-apart s key′ s′ a a′ n e (on₁ key′ s′ a′ n e′) z z′);
       }
 
@@ -237,17 +246,19 @@ module _ (g : Layout) (img img′ : Bytes) (f : File g img) (c : Change g img im
   change-any =
       record {
         kept = c .kept;
+        known = c .known;
         free-low = c .free-low;
         free-high = c .free-high;
         points = c .points;
-        sound = c .sound;
+        table = c .table;
         counted = c .counted;
         others = λ key′ a n. c .others key′ a (none-of key′ a);
         still = λ key′ s a n e z. c .still key′ s a (none-of key′ a) e z;
         here = λ s a e. file-change g img img′ [] f c .messages key s a e;
         here-apart =
             λ s key′ s′ a a′ n e e′ z z′.
-            subst (λ (m : ℕ). Apart (offsetOf g s) (size g img′ (offsetOf g s)) (offsetOf g s′) m)
-            (size-same g img img′ (offsetOf g s′) (c .still key′ s′ a′ (none-of key′ a′) e′ z′))
-            (file-change g img img′ [] f c .apart key key′ s s′ a a′ (λ q. n (sym q)) e (c .others key′ a′ (none-of key′ a′) ∙ e′) z z′);
+            subst (λ (m : ℕ). Apart (offsetOf g s) (span g img′ (offsetOf g s)) (offsetOf g s′) m)
+            (span-same g img img′ (offsetOf g s′) (c .still key′ s′ a′ (none-of key′ a′) e′ z′))
+            (file-change g img img′ [] f c .apart key key′ s s′ a a′ (λ q. n (sym q)) e
+            (c .others key′ a′ (none-of key′ a′) ∙ e′) z z′);
       }

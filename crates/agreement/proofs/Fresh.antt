@@ -2,7 +2,7 @@
 --     fresh-reflects      create's image and the new book
 -- Assumes nothing.
 use mathlib.Core.Path.{_≡_, refl, sym, ap, ap₂, _∙_}
-use Prim.Native.Nat.{ℕ, zero, suc, _+_, _-_, _*_, _≤_, _<_}
+use Prim.Native.Nat.{ℕ, _+_, _-_, _*_, _≤_, _<_}
 use native.Mathlib.Omega.{arith}
 use native.Mathlib.Nat.{add-zero}
 use mathlib.Core.Bool.{true}
@@ -13,7 +13,7 @@ use lib.Seq.{drop-append-add, take-at, drop-at}
 use lib.Dec.{eqb}
 use borrow.Author.Tests.{eqb-false}
 use Rattle.bhtf.specs.Bytes.{Bytes, part, number, digits, zeros, same}
-use Rattle.bhtf.specs.Limits.{keyField, slotsField, pointsField, dataField, freeField, scrambleCount}
+use Rattle.bhtf.specs.Limits.{keyField, slotsField, pointsField, dataField, freeField, headerSize, scrambleStart, scrambleCount}
 use Rattle.bhtf.specs.Image.{field, dataStart, Layout, layoutOf, slotSize, slotStart, slot, blank, vacant}
 use Rattle.bhtf.specs.Create.{drawnBytes, slotsAsked, freshHeader, freshImage}
 use Rattle.bhtf.specs.Messages.{headSize}
@@ -22,7 +22,7 @@ use Rattle.bhtf.specs.Book.{newBook}
 use Rattle.bhtf.specs.Demand.{termsOf}
 use Rattle.bhtf.proofs.Fresh.{length-drawnBytes}
 use Rattle.bhtf.proofs.Tests.{by-bool, by-eq, not-both}
-use Rattle.bhtf.proofs.Bytes.{length-digits, number-digits-fits, length-zeros}
+use Rattle.bhtf.proofs.Bytes.{number-digits-fits, length-zeros}
 use Rattle.bhtf.proofs.Slots.{Room, slot-end, slot-above, vacant-blank}
 use Rattle.bhtf.proofs.Opened.{Opened, opened-room}
 use Rattle.bhtf.proofs.Accepted.{Accepted}
@@ -68,30 +68,37 @@ module _ (L K N seed : ℕ) (ok : Accepted L K N) (pos : 1 ≤ N) where
   img : Bytes
   img = freshImage L K N seed
 
-  front : Bytes
-  front = freshHeader K N ++ zeros 452 ++ drawnBytes seed 0 scrambleCount
+  -- what create fills: the header, and behind a gap the scramble
+  abbrev gap : ℕ
+  gap = scrambleStart - headerSize
 
-  img-front : img ≡ front ++ zeros (L - 892)
+  abbrev filled : ℕ
+  filled = scrambleStart + 4 * scrambleCount
+
+  front : Bytes
+  front = freshHeader K N ++ zeros gap ++ drawnBytes seed 0 scrambleCount
+
+  img-front : img ≡ front ++ zeros (L - filled)
   unfolding img front freshImage
   img-front = refl
 
-  length-front : length front ≡ 892
+  length-front : length front ≡ filled
   unfolding front freshHeader digits
   length-front =
-      length-append (freshHeader K N ++ zeros 452) (drawnBytes seed 0 scrambleCount)
-      ∙ ap₂ _+_ (length-append (freshHeader K N) (zeros 452)) (length-drawnBytes seed 0 scrambleCount)
-      ∙ ap (λ (n : ℕ). 60 + n + 380) (length-zeros 452)
+      length-append (freshHeader K N ++ zeros gap) (drawnBytes seed 0 scrambleCount)
+      ∙ ap₂ _+_ (length-append (freshHeader K N) (zeros gap)) (length-drawnBytes seed 0 scrambleCount)
+      ∙ ap (λ (n : ℕ). headerSize + n + 4 * scrambleCount) (length-zeros gap)
 
   fresh-length : length img ≡ L
   fresh-length =
-      ap length img-front ∙ length-append front (zeros (L - 892)) ∙ ap₂ _+_ length-front (length-zeros (L - 892))
+      ap length img-front ∙ length-append front (zeros (L - filled)) ∙ ap₂ _+_ length-front (length-zeros (L - filled))
       ∙ omega (arith, ok .size-low)
 
-  fresh-zeros : (p m : ℕ) → 892 ≤ p → p + m ≤ L → part img p m ≡ zeros m
+  fresh-zeros : (p m : ℕ) → filled ≤ p → p + m ≤ L → part img p m ≡ zeros m
   fresh-zeros p m lo hi =
       ap (λ (l : Bytes). part l p m) img-front
-      ∙ part-behind front (zeros (L - 892)) p m 892 length-front lo
-      ∙ part-zeros (L - 892) (p - 892) m (omega arith)
+      ∙ part-behind front (zeros (L - filled)) p m filled length-front lo
+      ∙ part-zeros (L - filled) (p - filled) m (omega arith)
 
   -- the header's fields
   fresh-K : field img keyField ≡ K
@@ -169,7 +176,11 @@ module _ (L K N seed : ℕ) (ok : Accepted L K N) (pos : 1 ≤ N) where
       record {
         layout = refl;
         opened = fresh-opened;
-        table = record { paths = λ i k li lk t h. absurd (none-taken i li t); distinct = λ i j li lj t u e. absurd (none-taken i li t) };
+        table =
+            record {
+              paths = λ i k li lk t h. absurd (none-taken i li t);
+              distinct = λ i j li lj t u e. absurd (none-taken i li t);
+            };
         counted = fresh-C ∙ sym nothing;
         messages = λ key s a e. absurd (Option·none-ne-some s (sym (fresh-entry key a) ∙ e));
         apart = λ key key′ s s′ a a′ n e e′ z z′. absurd (Option·none-ne-some s (sym (fresh-entry key a) ∙ e));
@@ -178,7 +189,8 @@ module _ (L K N seed : ℕ) (ok : Accepted L K N) (pos : 1 ≤ N) where
       nothing : weight g img (λ s. 1) ≡ 0
       nothing =
           unfold weight in
-          (total-same (λ i. weigh g (λ s. 1) (slot g img i)) (λ i. 0) (g .N) (λ i l. weigh-vacant g (λ s. 1) (slot g img i) (fresh-vacant i l))
+          (total-same (λ i. weigh g (λ s. 1) (slot g img i)) (λ i. 0) (g .N)
+          (λ i l. weigh-vacant g (λ s. 1) (slot g img i) (fresh-vacant i l))
           ∙ omega (arith, total-const 0 (g .N)))
 
   pub fresh-reflects : Reflects (layoutOf (freshImage L K N seed)) (freshImage L K N seed) (newBook (termsOf L K N))

@@ -10,31 +10,34 @@ use mathlib.Core.List.{_++_}
 use mathlib.Core.Option.{some}
 use lib.ListN.{length, length-append}
 use lib.Seq.{take-at}
-use borrow.Author.Tests.{ne-eqb}
 use Rattle.bhtf.specs.Bytes.{Bytes, part, store, zeros}
 use Rattle.bhtf.specs.Limits.{leastLength, pointsField, freeField, tableStart}
 use Rattle.bhtf.specs.Image.{field, Layout, offsetOf, slot}
-use Rattle.bhtf.specs.Messages.{headSize, lengthAt, held, message, overwrite}
+use Rattle.bhtf.specs.Messages.{headSize, held, message, overwrite}
 use Rattle.bhtf.proofs.Bytes.{part-store-inside, length-zeros}
 use Rattle.bhtf.proofs.Slots.{slot-store-data, field-store-other}
 use Rattle.bhtf.proofs.Kept.{kept-store}
 use Rattle.bhtf.proofs.Effects.{length-message}
 use Rattle.bhtf.proofs.Table.{entryOf}
-use Rattle.bhtf.proofs.Stretch.{size, Lies, lies-sound, same-on-store, held-some}
-use Rattle.agreement.proofs.Data.{frame-entry, file-above, point-change, point-lies, point-end}
+use Rattle.bhtf.proofs.Probe.{entryOf-frame}
+use Rattle.bhtf.proofs.Stretch.{span, Lies, lies-sound, same-on-store, held-some}
+use Rattle.agreement.proofs.Data.{file-above, point-change, point-lies, point-end}
 use Rattle.agreement.proofs.Space.{Written, written, written-value, written-lies}
 use Rattle.agreement.proofs.File.{Allowed, pointOf, pointOf-some, File, file-room, file-some, Change}
 
-module _ (g : Layout) (img : Bytes) (f : File g img) (key s : Bytes) (a : Allowed g key) (e : entryOf g img key ≡ some s)
-    (z : offsetOf g s ≡ 0 → ⊥) (t : Bytes) (small : length t < 256 ^ g .W) (least : leastLength ≤ length t)
+module _ (g : Layout) (img : Bytes) (f : File g img) (key s : Bytes) (a : Allowed g key)
+    (e : entryOf g img key ≡ some s) (z : offsetOf g s ≡ 0 → ⊥) (t : Bytes) (least : leastLength ≤ length t)
     (le : length t ≤ held g img (offsetOf g s)) where
+  small : length t < 256 ^ g .W
+  small = omega (arith, le, held-some g img (offsetOf g s) z, f .messages key s a e .short z)
+
   bytes : Bytes
   bytes = message (g .W) t ++ zeros (held g img (offsetOf g s) - length t)
 
   lies : Lies g img (offsetOf g s)
   lies = point-lies g img f key s a e z
 
-  length-bytes : length bytes ≡ size g img (offsetOf g s)
+  length-bytes : length bytes ≡ span g img (offsetOf g s)
   unfolding bytes
   length-bytes =
       length-append (message (g .W) t) (zeros (held g img (offsetOf g s) - length t))
@@ -50,7 +53,8 @@ module _ (g : Layout) (img : Bytes) (f : File g img) (key s : Bytes) (a : Allowe
       ap (λ (x : ℕ). part (store img (offsetOf g s) bytes) x (headSize g + length t)) (sym (add-zero (offsetOf g s)))
       ∙ part-store-inside img (offsetOf g s) bytes 0 (headSize g + length t) (omega (arith, fits))
       (rw length-bytes (omega (arith, held-some g img (offsetOf g s) z, le)))
-      ∙ take-at (message (g .W) t) (zeros (held g img (offsetOf g s) - length t)) (headSize g + length t) (length-message g t)
+      ∙ take-at (message (g .W) t) (zeros (held g img (offsetOf g s) - length t)) (headSize g + length t)
+      (length-message g t)
 
   now-written : Written g (store img (offsetOf g s) bytes) (offsetOf g s) t
   now-written = written g (store img (offsetOf g s) bytes) (offsetOf g s) t small there
@@ -74,7 +78,8 @@ module _ (g : Layout) (img : Bytes) (f : File g img) (key s : Bytes) (a : Allowe
   overwrite-change =
       rw is-overwrite
       (point-change g img (store img (offsetOf g s) bytes) f
-      (kept-store img (offsetOf g s) bytes fits (omega (arith, lies .low, file-above f))) now-slot (now-field pointsField (omega arith))
+      (kept-store img (offsetOf g s) bytes fits (omega (arith, lies .low, file-above f))) now-slot
+      (now-field pointsField (omega arith))
       (rw (now-field freeField (omega arith)) (omega arith))
       (rw (now-field freeField (omega arith)) (f .opened .free-high))
       key s a e
@@ -85,8 +90,9 @@ module _ (g : Layout) (img : Bytes) (f : File g img) (key s : Bytes) (a : Allowe
   pub overwrite-field : (at : ℕ) → at + 4 ≤ tableStart → field (overwrite g img (offsetOf g s) t) at ≡ field img at
   overwrite-field at h = rw is-overwrite (now-field at h)
 
-  pub overwrite-point : pointOf g (overwrite g img (offsetOf g s) t) key ≡ some (record { name = key; text = t; held = length t })
+  pub overwrite-point : pointOf g (overwrite g img (offsetOf g s) t) key
+      ≡ some (record { name = key; text = t; held = length t })
   overwrite-point =
       rw is-overwrite
-      (pointOf-some g (store img (offsetOf g s) bytes) key s (frame-entry g img _ (file-some f) now-slot key ∙ e)
+      (pointOf-some g (store img (offsetOf g s) bytes) key s (entryOf-frame g img _ key (file-some f) now-slot ∙ e)
       ∙ ap some (written-value g (store img (offsetOf g s) bytes) (offsetOf g s) t now-written z key))

@@ -1,42 +1,42 @@
 -- Add of a point that is present, in its three modes: the file's answer is the book's, and the relation is kept.
 -- Assumes nothing.
-use mathlib.Core.Path.{_≡_, refl, sym, ap, _∙_, subst}
-use Prim.Native.Nat.{ℕ, _^_, _≤_, _<_}
+use mathlib.Core.Path.{_≡_, refl, sym, ap, _∙_}
+use Prim.Native.Nat.{ℕ, _+_, _≤_}
 use native.Mathlib.Omega.{arith}
 use native.Mathlib.Nat.{add-zero}
 use mathlib.Core.Bool.{true, false}
 use mathlib.Core.List.{[], _∷_, _++_}
 use mathlib.Core.Option.{Option, none, some}
 use lib.ListN.{length, length-append}
-use lib.Dec.{eqb, leb}
-use borrow.Author.Tests.{eq-eqb, ne-eqb, leb-true, le-leb, lt-leb}
+use lib.Dec.{eqb}
+use borrow.Author.Tests.{eq-eqb, ne-eqb, le-leb, lt-leb}
 use Rattle.bhtf.specs.Bytes.{Bytes}
-use Rattle.bhtf.specs.Limits.{leastLength, pointsField, freeField}
+use Rattle.bhtf.specs.Limits.{leastLength, pointsField, freeField, tableStart}
 use Rattle.bhtf.specs.Image.{field, Layout, layoutOf, slot, offsetOf}
 use Rattle.bhtf.specs.Search.{met, search}
-use Rattle.bhtf.specs.Messages.{shown, held, retire, overwrite, renewedText, renewed, renewedAt, addedAt, added}
-use Rattle.bhtf.specs.Questions.{ask, firstNo, modeKnown, addNumber, placeNumber}
+use Rattle.bhtf.specs.Messages.{shown, held, retire, overwrite, renewedText, renewedAt, addedAt, added}
+use Rattle.bhtf.specs.Questions.{ask, firstNo, modeKnown, openNumber, addNumber, placeNumber}
 use Rattle.bhtf.specs.Calls.{add}
 use Rattle.bhtf.specs.Book.{Entry, Book, find, withEntry, stepOf, roomAsks, entered, placed, replace, append, addPresent, addFound}
-use Rattle.bhtf.proofs.Tests.{by-eq, by-le, and-left, and-right}
+use Rattle.bhtf.proofs.Tests.{by-eq, by-le}
 use Rattle.bhtf.proofs.Opened.{firstNo-none, firstNo-no}
 use Rattle.bhtf.proofs.Outcomes.{room-none, add-9, add-renewed}
+use Rattle.bhtf.proofs.Stretch.{held-none}
+use Rattle.bhtf.proofs.Texts.{by-mode, replaced-none, replaced-some, replaced-retired, replaced-over, appended-none, appended-some, appended-same, renewed-moved}
 use Rattle.bhtf.proofs.Table.{entryOf}
 use Rattle.bhtf.proofs.Insert.{entry-met}
 use Rattle.agreement.proofs.File.{Allowed, valueOf}
-use Rattle.bhtf.proofs.Stretch.{sound-lies, held-some}
-use Rattle.agreement.proofs.Data.{file-above}
 use Rattle.agreement.proofs.Retire.{retire-change, retire-field, retire-point}
 use Rattle.agreement.proofs.Overwrite.{overwrite-change, overwrite-field, overwrite-point}
 use Rattle.agreement.proofs.Entries.{length-withEntry-old}
 use Rattle.agreement.proofs.Reflect.{Reflects, reflect-entered}
 use Rattle.agreement.proofs.Simple.{Same, same-refused, same-accepted, open₀, found-met, met-sound}
-use Rattle.agreement.proofs.Place.{room-both, relocate}
+use Rattle.agreement.proofs.Place.{place-both, place-length, place-space, relocate}
 
 -- ---- a point that is present
 
-module _ (g : Layout) (img : Bytes) (b : Book) (r : Reflects g img b) (key : Bytes) (a : Allowed g key) (bytes : Bytes) (i : ℕ)
-    (m : search g img key ≡ met i) where
+module _ (g : Layout) (img : Bytes) (b : Book) (r : Reflects g img b) (key : Bytes) (a : Allowed g key) (bytes : Bytes)
+    (i : ℕ) (m : search g img key ≡ met i) where
   abbrev o : ℕ
   o = offsetOf g (slot g img i)
 
@@ -50,139 +50,116 @@ module _ (g : Layout) (img : Bytes) (b : Book) (r : Reflects g img b) (key : Byt
   old-number e q =
       length-withEntry-old e (b .entries) _ (ap (λ (k : Bytes). find k (b .entries)) q ∙ found) ∙ r .number
 
+  open₁ : openNumber img ≡ 0
+  open₁ = open₀ r
+
   -- in modes 2 and 3 questions 12 and 13 decide, of the text p to be placed
-  present-number : (mode : ℕ) (p : Option Bytes) → modeKnown mode ≡ true → eqb mode 1 ≡ false → renewedText g img o bytes mode ≡ p
+  present-number : (mode : ℕ) (p : Option Bytes) → modeKnown mode ≡ true → eqb mode 1 ≡ false
+      → renewedText g img o bytes mode ≡ p
       → addNumber img key bytes mode ≡ placeNumber g img p
   present-number mode p k h q =
       rw (r .file .layout) at
-      (add-renewed img key (open₀ g img b r key) bytes mode (rw (r .file .layout) a) k i (rw (r .file .layout) m) h
+      (add-renewed img key open₁ bytes mode (rw (r .file .layout) a) k i (rw (r .file .layout) m) h
       (rw (r .file .layout) (met-sound g img b r key a i m)))
       ∙ ap (placeNumber g img) q
 
-  after-present : (mode : ℕ) (p : Option Bytes) → renewedText g img o bytes mode ≡ p
-      → added (layoutOf img) img key bytes mode ≡ renewed g img i o key bytes mode p
-  unfolding added addedAt renewedAt
-  after-present mode p q = rw (r .file .layout, m) (ap (renewed g img i o key bytes mode) q)
+  after-present : (mode : ℕ) → added (layoutOf img) img key bytes mode ≡ renewedAt g img i o key bytes mode
+  unfolding added addedAt
+  after-present mode = rw (r .file .layout, m) refl
 
   -- a text in new space
-  same-placed : (mode : ℕ) (t : Bytes) → modeKnown mode ≡ true → eqb mode 1 ≡ false → renewedText g img o bytes mode ≡ some t
+  same-placed : (mode : ℕ) (t : Bytes) → modeKnown mode ≡ true → eqb mode 1 ≡ false
+      → renewedText g img o bytes mode ≡ some t
       → leastLength ≤ length t
       → Same g (add img key bytes mode) (stepOf b (roomAsks b (length t)) (placed b key t))
-  unfolding add renewed
+  unfolding add
   same-placed mode t k h q le =
-      by-eq (firstNo (roomAsks b (length t))) 0
-      (λ z. same-accepted g img b r (addNumber img key bytes mode) _ (roomAsks b (length t)) (placed b key t)
-      (some-number ∙ z) z
-      (rw (after-present mode (some t) q) (relocate g img b r key a t z le i m)))
-      (λ z. same-refused g img b r (addNumber img key bytes mode) _ (roomAsks b (length t)) (placed b key t) some-number z)
-    where
-      some-number : addNumber img key bytes mode ≡ firstNo (roomAsks b (length t))
-      some-number = present-number mode (some t) k h q ∙ room-both g img b r t
+      let n = addNumber img key bytes mode in
+      let asks = roomAsks b (length t) in
+      let is : n ≡ firstNo asks = present-number mode (some t) k h q ∙ place-both g img b r t in
+      by-eq (firstNo asks) 0
+      (λ z.
+      same-accepted g img b r n _ asks (placed b key t) (is ∙ z) z
+      (rw (after-present mode ∙ renewed-moved g img i o key bytes mode t q)
+      (relocate g img b r key a t le (place-length g img b r t z) (place-space g img b r t z) i m)))
+      (λ z. same-refused g img b r n _ asks (placed b key t) is z)
 
   -- a step with nothing to place
   same-in-place : (mode : ℕ) (img′ : Bytes) (b′ : Book) → modeKnown mode ≡ true → eqb mode 1 ≡ false
-      → renewedText g img o bytes mode ≡ none → renewed g img i o key bytes mode none ≡ img′ → Reflects g img′ b′
+      → renewedText g img o bytes mode ≡ none → renewedAt g img i o key bytes mode ≡ img′ → Reflects g img′ b′
       → Same g (add img key bytes mode) (stepOf b [] b′)
   unfolding add
   same-in-place mode img′ b′ k h q w s =
-      same-accepted g img b r (addNumber img key bytes mode) _ [] b′ (present-number mode none k h q ∙ room-none g img) firstNo-none
-      (rw (after-present mode none q ∙ w) s)
+      let n = addNumber img key bytes mode in
+      same-accepted g img b r n _ [] b′ (present-number mode none k h q ∙ room-none g img) firstNo-none
+      (rw (after-present mode ∙ w) s)
 
   -- ---- mode 1
   same-1 : Same g (add img key bytes 1) (addPresent b (valueOf g img key o) bytes 1)
-  unfolding add addPresent
+  unfolding add addPresent modeKnown
   same-1 =
-      same-refused g img b r (addNumber img key bytes 1) _ (ask 9 false ∷ []) b (nine ∙ sym (firstNo-no 9 false [] refl))
-      (λ z. omega (arith, z, firstNo-no 9 false [] refl))
-    where
-      nine : addNumber img key bytes 1 ≡ 9
-      nine =
-          add-9 img key (open₀ g img b r key) bytes 1 (rw (r .file .layout) a) (unfold modeKnown in refl) i (rw (r .file .layout) m) refl
+      let nine = add-9 img key open₁ bytes 1 (rw (r .file .layout) a) refl i (rw (r .file .layout) m) refl in
+      let book = firstNo-no 9 false [] refl in
+      same-refused g img b r (addNumber img key bytes 1) _ (ask 9 false ∷ []) b (nine ∙ sym book)
+      (λ z. omega (arith, z, book))
 
   -- ---- mode 2
   retired : Reflects g (retire img o) (entered b key [] (held g img o) 0)
   retired =
-      reflect-entered g img (retire img o) key b r a (retire-change g img (r .file) key (slot g img i) a e₁) [] (held g img o) 0
+      let f : (at : ℕ) → at + 4 ≤ tableStart → field (retire img o) at ≡ field img at
+      = retire-field g img (r .file) key (slot g img i) a e₁ in
+      reflect-entered g img (retire img o) key b r a (retire-change g img (r .file) key (slot g img i) a e₁) []
+      (held g img o) 0
       (retire-point g img (r .file) key (slot g img i) a e₁)
-      (retire-field g img (r .file) key (slot g img i) a e₁ freeField (omega arith) ∙ sym (add-zero (field img freeField)))
-      (old-number _ refl ∙ sym (retire-field g img (r .file) key (slot g img i) a e₁ pointsField (omega arith)))
+      (f freeField (omega arith) ∙ sym (add-zero (field img freeField)))
+      (old-number _ refl ∙ sym (f pointsField (omega arith)))
 
-  in-place : (o ≡ 0 → ⊥) → length bytes < 256 ^ g .W → leastLength ≤ length bytes → length bytes ≤ held g img o
+  in-place : (o ≡ 0 → ⊥) → leastLength ≤ length bytes → length bytes ≤ held g img o
       → Reflects g (overwrite g img o bytes) (entered b key bytes (length bytes) 0)
-  in-place z s le hi =
+  in-place z le hi =
+      let f : (at : ℕ) → at + 4 ≤ tableStart → field (overwrite g img o bytes) at ≡ field img at
+      = overwrite-field g img (r .file) key (slot g img i) a e₁ z bytes le hi in
       reflect-entered g img (overwrite g img o bytes) key b r a
-      (overwrite-change g img (r .file) key (slot g img i) a e₁ z bytes s le hi) bytes (length bytes) 0
-      (overwrite-point g img (r .file) key (slot g img i) a e₁ z bytes s le hi)
-      (overwrite-field g img (r .file) key (slot g img i) a e₁ z bytes s le hi freeField (omega arith) ∙ sym (add-zero (field img freeField)))
-      (old-number _ refl ∙ sym (overwrite-field g img (r .file) key (slot g img i) a e₁ z bytes s le hi pointsField (omega arith)))
-
-  -- a message lies in the image, which is shorter than the longest length
-  held-small : (o ≡ 0 → ⊥) → length bytes ≤ held g img o → length bytes < 256 ^ g .W
-  unfolding layoutOf
-  held-small z hi =
-      let l = sound-lies g img o (met-sound g img b r key a i m) z in
-      subst (λ (w : ℕ). length bytes < 256 ^ w) (ap (λ (y : Layout). y .W) (r .file .layout))
-      (omega (arith, held-some g img o z, hi, l .low, l .end, file-above (r .file), r .file .opened .free-high, r .file .opened .size-high))
-
-  held-zero : o ≡ 0 → held g img o ≡ 0
-  unfolding held
-  held-zero z = rw z refl
+      (overwrite-change g img (r .file) key (slot g img i) a e₁ z bytes le hi) bytes (length bytes) 0
+      (overwrite-point g img (r .file) key (slot g img i) a e₁ z bytes le hi)
+      (f freeField (omega arith) ∙ sym (add-zero (field img freeField)))
+      (old-number _ refl ∙ sym (f pointsField (omega arith)))
 
   same-2 : Same g (add img key bytes 2) (addPresent b (valueOf g img key o) bytes 2)
-  unfolding addPresent replace
+  unfolding addPresent replace modeKnown
   same-2 =
       by-eq (length bytes) 0
       (λ z.
       rw (eq-eqb (length bytes) 0 z)
-      (same-in-place 2 (retire img o) _ (unfold modeKnown in refl) refl
-      (unfold renewedText in rw (le-leb (length bytes) (held g img o) (omega arith)) refl)
-      (unfold renewed in rw (eq-eqb (length bytes) 0 z) refl)
-      retired))
+      (same-in-place 2 (retire img o) _ refl refl
+      (replaced-none g img i o key bytes (omega arith)) (replaced-retired g img i o key bytes z) retired))
       (λ z.
       rw (ne-eqb (length bytes) 0 z)
       (by-le (length bytes) (held g img o)
       (λ l.
       rw (le-leb (length bytes) (held g img o) l)
-      (same-in-place 2 (overwrite g img o bytes) _ (unfold modeKnown in refl) refl
-      (unfold renewedText in rw (le-leb (length bytes) (held g img o) l) refl)
-      (unfold renewed in rw (ne-eqb (length bytes) 0 z) refl)
-      (in-place (λ q. z (omega (arith, l, held-zero q))) (held-small (λ q. z (omega (arith, l, held-zero q))) l) (omega arith) l)))
+      (same-in-place 2 (overwrite g img o bytes) _ refl refl
+      (replaced-none g img i o key bytes l) (replaced-over g img i o key bytes z l)
+      (in-place (λ q. z (omega (arith, l, held-none g img o q))) (omega arith) l)))
       (λ l.
       rw (lt-leb (length bytes) (held g img o) l)
-      (same-placed 2 bytes (unfold modeKnown in refl) refl
-      (unfold renewedText in rw (lt-leb (length bytes) (held g img o) l) refl)
-      (omega arith)))))
+      (same-placed 2 bytes refl refl (replaced-some g img i o key bytes l) (omega arith)))))
 
   -- ---- mode 3
   same-3 : Same g (add img key bytes 3) (addPresent b (valueOf g img key o) bytes 3)
-  unfolding addPresent append
+  unfolding addPresent append modeKnown
   same-3 =
       by-eq (length bytes) 0
       (λ z.
       rw (eq-eqb (length bytes) 0 z)
-      (same-in-place 3 img b (unfold modeKnown in refl) refl
-      (unfold renewedText in rw (eq-eqb (length bytes) 0 z) refl)
-      (unfold renewed in refl)
-      r))
+      (same-in-place 3 img b refl refl (appended-none g img i o key bytes z) (appended-same g img i o key bytes z) r))
       (λ z.
       rw (ne-eqb (length bytes) 0 z)
-      (same-placed 3 (shown g img o ++ bytes) (unfold modeKnown in refl) refl
-      (unfold renewedText in rw (ne-eqb (length bytes) 0 z) refl)
+      (same-placed 3 (shown g img o ++ bytes) refl refl (appended-some g img i o key bytes z)
       (rw (length-append (shown g img o) bytes) (omega arith))))
 
-  -- the mode is one of three
-  by-mode {ℓ} : {A : Type ℓ} (mode : ℕ) → modeKnown mode ≡ true → (mode ≡ 1 → A) → (mode ≡ 2 → A) → (mode ≡ 3 → A) → A
-  unfolding modeKnown
-  by-mode mode k one two three =
-      let lo : 1 ≤ mode = leb-true 1 mode (and-left (leb 1 mode) (leb mode 3) k) in
-      let hi : mode ≤ 3 = leb-true mode 3 (and-right (leb 1 mode) (leb mode 3) k) in
-      by-eq mode 1 one (λ n₁. by-eq mode 2 two (λ n₂. three (omega arith)))
-
-  pub same-present : (mode : ℕ) → modeKnown mode ≡ true → Same g (add img key bytes mode) (addFound b key bytes mode (find key (b .entries)))
+  pub same-present : (mode : ℕ) → modeKnown mode ≡ true
+      → Same g (add img key bytes mode) (addFound b key bytes mode (find key (b .entries)))
   unfolding addFound
   same-present mode k =
-      rw found
-      (by-mode mode k
-      (λ q. rw q same-1)
-      (λ q. rw q same-2)
-      (λ q. rw q same-3))
+      rw found (by-mode mode k (λ q. rw q same-1) (λ q. rw q same-2) (λ q. rw q same-3))

@@ -1,5 +1,5 @@
 -- The book and the file say the same: the relation that every call keeps.
---     Reflects g img b      the file img, of layout g, holds what the book b says
+--     Reflects g img b      the file img, of layout g, holds what the book b says; Reflected img b: of some layout
 --     reflect-entered, reflect-without      kept by a change to one point
 -- Assumes nothing.
 use mathlib.Core.Path.{_≡_, sym, ap, _∙_}
@@ -18,7 +18,7 @@ use Rattle.bhtf.specs.Book.{Entry, Terms, Book, find, without, withEntry, enter
 use Rattle.bhtf.proofs.Tests.{not-both}
 use Rattle.bhtf.proofs.Bytes.{by-same}
 use Rattle.agreement.proofs.File.{Allowed, pointOf, File, Change, file-change, point-other}
-use Rattle.agreement.proofs.Entries.{Distinct, find-without-other, find-without-same, distinct-without, find-withEntry, find-withEntry-other, distinct-withEntry}
+use Rattle.agreement.proofs.Entries.{Distinct, removed, find-without-other, find-without-same, distinct-without, find-withEntry, find-withEntry-other, distinct-withEntry}
 
 -- the book's terms of a file of L bytes
 abbrev pub termsFor : Layout → ℕ → Terms
@@ -33,12 +33,17 @@ pub record Reflects (g : Layout) (img : Bytes) (b : Book) : Type 0 where
   pub others : (name : Bytes) → nameAllowed (g .K) name ≡ false → find name (b .entries) ≡ none
   pub distinct : Distinct (b .entries)
 
+-- in some layout: a call may change it within a list
+abbrev pub Reflected : Bytes → Book → Type 0
+Reflected img b = (g : Layout) × Reflects g img b
+
 -- a name that is not allowed is not one that is
 pub other-name : (g : Layout) (key name : Bytes) → Allowed g key → nameAllowed (g .K) name ≡ false → name ≡ key → ⊥
 other-name g key name a h q = not-both (nameAllowed (g .K) name) (rw q a) h
 
-module _ (g : Layout) (img img′ key : Bytes) (b : Book) (r : Reflects g img b) (a : Allowed g key) (c : Change g img img′ key) where
-  -- the book with other entries and another amount used, which tell the point as the file does and every other as before
+module _ (g : Layout) (img img′ key : Bytes) (b : Book) (r : Reflects g img b) (a : Allowed g key)
+    (c : Change g img img′ key) where
+  -- the book with other entries, which tell the point as the file does and others as before, and another amount used
   reflect-change : (es : List Entry) (u : ℕ) → pointOf g img′ key ≡ find key es
       → ((name : Bytes) → (name ≡ key → ⊥) → find name es ≡ find name (b .entries)) → Distinct es
       → field img′ freeField ≡ g .D + u → length es ≡ field img′ pointsField
@@ -68,12 +73,14 @@ module _ (g : Layout) (img img′ key : Bytes) (b : Book) (r : Reflects g img b)
   reflect-entered text held more p x n =
       let new : Entry = record { name = key; text = text; held = held } in
       reflect-change (withEntry new (b .entries)) (b .used + more) (p ∙ sym (find-withEntry new (b .entries)))
-      (find-withEntry-other new (b .entries)) (distinct-withEntry new (b .entries) (r .distinct)) (omega (arith, x, r .used)) n
+      (find-withEntry-other new (b .entries)) (distinct-withEntry new (b .entries) (r .distinct))
+      (omega (arith, x, r .used)) n
 
   -- the point is gone
   pub reflect-without : pointOf g img′ key ≡ none → field img′ freeField ≡ field img freeField
       → length (without key (b .entries)) ≡ field img′ pointsField
-      → Reflects g img′ (record { terms = b .terms; entries = without key (b .entries); used = b .used })
+      → Reflects g img′ (removed key b)
   reflect-without p x n =
       reflect-change (without key (b .entries)) (b .used) (p ∙ sym (find-without-same key (b .entries) (r .distinct)))
-      (λ name q. find-without-other key name (b .entries) q) (distinct-without key (b .entries) (r .distinct)) (x ∙ r .used) n
+      (λ name q. find-without-other key name (b .entries) q) (distinct-without key (b .entries) (r .distinct))
+      (x ∙ r .used) n

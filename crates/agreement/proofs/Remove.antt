@@ -13,21 +13,21 @@ use Rattle.bhtf.specs.Image.{field, setField, Layout, slot, keyOf, vacant}
 use Rattle.bhtf.specs.Delete.{closed}
 use Rattle.bhtf.specs.Search.{search, met}
 use Rattle.bhtf.proofs.Slots.{Room, slot-setField}
-use Rattle.bhtf.proofs.Kept.{Kept, kept-trans}
+use Rattle.bhtf.proofs.Kept.{Kept, kept-trans, kept-known}
 use Rattle.bhtf.proofs.Effects.{points-kept, points-is, points-free, points-behind}
-use Rattle.bhtf.proofs.Table.{Sound, Taken, keyAt, entryOf, weight}
-use Rattle.bhtf.proofs.Probe.{search-met, met-taken}
+use Rattle.bhtf.proofs.Table.{Findable, Taken, keyAt, entryOf, weight}
+use Rattle.bhtf.proofs.Probe.{search-met, met-taken, entryOf-frame}
 use Rattle.bhtf.proofs.Insert.{Stands, entry-absent, same-entries, weight-frame}
 use Rattle.bhtf.proofs.Frames.{part-closed, kept-closed, field-closed, weight-closed, stands-closed}
-use Rattle.bhtf.proofs.Delete.{sound-closed, gone-closed}
+use Rattle.bhtf.proofs.Delete.{findable-closed, gone-closed}
 use Rattle.bhtf.proofs.Stretch.{sound-lies, SameOn}
-use Rattle.agreement.proofs.Data.{frame-entry, frame-sound, file-above}
+use Rattle.agreement.proofs.Data.{frame-findable, file-above}
 use Rattle.agreement.proofs.File.{Allowed, allowed-zero, pointOf, pointOf-none, File, file-slots, file-room, file-some, Change}
 
 -- ---- a point gone
 
-module _ (g : Layout) (img : Bytes) (f : File g img) (key : Bytes) (a : Allowed g key) (i : ℕ) (m : search g img key ≡ met i)
-    (some-point : 1 ≤ field img pointsField) where
+module _ (g : Layout) (img : Bytes) (f : File g img) (key : Bytes) (a : Allowed g key) (i : ℕ)
+    (m : search g img key ≡ met i) (some-point : 1 ≤ field img pointsField) where
   fewer : Bytes
   fewer = setField img pointsField (field img pointsField - 1)
 
@@ -51,8 +51,8 @@ module _ (g : Layout) (img : Bytes) (f : File g img) (key : Bytes) (a : Allowed 
   unfolding fewer
   fewer-slot k h = slot-setField g img (file-room f) pointsField (field img pointsField - 1) k (omega arith) h
 
-  sound-fewer : Sound g fewer
-  sound-fewer = frame-sound g img fewer (file-some f) fewer-slot (f .table)
+  findable-fewer : Findable g fewer
+  findable-fewer = frame-findable g img fewer (file-some f) fewer-slot (f .table)
 
   taken₁ : Taken g fewer i
   taken₁ = ap (vacant g) (fewer-slot i lt₁) ∙ met-taken g img key (file-some f) i (allowed-zero g key a) m
@@ -60,13 +60,13 @@ module _ (g : Layout) (img : Bytes) (f : File g img) (key : Bytes) (a : Allowed 
   key₁ : keyAt g fewer i ≡ key
   key₁ = ap (keyOf g) (fewer-slot i lt₁) ∙ search-met g img key (file-some f) i m .1
 
-  sound-gone : Sound g gone
+  findable-gone : Findable g gone
   unfolding gone
-  sound-gone = sound-closed g fewer room-fewer i lt₁ sound-fewer
+  findable-gone = findable-closed g fewer room-fewer i lt₁ findable-fewer
 
   gone-key : (k : ℕ) → k < g .N → Taken g gone k → keyAt g gone k ≡ key → ⊥
   unfolding gone
-  gone-key k h t e = gone-closed g fewer room-fewer i lt₁ sound-fewer taken₁ k h t (e ∙ sym key₁)
+  gone-key k h t e = gone-closed g fewer room-fewer i lt₁ findable-fewer taken₁ k h t (e ∙ sym key₁)
 
   gone-others : (s : Bytes) → (keyOf g s ≡ key → ⊥) → Stands g fewer s ↔ Stands g gone s
   unfolding gone
@@ -77,9 +77,9 @@ module _ (g : Layout) (img : Bytes) (f : File g img) (key : Bytes) (a : Allowed 
 
   remove-other : (key′ : Bytes) → Allowed g key′ → (key′ ≡ key → ⊥) → entryOf g gone key′ ≡ entryOf g img key′
   remove-other key′ a′ n =
-      same-entries g fewer gone key′ (file-some f) sound-fewer sound-gone (allowed-zero g key′ a′)
+      same-entries g fewer gone key′ (file-some f) findable-fewer findable-gone (allowed-zero g key′ a′)
       (λ s k. gone-others s (λ q. n (sym k ∙ q)))
-      ∙ frame-entry g img fewer (file-some f) fewer-slot key′
+      ∙ entryOf-frame g img fewer key′ (file-some f) fewer-slot
 
   remove-kept : Kept img gone
   unfolding gone
@@ -110,19 +110,25 @@ module _ (g : Layout) (img : Bytes) (f : File g img) (key : Bytes) (a : Allowed 
   unfolding gone
   gone-counted =
       gone-points
-      ∙ omega (arith, f .counted, weight-closed g fewer room-fewer i lt₁ taken₁ (λ s. 1), weight-frame g img fewer (λ s. 1) fewer-slot)
+      ∙ omega (
+        arith,
+        f .counted,
+        weight-closed g fewer room-fewer i lt₁ taken₁ (λ s. 1),
+        weight-frame g img fewer (λ s. 1) fewer-slot,
+      )
 
   remove-change′ : Change g img gone key
   remove-change′ =
       record {
         kept = remove-kept;
+        known = kept-known remove-kept (f .opened);
         free-low = rw gone-free (omega arith);
         free-high = rw gone-free (f .opened .free-high);
         points = rw gone-points (omega (arith, f .opened .points, file-slots f));
-        sound = sound-gone;
+        table = findable-gone;
         counted = gone-counted;
         others = remove-other;
-        still = λ key′ s a′ n e′ z. remove-same _ _ (sound-lies g img _ (f .messages key′ s a′ e′) z .low);
+        still = λ key′ s a′ n e′ z. remove-same _ _ (sound-lies g img _ (f .messages key′ s a′ e′ .sound) z .low);
         here = λ s a₁ e₁. absurd (Option·none-ne-some s (sym remove-entry ∙ e₁));
         here-apart = λ s key′ s′ a₁ a′ n e₁ e′ z z′. absurd (Option·none-ne-some s (sym remove-entry ∙ e₁));
       }
@@ -135,10 +141,12 @@ module _ (g : Layout) (img : Bytes) (f : File g img) (key : Bytes) (a : Allowed 
   unfolding gone fewer
   remove-point = pointOf-none g gone key remove-entry
 
-  pub remove-points : field (closed g (setField img pointsField (field img pointsField - 1)) i) pointsField ≡ field img pointsField - 1
+  pub remove-points : field (closed g (setField img pointsField (field img pointsField - 1)) i) pointsField
+      ≡ field img pointsField - 1
   unfolding gone fewer
   remove-points = gone-points
 
-  pub remove-free : field (closed g (setField img pointsField (field img pointsField - 1)) i) freeField ≡ field img freeField
+  pub remove-free : field (closed g (setField img pointsField (field img pointsField - 1)) i) freeField
+      ≡ field img freeField
   unfolding gone fewer
   remove-free = gone-free

@@ -17,14 +17,14 @@ use Rattle.bhtf.specs.Image.{field, Layout, layoutOf, offsetOf, slot}
 use Rattle.bhtf.specs.Messages.{headSize, letterAt, lengthAt, isActive, shown, held, retire}
 use Rattle.bhtf.specs.Questions.{messageSound}
 use Rattle.bhtf.proofs.Tests.{by-eq}
-use Rattle.bhtf.proofs.Bytes.{Apart, part-store-same}
+use Rattle.bhtf.proofs.Bytes.{Apart, apart-sym, apart-inside, part-store-same}
 use Rattle.bhtf.proofs.Effects
 use Rattle.bhtf.proofs.Effects.{active-some, by-retire, retire-kept, retire-behind}
 use Rattle.bhtf.proofs.Table.{entryOf}
 use Rattle.bhtf.proofs.Probe.{entryOf-frame}
-use Rattle.bhtf.proofs.Stretch.{size, Lies, lies-sound, none-sound, SameOn, same-on-refl, same-on-store}
-use Rattle.agreement.proofs.Data.{apart-shrink, point-change, point-lies}
-use Rattle.agreement.proofs.File.{Allowed, pointOf, pointOf-some, File, file-some, Change, apart-sym}
+use Rattle.bhtf.proofs.Stretch.{span, Lies, lies-sound, none-sound, SameOn, same-on-refl, same-on-store}
+use Rattle.agreement.proofs.Data.{point-change, point-lies}
+use Rattle.agreement.proofs.File.{Allowed, pointOf, pointOf-some, File, file-some, Change}
 
 -- ---- retire
 
@@ -33,7 +33,8 @@ unfolding shown
 shown-inactive g img o h = rw h refl
 
 -- what retire leaves of a point with message offset o: no text, the length held as before
-module _ (g : Layout) (img : Bytes) (f : File g img) (key s : Bytes) (a : Allowed g key) (e : entryOf g img key ≡ some s) where
+module _ (g : Layout) (img : Bytes) (f : File g img) (key s : Bytes) (a : Allowed g key)
+    (e : entryOf g img key ≡ some s) where
   abbrev o : ℕ
   o = offsetOf g s
 
@@ -42,7 +43,7 @@ module _ (g : Layout) (img : Bytes) (f : File g img) (key s : Bytes) (a : Allowe
 
   -- question 11, as the image's own layout has it
   sound₁ : messageSound (layoutOf img) img o ≡ true
-  sound₁ = rw (f .layout) (f .messages key s a e)
+  sound₁ = rw (f .layout) (f .messages key s a e .sound)
 
   pub retire-slot : (k : ℕ) → k < g .N → slot g off k ≡ slot g img k
   retire-slot k l = rw (f .layout) at (Effects.retire-slot img (f .opened) o sound₁ k (rw (f .layout) l))
@@ -80,7 +81,8 @@ module _ (g : Layout) (img : Bytes) (f : File g img) (key s : Bytes) (a : Allowe
 
   pub retire-change : Change g img off key
   retire-change =
-      point-change g img off f (retire-kept img (f .opened) o sound₁) retire-slot (retire-field pointsField (omega arith))
+      point-change g img off f (retire-kept img (f .opened) o sound₁) retire-slot
+      (retire-field pointsField (omega arith))
       (rw (retire-field freeField (omega arith)) (omega arith))
       (rw (retire-field freeField (omega arith)) (f .opened .free-high))
       key s a e
@@ -91,8 +93,11 @@ module _ (g : Layout) (img : Bytes) (f : File g img) (key s : Bytes) (a : Allowe
       (by-eq o 0 (λ z. rw z (none-sound g (retire img 0))) (λ z. lies-sound g off o (off-lies z)))
       (rw off-length (omega arith))
     where
-      letter-apart : (p n : ℕ) → Apart p n o (size g img o) → Apart p n o 1
-      letter-apart p n h = apart-sym o 1 p n (apart-shrink o 1 (size g img o) p n (unfold headSize in omega arith) (apart-sym p n o _ h))
+      letter-apart : (p n : ℕ) → Apart p n o (span g img o) → Apart p n o 1
+      letter-apart p n h =
+          apart-sym o 1 p n
+          (apart-inside o (span g img o) p n o 1 (omega arith) (unfold headSize in omega arith)
+          (apart-sym p n o (span g img o) h))
 
   pub retire-point : pointOf g off key ≡ some (record { name = key; text = []; held = held g img o })
   unfolding held

@@ -1,5 +1,6 @@
 -- Count, lookup and delete: the file's answer is the book's, and the relation is kept.
---     Same g o p      an outcome of the file and one of the book: equal answers, and states that reflect one another
+--     Same g o p      an outcome of the file and one of the book: equal answers, and states that are in `Reflects g`
+--     Alike o p       so in some layout
 -- Assumes nothing.
 use mathlib.Core.Path.{_≡_, refl, sym, ap, _∙_, subst}
 use Prim.Native.Nat.{ℕ, suc, _-_, _≤_}
@@ -17,7 +18,7 @@ use Rattle.bhtf.specs.Messages.{shown, retire}
 use Rattle.bhtf.specs.Delete.{closed, deleted, deletedAt}
 use Rattle.bhtf.specs.Questions.{Question, ask, firstNo, nameAllowed, messageSound, somePoint, openNumber, lookupNumber, deleteNumber}
 use Rattle.bhtf.specs.Calls.{Outcome, plain, settled, delete, lookup, count, countOf}
-use Rattle.bhtf.specs.Book.{Book, find, without, stepOf, guarded, bookDelete, deleteFound, bookLookup, lookupFound, bookCount}
+use Rattle.bhtf.specs.Book.{Terms, Book, find, without, stepOf, guarded, bookDelete, deleteFound, bookLookup, lookupFound, bookCount}
 use Rattle.bhtf.proofs.Tests.{by-bool, not-both}
 use Rattle.bhtf.proofs.Opened.{firstNo-none, firstNo-yes, firstNo-no, facts-opened}
 use Rattle.bhtf.proofs.Outcomes.{settled-yes, settled-no, lookup-7, lookup-14, lookup-shows, lookup-refused, delete-7, delete-14, delete-0}
@@ -27,12 +28,15 @@ use Rattle.bhtf.proofs.Insert.{entry-met, entry-empty, entry-exhausted}
 use Rattle.agreement.proofs.File.{Allowed, valueOf, pointOf-some, pointOf-none, File, file-some, Change, file-change, change-trans}
 use Rattle.agreement.proofs.Retire.{retire-change, retire-slot, retire-field}
 use Rattle.agreement.proofs.Remove.{remove-change, remove-point, remove-points, remove-free}
-use Rattle.agreement.proofs.Entries.{length-without}
+use Rattle.agreement.proofs.Entries.{removed, length-without}
 use Rattle.agreement.proofs.Reflect.{Reflects, reflect-without}
 
 pub record Same (g : Layout) (o : Outcome Bytes) (p : Outcome Book) : Type 0 where
   pub answer : o .answer ≡ p .answer
   pub after : Reflects g (o .after) (p .after)
+
+abbrev pub Alike : Outcome Bytes → Outcome Book → Type 0
+Alike o p = (g : Layout) × Same g o p
 
 -- ---- outcomes by their numbers
 
@@ -40,11 +44,13 @@ pub guarded-yes : (b : Book) (asks : List Question) (s : Outcome Book) → first
 unfolding guarded
 guarded-yes b asks s h = rw h refl
 
-pub guarded-no : (b : Book) (asks : List Question) (s : Outcome Book) → (firstNo asks ≡ 0 → ⊥) → guarded b asks s ≡ stepOf b asks b
+pub guarded-no : (b : Book) (asks : List Question) (s : Outcome Book) → (firstNo asks ≡ 0 → ⊥)
+    → guarded b asks s ≡ stepOf b asks b
 unfolding guarded
 guarded-no b asks s h = rw (ne-eqb (firstNo asks) 0 h) refl
 
-module _ (g : Layout) (img : Bytes) (b : Book) (r : Reflects g img b) (n : ℕ) (x : Bytes) (asks : List Question) (y : Book) where
+module _ (g : Layout) (img : Bytes) (b : Book) (r : Reflects g img b) (n : ℕ) (x : Bytes) (asks : List Question)
+    (y : Book) where
   pub same-refused : n ≡ firstNo asks → (firstNo asks ≡ 0 → ⊥)
       → Same g (record { after = settled n img x; answer = plain n }) (stepOf b asks y)
   unfolding stepOf
@@ -62,13 +68,14 @@ module _ (g : Layout) (img : Bytes) (b : Book) (r : Reflects g img b) (n : ℕ) 
 
 -- ---- a point that is met, or absent
 
-module _ (g : Layout) (img : Bytes) (b : Book) (r : Reflects g img b) (key : Bytes) where
+module _ {g : Layout} {img : Bytes} {b : Book} (r : Reflects g img b) where
   pub book-key : b .terms .K ≡ g .K
-  book-key = ap (λ (t : Rattle.bhtf.specs.Book.Terms). t .K) (r .terms)
+  book-key = ap (λ (t : Terms). t .K) (r .terms)
 
   pub open₀ : openNumber img ≡ 0
   open₀ = facts-opened img (r .file .opened)
 
+module _ (g : Layout) (img : Bytes) (b : Book) (r : Reflects g img b) (key : Bytes) where
   pub found-met : Allowed g key → (i : ℕ) → search g img key ≡ met i
       → find key (b .entries) ≡ some (valueOf g img key (offsetOf g (slot g img i)))
   found-met a i m =
@@ -84,8 +91,9 @@ module _ (g : Layout) (img : Bytes) (b : Book) (r : Reflects g img b) (key : Byt
       (λ i m. entry-empty g img key i m)
       (λ m. entry-exhausted g img key m))
 
-  pub met-sound : Allowed g key → (i : ℕ) → search g img key ≡ met i → messageSound g img (offsetOf g (slot g img i)) ≡ true
-  met-sound a i m = r .file .messages key (slot g img i) a (entry-met g img key i m)
+  pub met-sound : Allowed g key → (i : ℕ) → search g img key ≡ met i
+      → messageSound g img (offsetOf g (slot g img i)) ≡ true
+  met-sound a i m = r .file .messages key (slot g img i) a (entry-met g img key i m) .sound
 
   -- a search either meets the key or does not
   pub by-met {ℓ} : {A : Type ℓ} → ((i : ℕ) → search g img key ≡ met i → A) → (isMet (search g img key) ≡ false → A) → A
@@ -99,26 +107,41 @@ pub same-count : (g : Layout) (img : Bytes) (b : Book) → Reflects g img b → 
 unfolding count countOf bookCount
 same-count g img b r =
     record {
-      answer = rw (open₀ g img b r [], r .number) refl;
+      answer = rw (open₀ r, r .number) refl;
       after = r;
     }
+
+-- ---- the book's questions 7 and 14
+
+abbrev asks-7 : Book → Bytes → List Question
+asks-7 b key = ask 7 (nameAllowed (b .terms .K) key) ∷ []
+
+module _ {g : Layout} {img : Bytes} {b : Book} (r : Reflects g img b) (key : Bytes) where
+  book-7 : nameAllowed (g .K) key ≡ false → firstNo (asks-7 b key) ≡ 7
+  book-7 h = rw (book-key r) (firstNo-no 7 _ [] h)
+
+  book-named : Allowed g key → firstNo (asks-7 b key) ≡ 0
+  book-named a = rw (book-key r) (firstNo-yes 7 _ [] a ∙ firstNo-none)
+
+  book-7-no : nameAllowed (g .K) key ≡ false → firstNo (asks-7 b key) ≡ 0 → ⊥
+  book-7-no h z = omega (arith, z, book-7 h)
+
+book-14 : firstNo (ask 14 false ∷ []) ≡ 14
+book-14 = firstNo-no 14 false [] refl
+
+book-14-no : firstNo (ask 14 false ∷ []) ≡ 0 → ⊥
+book-14-no z = omega (arith, z, book-14)
 
 -- ---- lookup
 
 module _ (g : Layout) (img : Bytes) (b : Book) (r : Reflects g img b) (key : Bytes) where
-  pub lookup-is : (a : Allowed g key) (i : ℕ) → search g img key ≡ met i → lookup img key .answer
-      ≡ record { number = 0; amount = length (shown g img (offsetOf g (slot g img i))); text = shown g img (offsetOf g (slot g img i)) }
+  pub lookup-is : (a : Allowed g key) (i : ℕ) → search g img key ≡ met i
+      → let t : Bytes = shown g img (offsetOf g (slot g img i)) in
+      lookup img key .answer ≡ record { number = 0; amount = length t; text = t }
   lookup-is a i m =
       rw (r .file .layout) at
-      (lookup-shows img key (open₀ g img b r key) (rw (r .file .layout) a) i (rw (r .file .layout) m)
+      (lookup-shows img key (open₀ r) (rw (r .file .layout) a) i (rw (r .file .layout) m)
       (rw (r .file .layout) (met-sound g img b r key a i m)))
-
-  -- the book's side
-  book-name : nameAllowed (g .K) key ≡ false → firstNo (ask 7 (nameAllowed (b .terms .K) key) ∷ []) ≡ 7
-  book-name h = rw (book-key g img b r key) (firstNo-no 7 _ [] h)
-
-  book-named : Allowed g key → firstNo (ask 7 (nameAllowed (b .terms .K) key) ∷ []) ≡ 0
-  book-named a = rw (book-key g img b r key) (firstNo-yes 7 _ [] a ∙ firstNo-none)
 
   -- both refuse with the same number
   lookup-both : (asks : List Question) (y : Book) → lookupNumber img key ≡ firstNo asks → (firstNo asks ≡ 0 → ⊥)
@@ -130,26 +153,23 @@ module _ (g : Layout) (img : Bytes) (b : Book) (r : Reflects g img b) (key : Byt
         after = rw (ne-eqb (firstNo asks) 0 z) r;
       }
 
-  seven : (n : ℕ) → n ≡ 7 → n ≡ 0 → ⊥
-  seven n e z = omega arith
-
-  absent-number : firstNo (ask 14 false ∷ []) ≡ 14
-  absent-number = firstNo-no 14 false [] refl
-
   pub same-lookup : Same g (lookup img key) (bookLookup b key)
   unfolding bookLookup
   same-lookup =
+      let found = find key (b .entries) in
       by-bool (nameAllowed (g .K) key)
-      (λ a. rw (guarded-yes b _ (lookupFound b (find key (b .entries))) (book-named a)) (by-met g img b r key
+      (λ a. rw (guarded-yes b _ (lookupFound b found) (book-named r key a)) (by-met g img b r key
       (λ i m.
       rw (found-met g img b r key a i m)
       (record { answer = unfold lookupFound in lookup-is a i m; after = unfold lookup lookupFound in r }))
       (λ h.
+      let absent = lookup-14 img key (open₀ r) (rw (r .file .layout) a) (rw (r .file .layout) h) in
       rw (found-none g img b r key a h)
-      (unfold lookupFound in lookup-both (ask 14 false ∷ []) b (lookup-14 img key (open₀ g img b r key) (rw (r .file .layout) a) (rw (r .file .layout) h) ∙ sym absent-number) (λ z. omega (arith, z, absent-number))))))
+      (unfold lookupFound in lookup-both (ask 14 false ∷ []) b (absent ∙ sym book-14) book-14-no))))
       (λ h.
-      rw (guarded-no b _ (lookupFound b (find key (b .entries))) (seven _ (book-name h)))
-      (lookup-both _ b (lookup-7 img key (open₀ g img b r key) (rw (r .file .layout) h) ∙ sym (book-name h)) (seven _ (book-name h))))
+      let refused = lookup-7 img key (open₀ r) (rw (r .file .layout) h) in
+      rw (guarded-no b _ (lookupFound b found) (book-7-no r key h))
+      (lookup-both _ b (refused ∙ sym (book-7 r key h)) (book-7-no r key h)))
 
 -- ---- delete
 
@@ -170,7 +190,7 @@ module _ (g : Layout) (img : Bytes) (b : Book) (r : Reflects g img b) (key : Byt
 
     delete-met : deleteNumber img key ≡ 0
     delete-met =
-        delete-0 img key (open₀ g img b r key) (rw (r .file .layout) a) i (rw (r .file .layout) m)
+        delete-0 img key (open₀ r) (rw (r .file .layout) a) i (rw (r .file .layout) m)
         (rw (r .file .layout) (met-sound g img b r key a i m))
         (unfold somePoint in le-leb 1 (field img pointsField) (omega (arith, one-less)))
 
@@ -190,12 +210,10 @@ module _ (g : Layout) (img : Bytes) (b : Book) (r : Reflects g img b) (key : Byt
     off-some = rw off-points (omega (arith, one-less))
 
     -- the message made inactive, then the point gone
-    gone : Reflects g (deletedAt g img i) (record { terms = b .terms; entries = without key (b .entries); used = b .used })
+    gone : Reflects g (deletedAt g img i) (removed key b)
     unfolding deletedAt
     gone =
-        subst
-        (λ (n : ℕ). Reflects g (closed g (setField off pointsField (n - 1)) i) (record { terms = b .terms; entries = without key (b .entries); used = b .used }))
-        off-points
+        subst (λ (n : ℕ). Reflects g (closed g (setField off pointsField (n - 1)) i) (removed key b)) off-points
         (reflect-without g img (closed g (setField off pointsField (field off pointsField - 1)) i) key b r a
         (change-trans g img off _ key off-change (remove-change g off off-file key a i off-met off-some))
         (remove-point g off off-file key a i off-met off-some)
@@ -206,16 +224,19 @@ module _ (g : Layout) (img : Bytes) (b : Book) (r : Reflects g img b) (key : Byt
   pub same-delete : Same g (delete img key) (bookDelete b key)
   unfolding delete bookDelete
   same-delete =
+      let n = deleteNumber img key in
+      let found = find key (b .entries) in
       by-bool (nameAllowed (g .K) key)
-      (λ a. rw (guarded-yes b _ (deleteFound b key (find key (b .entries))) (book-named g img b r key a)) (by-met g img b r key
+      (λ a. rw (guarded-yes b _ (deleteFound b key found) (book-named r key a)) (by-met g img b r key
       (λ i m.
       rw (found-met g img b r key a i m)
       (unfold deleteFound deleted in
-      same-accepted g img b r (deleteNumber img key) _ [] _ (delete-met a i m) firstNo-none (rw (r .file .layout, m) (gone a i m))))
+      same-accepted g img b r n _ [] _ (delete-met a i m) firstNo-none (rw (r .file .layout, m) (gone a i m))))
       (λ h.
+      let absent = delete-14 img key (open₀ r) (rw (r .file .layout) a) (rw (r .file .layout) h) in
       rw (found-none g img b r key a h)
-      (unfold deleteFound in
-      same-refused g img b r (deleteNumber img key) _ (ask 14 false ∷ []) b (delete-14 img key (open₀ g img b r key) (rw (r .file .layout) a) (rw (r .file .layout) h) ∙ sym (absent-number g img b r key)) (λ z. omega (arith, z, absent-number g img b r key))))))
+      (unfold deleteFound in same-refused g img b r n _ (ask 14 false ∷ []) b (absent ∙ sym book-14) book-14-no))))
       (λ h.
-      rw (guarded-no b _ (deleteFound b key (find key (b .entries))) (seven g img b r key _ (book-name g img b r key h)))
-      (same-refused g img b r (deleteNumber img key) _ _ b (delete-7 img key (open₀ g img b r key) (rw (r .file .layout) h) ∙ sym (book-name g img b r key h)) (seven g img b r key _ (book-name g img b r key h))))
+      let refused = delete-7 img key (open₀ r) (rw (r .file .layout) h) in
+      rw (guarded-no b _ (deleteFound b key found) (book-7-no r key h))
+      (same-refused g img b r n _ _ b (refused ∙ sym (book-7 r key h)) (book-7-no r key h)))

@@ -21,8 +21,9 @@ use Rattle.bhtf.specs.Messages.{headSize, letterAt, lengthAt, textAt, isActive,
 use Rattle.bhtf.proofs.Bytes.{Apart, part-part, length-digits, number-digits-fits}
 use Rattle.bhtf.proofs.Effects.{Spaced, spaced}
 use Rattle.bhtf.proofs.Table.{entryOf}
-use Rattle.bhtf.proofs.Stretch.{size, Lies, sound-lies, size-same}
-use Rattle.agreement.proofs.Data.{frame-entry, file-above, frame-change}
+use Rattle.bhtf.proofs.Probe.{entryOf-frame}
+use Rattle.bhtf.proofs.Stretch.{span, Lies, sound-lies, span-same}
+use Rattle.agreement.proofs.Data.{file-above, frame-change}
 use Rattle.agreement.proofs.File.{Allowed, not-allowed, valueOf, File, file-data, file-some, Change, file-change}
 
 -- ---- a message that was written
@@ -63,7 +64,8 @@ module _ (g : Layout) (img : Bytes) (p : ℕ) (t : Bytes) (w : Written g img p t
   unfolding shown held isActive
   written-value key = rw (w .letter, w .text, w .count, ne-eqb p 0 z) refl
 
-  pub written-lies : g .D ≤ p → leastLength ≤ length t → p + (headSize g + length t) ≤ field img freeField → Lies g img p
+  pub written-lies : g .D ≤ p → leastLength ≤ length t → p + (headSize g + length t) ≤ field img freeField
+      → Lies g img p
   written-lies lo le hi =
       record { low = lo; letter = rw (w .letter) refl; least = rw (w .count) le; end = rw (w .count) hi }
 
@@ -79,15 +81,15 @@ module _ (g : Layout) (img : Bytes) (f : File g img) (t : Bytes) (small : length
 
   -- other points' messages end at or below X
   below : (key s : Bytes) → Allowed g key → entryOf g img key ≡ some s → (offsetOf g s ≡ 0 → ⊥)
-      → offsetOf g s + size g img (offsetOf g s) ≤ field img freeField
-  below key s a e z = sound-lies g img (offsetOf g s) (f .messages key s a e) z .end
+      → offsetOf g s + span g img (offsetOf g s) ≤ field img freeField
+  below key s a e z = sound-lies g img (offsetOf g s) (f .messages key s a e .sound) z .end
 
   pub space-change : Change g img (takeSpace g img t) []
   space-change =
       frame-change g img (takeSpace g img t) f (space-is .kept) (space-is .slots) (space-is .points)
       (rw (space-is .free) (omega arith)) (rw (space-is .free) fits) []
       (λ key s a n e z.
-      let lo = sound-lies g img (offsetOf g s) (f .messages key s a e) z .low in
+      let lo = sound-lies g img (offsetOf g s) (f .messages key s a e .sound) z .low in
       let hi = below key s a e z in
       record { on = λ q m l h. space-is .below q m (omega arith) (omega arith) })
       (λ s a e. absurd (not-allowed f a))
@@ -109,8 +111,10 @@ module _ (g : Layout) (img : Bytes) (f : File g img) (t : Bytes) (small : length
 
   -- no point's message meets it
   pub space-away : (key s : Bytes) → Allowed g key → entryOf g (takeSpace g img t) key ≡ some s → (offsetOf g s ≡ 0 → ⊥)
-      → Apart (field img freeField) (size g (takeSpace g img t) (field img freeField)) (offsetOf g s) (size g (takeSpace g img t) (offsetOf g s))
+      → Apart (field img freeField) (span g (takeSpace g img t) (field img freeField)) (offsetOf g s)
+      (span g (takeSpace g img t) (offsetOf g s))
   space-away key s a e z =
-      let e′ : entryOf g img key ≡ some s = sym (frame-entry g img (takeSpace g img t) (file-some f) (space-is .slots) key) ∙ e in
+      let e′ : entryOf g img key ≡ some s =
+      sym (entryOf-frame g img (takeSpace g img t) key (file-some f) (space-is .slots)) ∙ e in
       let same-on = space-change .still key s a (λ q. not-allowed f (rw q at a)) e′ z in
-      inr (rw (size-same g img (takeSpace g img t) (offsetOf g s) same-on) (below key s a e′ z))
+      inr (rw (span-same g img (takeSpace g img t) (offsetOf g s) same-on) (below key s a e′ z))

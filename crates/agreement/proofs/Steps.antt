@@ -1,25 +1,28 @@
 -- What a step does to the book: nothing, or one entry is put in, or one is taken out.
 --     Given name text b b′     b′ is b with that text under the name
---     Added, book-add          what an add does, by cases; by-put, add-other, add-keeps: what they have in common
+--     Added, book-add          what an add does, by cases; by-put: what they have in common
 --     Deleted, book-delete     what a delete does, by cases
+--     Effect, call-effect      what any call does, in one list of all calls; effect-..: what follows from it
+--     NotAdding, NotDeleting   the calls that do not add, or delete, a point
 -- Assumes nothing.
 use mathlib.Core.Path.{_≡_, refl, sym, ap, _∙_}
 use Prim.Native.Nat.{ℕ, suc, _≤_}
 use native.Mathlib.Omega.{arith}
 use mathlib.Core.Bool.{false}
 use mathlib.Core.List.{List, [], _∷_, _++_}
-use mathlib.Core.Option.{Option, none, some}
+use mathlib.Core.Option.{Option, none, some, Option·none-ne-some}
 use lib.ListN.{length}
 use lib.Dec.{eqb}
 use borrow.Author.Tests.{eq-eqb, ne-eqb, le-leb, lt-leb}
 use Rattle.bhtf.specs.Bytes.{Bytes}
 use Rattle.bhtf.specs.Questions.{Question, ask, firstNo, nameAllowed}
-use Rattle.bhtf.specs.Calls.{Outcome, plain}
-use Rattle.bhtf.specs.Book.{Entry, Book, find, without, stepOf, guarded, entered, placed, addAbsent, replace, append, addPresent, addFound, bookAdd, deleteFound, bookDelete, lookupFound, bookLookup}
+use Rattle.bhtf.specs.Calls.{Outcome, plain, Call, adding, deleting, looking, counting}
+use Rattle.bhtf.specs.Book.{Entry, Book, find, stepOf, guarded, entered, placed, addAbsent, replace, append, addPresent, addFound, bookAdd, deleteFound, bookDelete, lookupFound, bookLookup, bookCount, bookStep}
 use Rattle.bhtf.specs.Demand.{bookText, textOf}
 use Rattle.bhtf.proofs.Tests.{by-bool, by-eq, by-le}
+use Rattle.bhtf.proofs.Bytes.{by-same}
 use Rattle.bhtf.proofs.Opened.{firstNo-none, firstNo-no}
-use Rattle.agreement.proofs.Entries.{find-same, find-without-other, find-withEntry, find-withEntry-other, length-withEntry-new, length-withEntry-old}
+use Rattle.agreement.proofs.Entries.{removed, find-same, find-without-other, find-withEntry, find-withEntry-other, length-withEntry-new, length-withEntry-old}
 
 -- ---- a text given to a name
 
@@ -61,10 +64,12 @@ module _ {name text : Bytes} {b b′ : Book} (w : Given name text b b′) where
 pub data Added (b : Book) (name bytes : Bytes) (mode : ℕ) (o : Outcome Book) : Type 0 where
   refused : (o .answer .number ≡ 0 → ⊥) → o .after ≡ b → Added b name bytes mode o
   fresh : find name (b .entries) ≡ none → Given name bytes b (o .after) → Added b name bytes mode o
-  replaced : (e : Entry) → find name (b .entries) ≡ some e → mode ≡ 2 → Given name bytes b (o .after) → Added b name bytes mode o
+  replaced : (e : Entry) → find name (b .entries) ≡ some e → mode ≡ 2 → Given name bytes b (o .after)
+      → Added b name bytes mode o
   appended : (e : Entry) → find name (b .entries) ≡ some e → (mode ≡ 1 → ⊥) → (mode ≡ 2 → ⊥)
       → Given name (e .text ++ bytes) b (o .after) → Added b name bytes mode o
-  unchanged : (e : Entry) → find name (b .entries) ≡ some e → (mode ≡ 1 → ⊥) → (mode ≡ 2 → ⊥) → bytes ≡ [] → o .after ≡ b
+  unchanged : (e : Entry) → find name (b .entries) ≡ some e → (mode ≡ 1 → ⊥) → (mode ≡ 2 → ⊥) → bytes ≡ []
+      → o .after ≡ b
       → Added b name bytes mode o
 
 no-bytes : (d : Bytes) → length d ≡ 0 → d ≡ []
@@ -89,7 +94,8 @@ module _ (b : Book) (name bytes : Bytes) (mode : ℕ) where
   step-refused n y z =
       rw (firstNo-no n false [] refl, ne-eqb n 0 z) (refused z refl)
 
-  gives : (text : Bytes) (h more : ℕ) (k : Bytes) (b′ : Book) → k ≡ name → b′ ≡ entered b k text h more → Given name text b b′
+  gives : (text : Bytes) (h more : ℕ) (k : Bytes) (b′ : Book) → k ≡ name → b′ ≡ entered b k text h more
+      → Given name text b b′
   gives text h more k b′ q e = record { held = h; more = more; is = e ∙ ap (λ (x : Bytes). entered b x text h more) q }
 
   add-new : find name (b .entries) ≡ none → Here (addAbsent b name bytes)
@@ -97,7 +103,8 @@ module _ (b : Book) (name bytes : Bytes) (mode : ℕ) where
   add-new n =
       by-eq (length bytes) 0
       (λ z. rw (eq-eqb (length bytes) 0 z)
-      (step-cases _ _ (λ e. fresh n (gives bytes 0 0 name _ refl (e ∙ ap (λ (t : Bytes). entered b name t 0 0) (sym (no-bytes bytes z)))))))
+      (step-cases _ _ (λ e. fresh n
+      (gives bytes 0 0 name _ refl (e ∙ ap (λ (t : Bytes). entered b name t 0 0) (sym (no-bytes bytes z)))))))
       (λ z. rw (ne-eqb (length bytes) 0 z) (step-cases _ _ (λ e. fresh n (gives bytes _ _ name _ refl e))))
 
   module _ (e : Entry) (f : find name (b .entries) ≡ some e) where
@@ -110,7 +117,8 @@ module _ (b : Book) (name bytes : Bytes) (mode : ℕ) where
         by-eq (length bytes) 0
         (λ z. rw (eq-eqb (length bytes) 0 z)
         (step-cases _ _ (λ q. replaced e f two
-        (gives bytes _ 0 (e .name) _ is-name (q ∙ ap (λ (t : Bytes). entered b (e .name) t (e .held) 0) (sym (no-bytes bytes z)))))))
+        (gives bytes _ 0 (e .name) _ is-name
+        (q ∙ ap (λ (t : Bytes). entered b (e .name) t (e .held) 0) (sym (no-bytes bytes z)))))))
         (λ z. rw (ne-eqb (length bytes) 0 z) (by-le (length bytes) (e .held)
         (λ l. rw (le-leb _ _ l) (step-cases _ _ (λ q. replaced e f two (gives bytes _ _ (e .name) _ is-name q))))
         (λ l. rw (lt-leb _ _ l) (step-cases _ _ (λ q. replaced e f two (gives bytes _ _ (e .name) _ is-name q))))))
@@ -157,28 +165,12 @@ by-put (replaced e f m w) kept given = given _ w
 by-put (appended e f n₁ n₂ w) kept given = given _ w
 by-put (unchanged e f n₁ n₂ z q) kept given = kept q
 
--- another name's entry is as it was
-pub add-other : (b : Book) (name bytes : Bytes) (mode : ℕ) (other : Bytes) → (other ≡ name → ⊥)
-    → find other (bookAdd b name bytes mode .after .entries) ≡ find other (b .entries)
-add-other b name bytes mode other n =
-    by-put (book-add b name bytes mode)
-    (λ q. ap (λ (x : Book). find other (x .entries)) q)
-    (λ text w. given-other w other n)
-
--- the name's own entry does not go
-pub add-keeps : (b : Book) (name bytes : Bytes) (mode : ℕ) (e : Entry) → find name (b .entries) ≡ some e
-    → (e′ : Entry) × (find name (bookAdd b name bytes mode .after .entries) ≡ some e′)
-add-keeps b name bytes mode e h =
-    by-put (book-add b name bytes mode)
-    (λ q. (e, ap (λ (x : Book). find name (x .entries)) q ∙ h))
-    (λ text w. (_, given-find w))
-
 -- ---- delete and lookup
 
 pub data Deleted (b : Book) (name : Bytes) (o : Outcome Book) : Type 0 where
   refused : (o .answer .number ≡ 0 → ⊥) → o .after ≡ b → Deleted b name o
   gone : (e : Entry) → find name (b .entries) ≡ some e
-      → o .after ≡ record { terms = b .terms; entries = without name (b .entries); used = b .used } → Deleted b name o
+      → o .after ≡ removed name b → Deleted b name o
 
 module _ (b : Book) (name : Bytes) where
   delete-found : (f : Option Entry) → find name (b .entries) ≡ f → Deleted b name (deleteFound b name f)
@@ -205,9 +197,77 @@ module _ (b : Book) (name : Bytes) where
       (λ h. rw h (lookup-found (find name (b .entries))))
       (λ h. rw h refl)
 
--- another name's entry is as it was
-pub delete-other : {b : Book} {name : Bytes} {o : Outcome Book} → Deleted b name o → (other : Bytes) → (other ≡ name → ⊥)
-    → find other (o .after .entries) ≡ find other (b .entries)
-delete-other (refused z q) other n = ap (λ (x : Book). find other (x .entries)) q
-delete-other {b} {name} (gone e f q) other n =
-    ap (λ (x : Book). find other (x .entries)) q ∙ find-without-other name other (b .entries) n
+-- ---- any call, by its effect on the book
+
+-- nothing, or a text is put under the name that it adds, or the entry of the name that it deletes goes
+pub data Effect (b : Book) (c : Call) (b′ : Book) : Type 0 where
+  nothing : b′ ≡ b → Effect b c b′
+  enters : (name bytes : Bytes) (mode : ℕ) (text : Bytes) → c ≡ adding name bytes mode → Given name text b b′
+      → Effect b c b′
+  leaves : (name : Bytes) (e : Entry) → c ≡ deleting name → find name (b .entries) ≡ some e
+      → b′ ≡ removed name b → Effect b c b′
+
+delete-effect : {b : Book} {name : Bytes} {o : Outcome Book} → Deleted b name o → Effect b (deleting name) (o .after)
+delete-effect (refused z q) = nothing q
+delete-effect (gone e f q) = leaves _ e refl f q
+
+-- the one list of all calls: what follows goes by the effect
+pub call-effect : (c : Call) (b : Book) → Effect b c (bookStep c b .after)
+unfolding bookStep bookCount
+call-effect (adding name bytes mode) b =
+    by-put (book-add b name bytes mode) (λ q. nothing q) (λ text w. enters name bytes mode text refl w)
+call-effect (deleting name) b = delete-effect (book-delete b name)
+call-effect (looking name) b = nothing (book-lookup b name)
+call-effect counting b = nothing refl
+
+-- the call does not delete, or does not add, a point of that name
+abbrev pub NotDeleting : Bytes → Call → Type 0
+NotDeleting key c = c ≡ deleting key → ⊥
+
+abbrev pub NotAdding : Bytes → Call → Type 0
+NotAdding key c = (bytes : Bytes) (mode : ℕ) → c ≡ adding key bytes mode → ⊥
+
+-- a point of that name, or none
+abbrev pub Has : Bytes → Book → Type 0
+Has key b = (e : Entry) × (find key (b .entries) ≡ some e)
+
+abbrev pub Lacks : Bytes → Book → Type 0
+Lacks key b = find key (b .entries) ≡ none
+
+module _ {b : Book} {c : Call} {b′ : Book} (key : Bytes) where
+  -- a point that the call neither adds nor deletes is as it was
+  pub effect-other : Effect b c b′ → NotAdding key c → NotDeleting key c
+      → find key (b′ .entries) ≡ find key (b .entries)
+  effect-other (nothing q) na nd = ap (λ (x : Book). find key (x .entries)) q
+  effect-other (enters name bytes mode text q w) na nd =
+      given-other w key (λ s. na bytes mode (q ∙ ap (λ (x : Bytes). adding x bytes mode) (sym s)))
+  effect-other (leaves name e q f is) na nd =
+      ap (λ (x : Book). find key (x .entries)) is
+      ∙ find-without-other name key (b .entries) (λ s. nd (q ∙ ap deleting (sym s)))
+
+  -- one that it does not delete stays
+  pub effect-has : Effect b c b′ → NotDeleting key c → Has key b → Has key b′
+  effect-has (nothing q) nd h = (h .0, ap (λ (x : Book). find key (x .entries)) q ∙ h .1)
+  effect-has (enters name bytes mode text q w) nd h =
+      by-same key name
+      (λ s. (_, ap (λ (x : Bytes). find x (b′ .entries)) s ∙ given-find w))
+      (λ n. (h .0, given-other w key n ∙ h .1))
+  effect-has (leaves name e q f is) nd h =
+      let other = find-without-other name key (b .entries) (λ s. nd (q ∙ ap deleting (sym s))) in
+      (h .0, ap (λ (x : Book). find key (x .entries)) is ∙ other ∙ h .1)
+
+  -- one that it does not add stays absent
+  pub effect-lacks : Effect b c b′ → NotAdding key c → Lacks key b → Lacks key b′
+  effect-lacks (nothing q) na h = ap (λ (x : Book). find key (x .entries)) q ∙ h
+  effect-lacks (enters name bytes mode text q w) na h =
+      given-other w key (λ s. na bytes mode (q ∙ ap (λ (x : Bytes). adding x bytes mode) (sym s))) ∙ h
+  effect-lacks (leaves name e q f is) na h =
+      let present : (key ≡ name → ⊥) =
+      λ s. Option·none-ne-some e (sym h ∙ ap (λ (x : Bytes). find x (b .entries)) s ∙ f) in
+      ap (λ (x : Book). find key (x .entries)) is ∙ find-without-other name key (b .entries) present ∙ h
+
+-- no call gives space back
+pub effect-used : {b : Book} {c : Call} {b′ : Book} → Effect b c b′ → b .used ≤ b′ .used
+effect-used (nothing q) = omega (arith, ap (λ (x : Book). x .used) q)
+effect-used (enters name bytes mode text q w) = given-used w
+effect-used (leaves name e q f is) = omega (arith, ap (λ (x : Book). x .used) is)

@@ -1,6 +1,6 @@
--- Demand 3: on every list of calls, from every accepted create, file and book give the same answers, and after it the file finds
--- exactly the book's points with the book's texts. The statement is `Agreement` of crates/bhtf/specs/Demand.antt.
---     step            one call keeps the relation, with equal answers
+-- Demand 3: on every list of calls, from every accepted create, file and book give the same answers, and after it the
+-- file finds exactly the book's points with the book's texts. It is `Agreement` of crates/bhtf/specs/Demand.antt.
+--     step            one call keeps the relation, with equal answers; step-kept: and the layout
 --     same-answers, reflects-after    so does every list
 --     points-agree    files and books in the relation find the same points with the same texts
 --     from-reflected  the theorem for every file and book in the relation
@@ -8,7 +8,7 @@
 -- Assumes nothing.
 use mathlib.Core.Path.{_≡_, refl, sym, ap, ap₂, _∙_, subst}
 use Prim.Native.Nat.{ℕ}
-use mathlib.Core.Bool.{cond, _&&_}
+use mathlib.Core.Bool.{Bool, cond, _&&_}
 use mathlib.Core.List.{List, [], _∷_}
 use mathlib.Core.Option.{none, some}
 use lib.ListN.{length}
@@ -23,69 +23,81 @@ use Rattle.bhtf.specs.Demand.{fileText, textOf, bookText, termsOf, Agrees, Agre
 use Rattle.bhtf.proofs.Tests.{by-bool}
 use Rattle.bhtf.proofs.Accepted.{accepted-facts}
 use Rattle.bhtf.proofs.Outcomes.{settled-yes}
-use Rattle.agreement.proofs.Reflect.{Reflects}
-use Rattle.agreement.proofs.Simple.{Same, same-count, same-lookup, same-delete, lookup-is, found-met, found-none, by-met}
+use Rattle.agreement.proofs.Reflect.{Reflects, Reflected}
+use Rattle.agreement.proofs.Simple.{Same, Alike, same-count, same-lookup, same-delete, lookup-is, found-met, found-none, by-met}
 use Rattle.agreement.proofs.Add.{same-add}
 use Rattle.agreement.proofs.Fresh.{slotsAsked-some, fresh-reflects}
 
-pub step : (g : Layout) (img : Bytes) (b : Book) → Reflects g img b → (c : Call) → Same g (perform c img) (bookStep c b)
+-- a call that keeps the layout, as every one does
+pub step-kept : (g : Layout) (img : Bytes) (b : Book) → Reflects g img b → (c : Call)
+    → Same g (perform c img) (bookStep c b)
 unfolding perform bookStep
-step g img b r (adding key bytes mode) = same-add g img b r key bytes mode
-step g img b r (deleting key) = same-delete g img b r key
-step g img b r (looking key) = same-lookup g img b r key
-step g img b r counting = same-count g img b r
+step-kept g img b r (adding key bytes mode) = same-add g img b r key bytes mode
+step-kept g img b r (deleting key) = same-delete g img b r key
+step-kept g img b r (looking key) = same-lookup g img b r key
+step-kept g img b r counting = same-count g img b r
+
+pub step : (img : Bytes) (b : Book) → Reflected img b → (c : Call) → Alike (perform c img) (bookStep c b)
+step img b (g, r) c = (g, step-kept g img b r c)
 
 -- ---- lists of calls
 
-pub same-answers : (g : Layout) (calls : List Call) (img : Bytes) (b : Book) → Reflects g img b
+pub reflects-step : (img : Bytes) (b : Book) → Reflected img b → (c : Call)
+    → Reflected (perform c img .after) (bookStep c b .after)
+reflects-step img b r c = (step img b r c .0, step img b r c .1 .after)
+
+pub same-answers : (calls : List Call) (img : Bytes) (b : Book) → Reflected img b
     → answers perform calls img ≡ answers bookStep calls b
 unfolding answers
-same-answers g [] img b r = refl
-same-answers g (c ∷ cs) img b r =
-    let s : Same g (perform c img) (bookStep c b) = step g img b r c in
-    ap₂ _∷_ (s .answer) (same-answers g cs (perform c img .after) (bookStep c b .after) (s .after))
+same-answers [] img b r = refl
+same-answers (c ∷ cs) img b r =
+    ap₂ _∷_ (step img b r c .1 .answer)
+    (same-answers cs (perform c img .after) (bookStep c b .after) (reflects-step img b r c))
 
-pub reflects-after : (g : Layout) (calls : List Call) (img : Bytes) (b : Book) → Reflects g img b
-    → Reflects g (stateAfter perform calls img) (stateAfter bookStep calls b)
+pub reflects-after : (calls : List Call) (img : Bytes) (b : Book) → Reflected img b
+    → Reflected (stateAfter perform calls img) (stateAfter bookStep calls b)
 unfolding stateAfter
-reflects-after g [] img b r = r
-reflects-after g (c ∷ cs) img b r = reflects-after g cs (perform c img .after) (bookStep c b .after) (step g img b r c .after)
+reflects-after [] img b r = r
+reflects-after (c ∷ cs) img b r =
+    reflects-after cs (perform c img .after) (bookStep c b .after) (reflects-step img b r c)
 
 -- ---- the closing clause
 
-pub points-agree : (g : Layout) (img : Bytes) (b : Book) → Reflects g img b → (name : Bytes) → fileText img name ≡ bookText b name
+pub points-agree : (img : Bytes) (b : Book) → Reflected img b → (name : Bytes) → fileText img name ≡ bookText b name
 unfolding fileText bookText textOf isMet
-points-agree g img b r name =
-    ap (λ (l : Layout). cond (nameAllowed (l .K) name && isMet (search l img name)) (some (lookup img name .answer .text)) none) (r .file .layout)
+points-agree img b (g, r) name =
+    let found : Layout → Bool = λ (l : Layout). nameAllowed (l .K) name && isMet (search l img name) in
+    ap (λ (l : Layout). cond (found l) (some (lookup img name .answer .text)) none) (r .file .layout)
     ∙ by-bool (nameAllowed (g .K) name)
     (λ a. by-met g img b r name
-    (λ i m. rw (a, m, found-met g img b r name a i m) (ap some (ap (λ (x : Answer). x .text) (lookup-is g img b r name a i m))))
+    (λ i m.
+    rw (a, m, found-met g img b r name a i m)
+    (ap some (ap (λ (x : Answer). x .text) (lookup-is g img b r name a i m))))
     (λ h. rw (a, h, found-none g img b r name a h) refl))
     (λ h. rw (h, r .others name h) refl)
 
 -- ---- the theorem
 
-pub from-reflected : (g : Layout) (img : Bytes) (b : Book) → Reflects g img b → (calls : List Call) → Agrees img b calls
+pub from-reflected : (img : Bytes) (b : Book) → Reflected img b → (calls : List Call) → Agrees img b calls
 unfolding Agrees
-from-reflected g img b r calls = (
-  same-answers g calls img b r,
-  λ name. points-agree g (stateAfter perform calls img) (stateAfter bookStep calls b) (reflects-after g calls img b r) name,
+from-reflected img b r calls = (
+  same-answers calls img b r,
+  λ name. points-agree (stateAfter perform calls img) (stateAfter bookStep calls b) (reflects-after calls img b r) name,
 )
 
 -- create's image and the new book are in the relation
 pub reflects-created : (img : Bytes) (K N seed : ℕ) → create img K N seed .answer .number ≡ 0
-    → (g : Layout) × Reflects g (create img K N seed .after) (newBook (termsOf (length img) K (slotsAsked N)))
+    → Reflected (create img K N seed .after) (newBook (termsOf (length img) K (slotsAsked N)))
 unfolding create plain
 reflects-created img K N seed ok =
     let fresh = freshImage (length img) K (slotsAsked N) seed in (
       layoutOf fresh,
       subst (λ (i : Bytes). Reflects (layoutOf fresh) i (newBook (termsOf (length img) K (slotsAsked N))))
           (sym (settled-yes (createNumber (length img) K (slotsAsked N)) img fresh ok))
-          (fresh-reflects (length img) K (slotsAsked N) seed (accepted-facts (length img) K (slotsAsked N) ok) (slotsAsked-some N)),
+          (fresh-reflects (length img) K (slotsAsked N) seed (accepted-facts (length img) K (slotsAsked N) ok)
+          (slotsAsked-some N)),
     )
 
 pub agreement : Agreement
 unfolding Agreement
-agreement img K N seed ok calls =
-    let c = reflects-created img K N seed ok in
-    from-reflected (c .0) _ _ (c .1) calls
+agreement img K N seed ok calls = from-reflected _ _ (reflects-created img K N seed ok) calls

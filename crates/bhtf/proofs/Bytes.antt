@@ -70,7 +70,8 @@ pub part-store-below : (b : Bytes) (p : ℕ) (v : Bytes) (q m : ℕ) → p ≤ l
 unfolding part store
 part-store-below b p v q m h f =
     ap (take m) (drop-append-le q (take p b) (v ++ drop (length v) (drop p b)) (simp (head-length b p h) (omega arith)))
-    ∙ take-append-le m (drop q (take p b)) (v ++ drop (length v) (drop p b)) (simp (length-drop, head-length b p h) (omega arith))
+    ∙ take-append-le m (drop q (take p b)) (v ++ drop (length v) (drop p b))
+    (simp (length-drop, head-length b p h) (omega arith))
     ∙ inside
   where
     inside : take m (drop q (take p b)) ≡ take m (drop q b)
@@ -82,7 +83,8 @@ unfolding part store
 part-store-above b p v q m h f =
     ap (take m)
     (ap (λ (n : ℕ). drop n (take p b ++ (v ++ tail))) split₁
-    ∙ ap (λ (n : ℕ). drop (n + (length v + (q - (p + length v)))) (take p b ++ (v ++ tail))) (sym (head-length b p (omega arith)))
+    ∙ ap (λ (n : ℕ). drop (n + (length v + (q - (p + length v)))) (take p b ++ (v ++ tail)))
+    (sym (head-length b p (omega arith)))
     ∙ drop-append-add (take p b) (v ++ tail) (length v + (q - (p + length v)))
     ∙ drop-append-add v tail (q - (p + length v))
     ∙ drop-drop (q - (p + length v)) (length v) (drop p b)
@@ -98,6 +100,15 @@ part-store-above b p v q m h f =
 -- the m places from q on and the n places from p on have none in common
 abbrev pub Apart : ℕ → ℕ → ℕ → ℕ → Type 0
 Apart q m p n = (q + m ≤ p) ⊎ (p + n ≤ q)
+
+pub apart-sym : (q m p n : ℕ) → Apart q m p n → Apart p n q m
+apart-sym q m p n (inl h) = inr h
+apart-sym q m p n (inr h) = inl h
+
+-- a stretch inside one of the two
+pub apart-inside : (q m p n q′ m′ : ℕ) → q ≤ q′ → q′ + m′ ≤ q + m → Apart q m p n → Apart q′ m′ p n
+apart-inside q m p n q′ m′ lo hi (inl h) = inl (omega arith)
+apart-inside q m p n q′ m′ lo hi (inr h) = inr (omega arith)
 
 -- what is read apart from the place of a store
 pub part-store-other : (b : Bytes) (p : ℕ) (v : Bytes) (q m : ℕ) → p + length v ≤ length b → Apart q m p (length v)
@@ -116,7 +127,8 @@ length-digits (suc w) n = ap suc (length-digits w n)
 pow-256 : (w : ℕ) → 256 ^ w ≡ 2 ^ (8 * w)
 pow-256 zero = refl
 pow-256 (suc w) =
-    pow-succ' 256 w ∙ ap (λ (n : ℕ). 256 * n) (pow-256 w) ∙ sym (pow-add 2 8 (8 * w)) ∙ ap (λ (n : ℕ). 2 ^ n) (omega (arith, mul-suc 8 w))
+    pow-succ' 256 w ∙ ap (λ (n : ℕ). 256 * n) (pow-256 w) ∙ sym (pow-add 2 8 (8 * w))
+    ∙ ap (λ (n : ℕ). 2 ^ n) (omega (arith, mul-suc 8 w))
 
 -- one digit more: the digit above, and what is below it
 digit-more : (n w : ℕ) → n / 256 ^ w % 256 * 256 ^ w + n % 256 ^ w ≡ n % 256 ^ suc w
@@ -154,7 +166,8 @@ allZero-zeros (suc n) = allZero-zeros n
 pub allZero-zeros-eq : (b : Bytes) → allZero b ≡ true → b ≡ zeros (length b)
 unfolding allZero zeros
 allZero-zeros-eq [] h = refl
-allZero-zeros-eq (x ∷ b) h = ap₂ _∷_ (eqb-true x 0 (and-left (eqb x 0) (allZero b) h)) (allZero-zeros-eq b (and-right (eqb x 0) (allZero b) h))
+allZero-zeros-eq (x ∷ b) h =
+    ap₂ _∷_ (eqb-true x 0 (and-left (eqb x 0) (allZero b) h)) (allZero-zeros-eq b (and-right (eqb x 0) (allZero b) h))
 
 pub same-refl : (b : Bytes) → same b b ≡ true
 unfolding same
@@ -166,7 +179,8 @@ unfolding same
 same-true [] [] h = refl
 same-true [] (y ∷ b) h = absurd (false≢true h)
 same-true (x ∷ a) [] h = absurd (false≢true h)
-same-true (x ∷ a) (y ∷ b) h = ap₂ _∷_ (eqb-true x y (and-left (eqb x y) (same a b) h)) (same-true a b (and-right (eqb x y) (same a b) h))
+same-true (x ∷ a) (y ∷ b) h =
+    ap₂ _∷_ (eqb-true x y (and-left (eqb x y) (same a b) h)) (same-true a b (and-right (eqb x y) (same a b) h))
 
 pub same-false : (a b : Bytes) → same a b ≡ false → a ≡ b → ⊥
 same-false a b h e = true≢false (sym (same-refl a) ∙ ap (same a) e ∙ h)

@@ -9,7 +9,7 @@ use mathlib.Core.Path.{_≡_, refl, sym, ap, _∙_, subst}
 use Prim.Native.Nat.{ℕ, zero, suc, _+_, _-_, _*_, _≤_, _<_}
 use native.Mathlib.Nat.{mul-suc}
 use native.Mathlib.Omega.{arith}
-use mathlib.Core.Bool.{Bool, true, false}
+use mathlib.Core.Bool.{true, false}
 use lib.ListN.{length}
 use borrow.Author.Tests.{ltb-true, ltb-false}
 use Rattle.bhtf.specs.Bytes.{Bytes}
@@ -40,7 +40,8 @@ abbrev pub ended : Bytes → ℕ → Closing
 ended img j = record { image = img; at = j }
 
 -- ---- one look
-pub close-stop : (f : ℕ) (g : Layout) (img : Bytes) (h j : ℕ) → vacant g (slot g img j) ≡ true → closeFrom f g img h j ≡ ended img j
+pub close-stop : (f : ℕ) (g : Layout) (img : Bytes) (h j : ℕ) → vacant g (slot g img j) ≡ true
+    → closeFrom f g img h j ≡ ended img j
 unfolding closeFrom
 close-stop zero g img h j v = refl
 close-stop (suc f) g img h j v = rw (v, closeFrom)
@@ -137,11 +138,13 @@ pub record Keeps (g : Layout) (P : Kept) : Type 0 where
   pub move : (img : Bytes) (h j : ℕ) (w : Closing) → Going g img h j → Taken g img j → stays g img h j ≡ false
       → P (moved g img h j) j (next (g .N) j) w → P img h j w
 
-pub close-induct : (g : Layout) (P : Kept) → Keeps g P → (f : ℕ) (img : Bytes) (h j : ℕ) → Going g img h j → left g img h j < f
+pub close-induct : (g : Layout) (P : Kept) → Keeps g P → (f : ℕ) (img : Bytes) (h j : ℕ) → Going g img h j
+    → left g img h j < f
     → P img h j (closeFrom f g img h j)
 close-induct g P c zero img h j s l = absurd (omega arith)
 close-induct g P c (suc f) img h j s l =
-    let ih : (img′ : Bytes) (h′ j′ : ℕ) → Going g img′ h′ j′ → left g img′ h′ j′ < f → P img′ h′ j′ (closeFrom f g img′ h′ j′)
+    let ih : (img′ : Bytes) (h′ j′ : ℕ) → Going g img′ h′ j′ → left g img′ h′ j′ < f
+    → P img′ h′ j′ (closeFrom f g img′ h′ j′)
     = λ img′ h′ j′. close-induct g P c f img′ h′ j′ in
     by-bool (vacant g (slot g img j))
     (λ v. subst (P img h j) (sym (close-stop (suc f) g img h j v)) (c .stop img h j s v))
@@ -173,7 +176,8 @@ more-keeps g =
     after img h j m w zero l k = absurd (omega arith)
     after img h j m w (suc f) l k = k f l
 
-pub close-more : (g : Layout) (f f′ : ℕ) (img : Bytes) (h j : ℕ) → Going g img h j → left g img h j < f → left g img h j < f′
+pub close-more : (g : Layout) (f f′ : ℕ) (img : Bytes) (h j : ℕ) → Going g img h j → left g img h j < f
+    → left g img h j < f′
     → closeFrom f g img h j ≡ closeFrom f′ g img h j
 unfolding More
 close-more g f f′ img h j s l l′ = close-induct g (More g) (more-keeps g) f′ img h j s l′ f l
@@ -206,7 +210,12 @@ square (suc n) h = ap (λ (m : ℕ). suc n * m + suc n) (omega arith) ∙ sym (m
 pub left-bound : (g : Layout) (img : Bytes) (h j : ℕ) → Going g img h j → left g img h j < g .N * g .N
 unfolding left
 left-bound g img h j s =
-    omega (arith, spread-bound g img, dist-lt (g .N) j h (s .slot-lt) (s .hole-lt), square (g .N) (omega (arith, s .slot-lt)))
+    omega (
+      arith,
+      spread-bound g img,
+      dist-lt (g .N) j h (s .slot-lt) (s .hole-lt),
+      square (g .N) (omega (arith, s .slot-lt)),
+    )
 
 module _ (g : Layout) (img : Bytes) (r : Room g (length img)) (i : ℕ) (l : i < g .N) where
   pub going-closed : Going g (putSlot g img i (blank g)) i (next (g .N) i)
@@ -228,7 +237,8 @@ module _ (g : Layout) (img : Bytes) (r : Room g (length img)) (i : ℕ) (l : i <
   closed-induct P c = close-induct g P c (g .N * g .N) (putSlot g img i (blank g)) i (next (g .N) i) going-closed enough
 
   pub closed-looks : closed g img i
-      ≡ closeFrom (looks g (putSlot g img i (blank g)) i (next (g .N) i)) g (putSlot g img i (blank g)) i (next (g .N) i) .image
+      ≡ closeFrom (looks g (putSlot g img i (blank g)) i (next (g .N) i)) g (putSlot g img i (blank g)) i
+      (next (g .N) i) .image
   unfolding closed
   closed-looks =
       ap (λ (w : Closing). w .image)
@@ -237,7 +247,8 @@ module _ (g : Layout) (img : Bytes) (r : Room g (length img)) (i : ℕ) (l : i <
 
   -- the walk in `closed` ends at a vacant slot, not at the end of its count
   pub closed-ends :
-      vacant g (slot g (closed g img i) (closeFrom (g .N * g .N) g (putSlot g img i (blank g)) i (next (g .N) i) .at)) ≡ true
+      let ends : ℕ = closeFrom (g .N * g .N) g (putSlot g img i (blank g)) i (next (g .N) i) .at in
+      vacant g (slot g (closed g img i) ends) ≡ true
   unfolding closed
   closed-ends = close-ends g (g .N * g .N) (putSlot g img i (blank g)) i (next (g .N) i) going-closed enough
 

@@ -131,7 +131,8 @@ among-dist N hole j k hh hj hk n =
     let lk : dist N k j < N = dist-lt N k j hk hj in
     by-eq hole k
     (λ e.
-    let far : dist N (next N hole) k + 1 ≡ N = subst (λ (x : ℕ). dist N (next N hole) x + 1 ≡ N) e (dist-next-self N hole hh) in
+    let far : dist N (next N hole) k + 1 ≡ N =
+    subst (λ (x : ℕ). dist N (next N hole) x + 1 ≡ N) e (dist-next-self N hole hh) in
     lt-leb (dist N (next N hole) k) (dist N (next N hole) j) (omega arith)
     ∙ sym (le-ltb (dist N k j) (dist N hole j) (omega (arith, ap (λ (x : ℕ). dist N x j) e))))
     (λ e.

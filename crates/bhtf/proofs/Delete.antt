@@ -1,8 +1,9 @@
 -- Delete's walk keeps the invariant of reached tables, and takes one key out.
---     Mending g img h j      the invariant during the walk: paths may be broken at the hole alone, and every slot passed has
---                            its home after the hole; what is passed is told by what is left, dist j h < dist s h
---     mending-start, -skip, -move, -stop      its start, its two turns and its end
---     sound-closed           the invariant afterwards
+--     Mending g img h j      the invariant during the walk: paths may be broken at the hole alone, and every slot
+--                            passed has its home after the hole; what is passed is told by what is left,
+--                            dist j h < dist s h
+--     mending-begins, -skip, -move, -stop     its beginning, its two turns and its end
+--     findable-closed           the invariant afterwards
 --     gone-closed            the key stands nowhere afterwards
 -- Assumes nothing.
 use mathlib.Core.Path.{_≡_, refl, sym, ap, _∙_, subst}
@@ -17,7 +18,7 @@ use Rattle.bhtf.specs.Delete.{stays, moved, closed}
 use Rattle.bhtf.proofs.Tests.{by-le, by-eq, not-both}
 use Rattle.bhtf.proofs.Slots.{Room}
 use Rattle.bhtf.proofs.Cyclic.{dist-lt, dist-self, dist-zero, dist-same, dist-back, dist-from-next, dist-next-self, round3}
-use Rattle.bhtf.proofs.Table.{Taken, keyAt, homeAt, Sound}
+use Rattle.bhtf.proofs.Table.{Taken, keyAt, homeAt, Findable}
 use Rattle.bhtf.proofs.Spread.{slot-moved-hole, slot-moved-other}
 use Rattle.bhtf.proofs.Probe.{home-lt}
 use Rattle.bhtf.proofs.Closing.{Going, hole-other, stays-near, goes-far, closed-induct}
@@ -63,10 +64,10 @@ ahead-of N h j s lh lj ls nj ns n f =
     (λ le. absurd (n (dist-same N h j s lh lj ls (omega arith))))
     (λ lt. lt)
 
--- ---- the start
-module _ (g : Layout) (img : Bytes) (r : Room g (length img)) (i : ℕ) (l : i < g .N) (ok : Sound g img) where
-  pub mending-start : Mending g (putSlot g img i (blank g)) i (next (g .N) i)
-  mending-start =
+-- ---- the beginning
+module _ (g : Layout) (img : Bytes) (r : Room g (length img)) (i : ℕ) (l : i < g .N) (ok : Findable g img) where
+  pub mending-begins : Mending g (putSlot g img i (blank g)) i (next (g .N) i)
+  mending-begins =
       record {
         paths = λ s k ls lk t f n. zeroed-taken g img r i l k
             (ok .paths s k ls lk (was s t)
@@ -91,9 +92,13 @@ module _ (g : Layout) (img : Bytes) (h j : ℕ) (s : Going g img h j) (t : Taken
             by-le (dist (g .N) k h) (dist (g .N) j h)
             (λ le.
             let here : k ≡ j = same-to (g .N) k j h lk (s .slot-lt) (s .hole-lt)
-            (λ e. hole-other g img h k (record { room = s .room; hole-lt = s .hole-lt; slot-lt = lk; hole = s .hole }) tk (sym e))
+            (λ e. hole-other g img h k
+            (record { room = s .room; hole-lt = s .hole-lt; slot-lt = lk; hole = s .hole }) tk (sym e))
             (λ e. hole-other g img h j s t (sym e))
-            (omega (arith, dist-from-next (g .N) j h (s .slot-lt) (s .hole-lt) (λ e. hole-other g img h j s t (sym e)))) in
+            (omega (
+              arith,
+              dist-from-next (g .N) j h (s .slot-lt) (s .hole-lt) (λ e. hole-other g img h j s t (sym e)),
+            )) in
             subst (λ (x : ℕ). dist (g .N) (homeAt g img x) x < dist (g .N) h x) (sym here) (stays-near g img h j s t a))
             (λ lt. m .passed k lk tk lt);
         distinct = m .distinct;
@@ -158,7 +163,8 @@ module _ (g : Layout) (img : Bytes) (h j : ℕ) (s : Going g img h j) (t : Taken
           keys p q = ap (keyOf g) (sym p) ∙ e ∙ ap (keyOf g) q
 
 -- ---- the end: slot j is vacant
-module _ (g : Layout) (img : Bytes) (h j : ℕ) (s : Going g img h j) (v : vacant g (slot g img j) ≡ true) (m : Mending g img h j) where
+module _ (g : Layout) (img : Bytes) (h j : ℕ) (s : Going g img h j) (v : vacant g (slot g img j) ≡ true)
+    (m : Mending g img h j) where
   -- a vacant slot and a taken one
   apart : (i k : ℕ) → vacant g (slot g img i) ≡ true → Taken g img k → i ≡ k → ⊥
   apart i k vi tk e = not-both (vacant g (slot g img k)) (subst (λ (x : ℕ). vacant g (slot g img x) ≡ true) e vi) tk
@@ -186,30 +192,32 @@ module _ (g : Layout) (img : Bytes) (h j : ℕ) (s : Going g img h j) (v : vacan
       nothing : h ≡ j → dist (g .N) x h ≤ dist (g .N) j h → dist (g .N) x h ≡ 0
       nothing e le = omega (arith, ap (λ (y : ℕ). dist (g .N) y h) (sym e) ∙ dist-self (g .N) h)
 
-  pub mending-stop : Sound g img
+  pub mending-stop : Findable g img
   mending-stop =
       record {
         paths = λ x k lx lk tx f. by-eq k h
-            (λ e. absurd (whole x lx tx (subst (λ (y : ℕ). dist (g .N) (homeAt g img x) y < dist (g .N) (homeAt g img x) x) e f)))
+            (λ e. absurd (whole x lx tx
+            (subst (λ (y : ℕ). dist (g .N) (homeAt g img x) y < dist (g .N) (homeAt g img x) x) e f)))
             (λ n. m .paths x k lx lk tx f n);
         distinct = m .distinct;
       }
 
 -- ---- closed
-module _ (g : Layout) (img : Bytes) (r : Room g (length img)) (i : ℕ) (l : i < g .N) (ok : Sound g img) where
-  pub sound-closed : Sound g (closed g img i)
+module _ (g : Layout) (img : Bytes) (r : Room g (length img)) (i : ℕ) (l : i < g .N) (ok : Findable g img) where
+  pub findable-closed : Findable g (closed g img i)
   unfolding closed
-  sound-closed =
-      closed-induct g img r i l (λ img′ h j w. Mending g img′ h j → Sound g (w .image))
+  findable-closed =
+      closed-induct g img r i l (λ img′ h j w. Mending g img′ h j → Findable g (w .image))
       (record {
         stop = λ img′ h j s v m. mending-stop g img′ h j s v m;
         skip = λ img′ h j w s t a p m. p (mending-skip g img′ h j s t a m);
         move = λ img′ h j w s t a p m. p (mending-move g img′ h j s t a m);
       })
-      (mending-start g img r i l ok)
+      (mending-begins g img r i l ok)
 
   -- the key stands nowhere afterwards
-  pub gone-closed : Taken g img i → (k : ℕ) → k < g .N → Taken g (closed g img i) k → keyAt g (closed g img i) k ≡ keyAt g img i → ⊥
+  pub gone-closed : Taken g img i → (k : ℕ) → k < g .N → Taken g (closed g img i) k
+      → keyAt g (closed g img i) k ≡ keyAt g img i → ⊥
   gone-closed ti k lk t e = was (stands-walked g img r i l (slot g (closed g img i) k) .1 (k, lk, t, refl))
     where
       was : Stands g (putSlot g img i (blank g)) (slot g (closed g img i) k) → ⊥

@@ -1,4 +1,4 @@
--- The effects of a call on any image whose header is accepted: what they leave as it was, so that the next step may rely on it.
+-- The effects of a call on any image whose header is accepted, and what they leave as it was for the next step.
 --     retire, takeSpace, setField C      each keeps what no call changes, and the header is accepted again
 --     by-retire          what an image with its message retired is
 --     Spaced, spaced     what new space leaves, and what stands in it
@@ -13,16 +13,16 @@ use lib.ListN.{length, length-append}
 use lib.Dec.{eqb}
 use borrow.Author.Tests.{eq-eqb, not-true}
 use Rattle.bhtf.specs.Bytes.{Bytes, part, store, digits}
-use Rattle.bhtf.specs.Limits.{active, inactive, pointsField, freeField, pageField, slotsField, dataField, tableStart}
+use Rattle.bhtf.specs.Limits.{pageSize, active, inactive, pointsField, freeField, pageField, slotsField, dataField, headerSize, tableStart}
 use Rattle.bhtf.specs.Image.{field, setField, lastPage, Layout, layoutOf, slotSize, slotStart, slot}
 use Rattle.bhtf.specs.Messages.{headSize, isActive, message, setFree, takeSpace, retire}
 use Rattle.bhtf.specs.Questions.{messageSound}
-use Rattle.bhtf.proofs.Tests.{by-bool, and-left, not-both}
+use Rattle.bhtf.proofs.Tests.{by-bool, by-eq, and-left, not-both}
 use Rattle.bhtf.proofs.Bytes.{length-store, part-store-same, part-store-below, part-store-above, length-digits}
 use Rattle.bhtf.proofs.Slots.{slot-above, slot-store-data, part-setField-other, field-store-other, field-setField-other, field-setField-same, length-setField}
 use Rattle.bhtf.proofs.Opened.{Opened, opened-room}
 use Rattle.bhtf.proofs.Kept.{Kept, kept-refl, kept-trans, kept-store, kept-points, kept-free, kept-page, opened-kept}
-use Rattle.bhtf.proofs.Stretch.{size, sound-lies}
+use Rattle.bhtf.proofs.Stretch.{span, sound-lies}
 
 -- the data area begins above the table's start
 pub area-above : (img : Bytes) → Opened img → tableStart ≤ field img dataField
@@ -36,15 +36,29 @@ unfolding layoutOf
 message-low img o at s z = sound-lies (layoutOf img) img at s z .low
 
 pub message-end : (img : Bytes) → Opened img → (at : ℕ) → messageSound (layoutOf img) img at ≡ true → (at ≡ 0 → ⊥)
-    → at + size (layoutOf img) img at ≤ field img freeField
+    → at + span (layoutOf img) img at ≤ field img freeField
 message-end img o at s z = sound-lies (layoutOf img) img at s z .end
 
-pub message-head : (img : Bytes) → Opened img → (at : ℕ) → messageSound (layoutOf img) img at ≡ true → at + 4 ≤ length img
+head-small : (img : Bytes) → headSize (layoutOf img) ≤ pageSize
 unfolding headSize layoutOf
-message-head img o at s =
-    Rattle.bhtf.proofs.Tests.by-eq at 0
-    (λ z. omega (arith, o .size-low))
+head-small img = omega arith
+
+pub message-fits : (img : Bytes) → Opened img → (at : ℕ) → messageSound (layoutOf img) img at ≡ true
+    → at + headSize (layoutOf img) ≤ length img
+message-fits img o at s =
+    by-eq at 0
+    (λ z. omega (arith, o .size-low, head-small img))
     (λ z. omega (arith, message-end img o at s z, o .free-high))
+
+-- the header has 4 bytes
+pub message-head : (img : Bytes) → Opened img → (at : ℕ) → messageSound (layoutOf img) img at ≡ true
+    → at + 4 ≤ length img
+message-head img o at s = unfold headSize layoutOf in message-fits img o at s
+
+-- the letter is the header's first byte
+letter-first : (img : Bytes) → 1 ≤ headSize (layoutOf img)
+unfolding headSize
+letter-first img = omega arith
 
 -- ---- retire
 
@@ -61,7 +75,8 @@ module _ (img : Bytes) (o : Opened img) (at : ℕ) (s : messageSound (layoutOf i
   by-retire P yes′ no′ =
       by-bool (isActive img at)
       (λ h. rw h
-      (yes′ h (message-low img o at s (active-some img at h)) (omega (arith, message-head img o at s))))
+      (yes′ h (message-low img o at s (active-some img at h))
+      (omega (arith, message-fits img o at s, letter-first img))))
       (λ h. rw h (no′ h))
 
   pub retire-kept : Kept img (retire img at)
@@ -79,7 +94,8 @@ module _ (img : Bytes) (o : Opened img) (at : ℕ) (s : messageSound (layoutOf i
   pub retire-slot : (k : ℕ) → k < layoutOf img .N → slot (layoutOf img) (retire img at) k ≡ slot (layoutOf img) img k
   retire-slot k l =
       by-retire (λ (i : Bytes). slot (layoutOf img) i k ≡ slot (layoutOf img) img k)
-      (λ h lo hi. slot-store-data (layoutOf img) img (opened-room img o) at (inactive ∷ []) k l (unfold layoutOf in lo) hi)
+      (λ h lo hi. slot-store-data (layoutOf img) img (opened-room img o) at (inactive ∷ []) k l
+      (unfold layoutOf in lo) hi)
       (λ h. refl)
 
   -- what stands behind the letter is as it was
@@ -99,7 +115,7 @@ module _ (img : Bytes) (o : Opened img) (at : ℕ) (s : messageSound (layoutOf i
 -- ---- C
 
 module _ (img : Bytes) (o : Opened img) (n : ℕ) (l : n ≤ field img slotsField) where
-  long : 60 ≤ length img
+  long : headerSize ≤ length img
   long = omega (arith, o .size-low)
 
   pub points-kept : Kept img (setField img pointsField n)
@@ -143,14 +159,14 @@ module _ (img : Bytes) (o : Opened img) (t : Bytes)
   abbrev x : ℕ
   x = field img freeField
 
-  abbrev placed : Bytes
-  placed = store img x (message (g .W) t)
+  abbrev written : Bytes
+  written = store img x (message (g .W) t)
 
   abbrev ends : ℕ
   ends = x + headSize g + length t
 
   abbrev first : Bytes
-  first = setField placed freeField ends
+  first = setField written freeField ends
 
   in-image : x + length (message (g .W) t) ≤ length img
   in-image = rw (length-message g t) (omega (arith, fits))
@@ -162,22 +178,22 @@ module _ (img : Bytes) (o : Opened img) (t : Bytes)
   above : tableStart ≤ g .D
   above = omega (arith, opened-room img o .table)
 
-  long-placed : 60 ≤ length placed
-  long-placed = rw (length-store img x (message (g .W) t) in-image) (omega (arith, o .size-low))
+  long-written : headerSize ≤ length written
+  long-written = rw (length-store img x (message (g .W) t) in-image) (omega (arith, o .size-low))
 
-  long-first : 60 ≤ length first
-  long-first = rw (length-setField placed freeField ends (omega (arith, long-placed))) long-placed
+  long-first : headerSize ≤ length first
+  long-first = rw (length-setField written freeField ends (omega (arith, long-written))) long-written
 
   is-space : takeSpace g img t ≡ setField first pageField (lastPage (g .D) ends)
   unfolding takeSpace setFree
   is-space = refl
 
   -- X and M stand in the header
-  behind : (p m : ℕ) → tableStart ≤ p → part (takeSpace g img t) p m ≡ part placed p m
+  behind : (p m : ℕ) → tableStart ≤ p → part (takeSpace g img t) p m ≡ part written p m
   behind p m h =
       ap (λ (i : Bytes). part i p m) is-space
       ∙ part-setField-other first pageField (lastPage (g .D) ends) p m (omega (arith, long-first)) (inr (omega arith))
-      ∙ part-setField-other placed freeField ends p m (omega (arith, long-placed)) (inr (omega arith))
+      ∙ part-setField-other written freeField ends p m (omega (arith, long-written)) (inr (omega arith))
 
   not-page : (at : ℕ) → at + 4 ≤ pageField → field (takeSpace g img t) at ≡ field first at
   not-page at h =
@@ -196,20 +212,22 @@ module _ (img : Bytes) (o : Opened img) (t : Bytes)
         kept =
             rw is-space
             (kept-trans (kept-store img x (message (g .W) t) in-image (omega (arith, low, above)))
-            (kept-trans (kept-free placed ends long-placed) (kept-page first (lastPage (g .D) ends) long-first)));
+            (kept-trans (kept-free written ends long-written) (kept-page first (lastPage (g .D) ends) long-first)));
         free =
             not-page freeField (omega arith)
-            ∙ field-setField-same placed freeField ends (omega (arith, long-placed)) (omega (arith, fits, o .size-high));
+            ∙ field-setField-same written freeField ends (omega (arith, long-written))
+            (omega (arith, fits, o .size-high));
         points =
             not-page pointsField (omega arith)
-            ∙ field-setField-other placed freeField ends pointsField (omega (arith, long-placed)) (inl (omega arith))
+            ∙ field-setField-other written freeField ends pointsField (omega (arith, long-written)) (inl (omega arith))
             ∙ field-store-other img x (message (g .W) t) pointsField in-image (inl (omega (arith, low, above)));
         slots = slots₁;
         below =
-            λ p m lo hi. behind p m (omega (arith, above)) ∙ part-store-below img x (message (g .W) t) p m (o .free-high) hi;
+            λ p m lo hi.
+            behind p m (omega (arith, above)) ∙ part-store-below img x (message (g .W) t) p m (o .free-high) hi;
         there =
             behind x (headSize g + length t) (omega (arith, low, above))
-            ∙ ap (part placed x) (sym (length-message g t))
+            ∙ ap (part written x) (sym (length-message g t))
             ∙ part-store-same img x (message (g .W) t) (o .free-high);
       }
 

@@ -5,28 +5,29 @@
 --     stands-closed        what stands, but for the deleted entry, is what stood
 -- Assumes nothing.
 use mathlib.Core.Path.{_≡_, refl, sym, ap, _∙_}
-use Prim.Native.Nat.{ℕ, _+_, _≤_, _<_}
+use Prim.Native.Nat.{ℕ, _+_, _-_, _≤_, _<_}
 use native.Mathlib.Omega.{arith}
 use mathlib.Core.Logic.{_↔_, inl}
 use lib.ListN.{length}
 use Rattle.bhtf.specs.Bytes.{Bytes, part, number}
-use Rattle.bhtf.specs.Limits.{tableStart}
+use Rattle.bhtf.specs.Limits.{serialField, pointsField, multiplierField, headerSize, tableStart}
 use Rattle.bhtf.specs.Image.{field, Layout, slot, putSlot, keyOf, blank, vacant}
 use Rattle.bhtf.specs.Delete.{moved, closed}
 use Rattle.bhtf.proofs.Tests.{by-eq, not-both}
 use Rattle.bhtf.proofs.Slots.{Room, length-slot, slot-putSlot-same, slot-putSlot-other, Outside, part-putSlot-outside, length-blank, vacant-blank}
-use Rattle.bhtf.proofs.Kept.{Kept}
+use Rattle.bhtf.proofs.Kept.{Kept, middleSize, restSize}
 use Rattle.bhtf.proofs.Table.{Taken, keyAt, weigh, weight}
 use Rattle.bhtf.proofs.Spread.{over, over-moved, room-half, slot-moved-from, slot-moved-hole, slot-moved-other}
 use Rattle.bhtf.proofs.Closing.{Going, hole-other, closed-induct, length-closed}
 use Rattle.bhtf.proofs.Insert.{Stands, weigh-taken, weigh-vacant, weight-putSlot}
 
 -- ---- the bytes outside the table
-pub part-moved : (g : Layout) (img : Bytes) (r : Room g (length img)) (h j : ℕ) (lh : h < g .N) (lj : j < g .N) (p m : ℕ)
-    → Outside g p m → part (moved g img h j) p m ≡ part img p m
+pub part-moved : (g : Layout) (img : Bytes) (r : Room g (length img)) (h j : ℕ) (lh : h < g .N) (lj : j < g .N)
+    (p m : ℕ) → Outside g p m → part (moved g img h j) p m ≡ part img p m
 unfolding moved
 part-moved g img r h j lh lj p m f =
-    part-putSlot-outside g (putSlot g img h (slot g img j)) (room-half g img r h j lh lj) j (blank g) p m lj (length-blank g) f
+    part-putSlot-outside g (putSlot g img h (slot g img j)) (room-half g img r h j lh lj) j (blank g) p m lj
+    (length-blank g) f
     ∙ part-putSlot-outside g img r h (slot g img j) p m lh (length-slot g img r j lj) f
 
 module _ (g : Layout) (img : Bytes) (r : Room g (length img)) (i : ℕ) (l : i < g .N) where
@@ -45,9 +46,11 @@ module _ (g : Layout) (img : Bytes) (r : Room g (length img)) (i : ℕ) (l : i <
   kept-closed =
       record {
         size = length-closed g img r i l;
-        front = part-closed 0 20 (inl (omega arith));
-        middle = part-closed 24 28 (inl (omega arith));
-        rest = part-closed 60 1988 (inl (omega arith));
+        magic = part-closed 0 5 (inl (omega arith));
+        version = part-closed 5 3 (inl (omega arith));
+        front = part-closed serialField (pointsField - serialField) (inl (omega arith));
+        middle = part-closed multiplierField middleSize (inl (omega arith));
+        rest = part-closed headerSize restSize (inl (omega arith));
       }
 
   pub field-closed : (at : ℕ) → at + 4 ≤ tableStart → field (closed g img i) at ≡ field img at
@@ -72,7 +75,8 @@ weight-moved g img h j s t w =
           (hole-other g img h j s t) (s .hole),
     )
 
-pub weight-closed : (g : Layout) (img : Bytes) → Room g (length img) → (i : ℕ) → i < g .N → Taken g img i → (w : Bytes → ℕ)
+pub weight-closed : (g : Layout) (img : Bytes) → Room g (length img) → (i : ℕ) → i < g .N → Taken g img i
+    → (w : Bytes → ℕ)
     → weight g (closed g img i) w + w (slot g img i) ≡ weight g img w
 unfolding closed
 weight-closed g img r i l t w =
@@ -118,7 +122,8 @@ module _ (g : Layout) (img : Bytes) (h j : ℕ) (s : Going g img h j) (t : Taken
       = slot-moved-hole g img (s .room) h j (s .hole-lt) (s .slot-lt) (hole-other g img h j s t) in
       (h, s .hole-lt, taken-same g (moved g img h j) img h j there t, there ∙ ap (slot g img) (sym q) ∙ e))
       (λ nj.
-      let nh : k ≡ h → ⊥ = λ q. not-both (vacant g (slot g img k)) (ap (λ (x : ℕ). vacant g (slot g img x)) q ∙ s .hole) tk in
+      let nh : k ≡ h → ⊥ =
+      λ q. not-both (vacant g (slot g img k)) (ap (λ (x : ℕ). vacant g (slot g img x)) q ∙ s .hole) tk in
       let there : slot g (moved g img h j) k ≡ slot g img k
       = slot-moved-other g img (s .room) h j (s .hole-lt) (s .slot-lt) k nh nj in
       (k, l, taken-same g (moved g img h j) img k k there tk, there ∙ e))
@@ -152,7 +157,8 @@ module _ (g : Layout) (img : Bytes) (r : Room g (length img)) (i : ℕ) (l : i <
       (ap (λ (x : ℕ). vacant g (slot g (putSlot g img i (blank g)) x)) e
       ∙ ap (vacant g) (slot-putSlot-same g img r i (blank g) l (length-blank g)) ∙ vacant-blank g) t
 
-  pub zeroed-same : (k : ℕ) → Taken g (putSlot g img i (blank g)) k → slot g (putSlot g img i (blank g)) k ≡ slot g img k
+  pub zeroed-same : (k : ℕ) → Taken g (putSlot g img i (blank g)) k
+      → slot g (putSlot g img i (blank g)) k ≡ slot g img k
   zeroed-same k t = blank-other k (zeroed-other k t)
 
   pub zeroed-taken : (k : ℕ) → Taken g img k → (k ≡ i → ⊥) → Taken g (putSlot g img i (blank g)) k

@@ -6,6 +6,7 @@ use Prim.Native.Nat.{ℕ, zero, suc, _+_, _*_}
 use native.Mathlib.Omega.{arith}
 use lib.ListN.{length, length-append}
 use Rattle.bhtf.specs.Bytes.{digits}
+use Rattle.bhtf.specs.Limits.{headerSize}
 use Rattle.bhtf.specs.Create.{drawn, drawnBytes, freshHeader}
 use Rattle.bhtf.proofs.Bytes.{length-digits}
 
@@ -17,6 +18,6 @@ length-drawnBytes seed i (suc n) =
     ∙ ap₂ _+_ (length-digits 4 (drawn seed i)) (length-drawnBytes seed (suc i) n)
     ∙ omega arith
 
-pub length-freshHeader : (K N : ℕ) → length (freshHeader K N) ≡ 60
+pub length-freshHeader : (K N : ℕ) → length (freshHeader K N) ≡ headerSize
 unfolding freshHeader digits
 length-freshHeader K N = refl

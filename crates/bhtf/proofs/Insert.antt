@@ -22,7 +22,7 @@ use Rattle.bhtf.proofs.Tests.{by-eq, not-both}
 use Rattle.bhtf.proofs.Slots.{Room, slot-putSlot-same, slot-putSlot-other}
 use Rattle.bhtf.proofs.Total.{total, total-same}
 use Rattle.bhtf.proofs.Spread.{over, over-putSlot}
-use Rattle.bhtf.proofs.Table.{Taken, keyAt, Sound, slotMet, entryOf, weigh, weight}
+use Rattle.bhtf.proofs.Table.{Taken, keyAt, Findable, slotMet, entryOf, weigh, weight}
 use Rattle.bhtf.proofs.Probe.{vacant-key, search-met, search-empty, by-search, met-taken, search-finds, search-keys}
 
 -- some taken slot holds the bytes s
@@ -54,45 +54,45 @@ module _ (g : Layout) (img key : Bytes) (pos : 0 < g .N) where
   pub met-stands : (i : ℕ) → allZero key ≡ false → search g img key ≡ met i → Stands g img (slot g img i)
   met-stands i z e = (i, search-met g img key pos i e .0, met-taken g img key pos i z e, refl)
 
-  pub entry-stands : (s : Bytes) → Sound g img → keyOf g s ≡ key → Stands g img s → entryOf g img key ≡ some s
-  entry-stands s sound k t =
+  pub entry-stands : (s : Bytes) → Findable g img → keyOf g s ≡ key → Stands g img s → entryOf g img key ≡ some s
+  entry-stands s ok k t =
       entry-met g img key (t .0)
-      (search-finds g img key pos (t .0) sound (t .1) (t .2) (ap (keyOf g) (t .3) ∙ k))
+      (search-finds g img key pos (t .0) ok (t .1) (t .2) (ap (keyOf g) (t .3) ∙ k))
       ∙ ap some (t .3)
 
   pub entry-absent : ((k : ℕ) → k < g .N → Taken g img k → keyAt g img k ≡ key → ⊥) → allZero key ≡ false
       → entryOf g img key ≡ none
   entry-absent n z =
       by-entry
-      (λ i e. absurd (n i (search-met g img key pos i e .0) (met-taken g img key pos i z e) (search-met g img key pos i e .1)))
+      (λ i e. absurd (n i (search-met g img key pos i e .0) (met-taken g img key pos i z e)
+      (search-met g img key pos i e .1)))
       (λ none′. none′)
 
--- a sound image's taken slot is what its key's search meets
-pub entry-taken : (g : Layout) (img : Bytes) (i : ℕ) → 0 < g .N → Sound g img → i < g .N → Taken g img i
+-- a taken slot of a table in which all are found is what its key's search meets
+pub entry-taken : (g : Layout) (img : Bytes) (i : ℕ) → 0 < g .N → Findable g img → i < g .N → Taken g img i
     → entryOf g img (keyAt g img i) ≡ some (slot g img i)
-entry-taken g img i pos sound l t =
-    entry-stands g img (keyAt g img i) pos (slot g img i) sound refl (i, l, t, refl)
+entry-taken g img i pos ok l t =
+    entry-stands g img (keyAt g img i) pos (slot g img i) ok refl (i, l, t, refl)
 
--- two sound tables in which the same slots of a key stand answer the key alike
-pub same-entries : (g : Layout) (img img′ key : Bytes) → 0 < g .N → Sound g img → Sound g img′ → allZero key ≡ false
+-- two such tables in which the same slots of a key stand answer the key alike
+pub same-entries : (g : Layout) (img img′ key : Bytes) → 0 < g .N → Findable g img → Findable g img′
+    → allZero key ≡ false
     → ((s : Bytes) → keyOf g s ≡ key → Stands g img s ↔ Stands g img′ s)
     → entryOf g img′ key ≡ entryOf g img key
-same-entries g img img′ key pos sound sound′ z both =
+same-entries g img img′ key pos ok ok′ z both =
     by-entry g img key pos
     (λ i e.
     let k : keyAt g img i ≡ key = search-met g img key pos i e .1 in
-    entry-stands g img′ key pos (slot g img i) sound′ k (both (slot g img i) k .0 (met-stands g img key pos i z e))
+    entry-stands g img′ key pos (slot g img i) ok′ k (both (slot g img i) k .0 (met-stands g img key pos i z e))
     ∙ sym (entry-met g img key i e))
     (λ n.
     by-entry g img′ key pos
     (λ j f.
     let k : keyAt g img′ j ≡ key = search-met g img′ key pos j f .1 in
     entry-met g img′ key j f
-    ∙ sym (entry-stands g img key pos (slot g img′ j) sound k
+    ∙ sym (entry-stands g img key pos (slot g img′ j) ok k
     (both (slot g img′ j) k .1 (met-stands g img′ key pos j z f))))
     (λ n′. n′ ∙ sym n))
-
--- ---- a table without one key, in which the slots of every other key stand as before
 
 -- ---- weights
 
@@ -118,18 +118,18 @@ pub weight-putSlot : (g : Layout) (img : Bytes) (i : ℕ) (s : Bytes) (w : Bytes
 unfolding weight over
 weight-putSlot g img i s w room l fits = over-putSlot g img room (λ j b. weigh g w b) i s l fits
 
--- ---- a table whose slots' keys are those of a sound one is sound
+-- ---- a table whose slots' keys are those of one in which all are found is such a one
 
-pub sound-keys : (g : Layout) (img img′ : Bytes) → ((k : ℕ) → k < g .N → keyAt g img′ k ≡ keyAt g img k)
-    → Sound g img → Sound g img′
-sound-keys g img img′ f sound =
+pub findable-keys : (g : Layout) (img img′ : Bytes) → ((k : ℕ) → k < g .N → keyAt g img′ k ≡ keyAt g img k)
+    → Findable g img → Findable g img′
+findable-keys g img img′ f ok =
     record {
       paths = λ i k il kl t d.
           vac k kl
-          ∙ sound .paths i k il kl (sym (vac i il) ∙ t)
+          ∙ ok .paths i k il kl (sym (vac i il) ∙ t)
           (subst (λ (b : Bytes). dist (g .N) (home g b) k < dist (g .N) (home g b) i) (f i il) d);
       distinct = λ i j il jl ti tj e.
-          sound .distinct i j il jl (sym (vac i il) ∙ ti) (sym (vac j jl) ∙ tj) (sym (f i il) ∙ e ∙ f j jl);
+          ok .distinct i j il jl (sym (vac i il) ∙ ti) (sym (vac j jl) ∙ tj) (sym (f i il) ∙ e ∙ f j jl);
     }
   where
     vac : (k : ℕ) → k < g .N → vacant g (slot g img′ k) ≡ vacant g (slot g img k)
@@ -138,7 +138,7 @@ sound-keys g img img′ f sound =
 -- ---- a slot put where the search met a vacant slot
 
 module _ (g : Layout) (img key : Bytes) (i : ℕ) (s : Bytes) (room : Room g (length img)) (pos : 0 < g .N)
-    (sound : Sound g img) (fits : length s ≡ slotSize g) (k : keyOf g s ≡ key) (z : allZero key ≡ false)
+    (ok : Findable g img) (fits : length s ≡ slotSize g) (k : keyOf g s ≡ key) (z : allZero key ≡ false)
     (e : search g img key ≡ empty i) where
   il : i < g .N
   il = search-empty g img key pos i e .0
@@ -168,12 +168,12 @@ module _ (g : Layout) (img key : Bytes) (i : ℕ) (s : Bytes) (room : Room g (le
   -- no taken slot had the key
   no-other : (j : ℕ) → j < g .N → Taken g img j → keyAt g img j ≡ key → ⊥
   no-other j l t q =
-      let f : search g img key ≡ met j = search-finds g img key pos j sound l t q in
+      let f : search g img key ≡ met j = search-finds g img key pos j ok l t q in
       let y : _≡_ {A = ℕ} 0 1 = cc in
       omega arith
 
-  pub insert-sound : Sound g (putSlot g img i s)
-  insert-sound =
+  pub insert-findable : Findable g (putSlot g img i s)
+  insert-findable =
       record {
         paths = λ a b al bl ta d.
             by-eq b i (λ q. new-taken b q)
@@ -181,7 +181,7 @@ module _ (g : Layout) (img key : Bytes) (i : ℕ) (s : Bytes) (room : Room g (le
             (λ q. search-empty g img key pos i e .2 b bl
             (subst (λ (x : ℕ). dist (g .N) (home g key) b < dist (g .N) (home g key) x) q
             (subst (λ (x : Bytes). dist (g .N) (home g x) b < dist (g .N) (home g x) a) (key-here a q) d)) .0)
-            (λ q. sound .paths a b al bl (old-taken a q ta)
+            (λ q. ok .paths a b al bl (old-taken a q ta)
             (subst (λ (x : Bytes). dist (g .N) (home g x) b < dist (g .N) (home g x) a) (key-there a q) d))));
         distinct = λ a b al bl ta tb f.
             by-eq a i
@@ -189,18 +189,18 @@ module _ (g : Layout) (img key : Bytes) (i : ℕ) (s : Bytes) (room : Room g (le
             (λ r. absurd (no-other b bl (old-taken b r tb) (sym (key-there b r) ∙ sym f ∙ key-here a q))))
             (λ q. by-eq b i
             (λ r. absurd (no-other a al (old-taken a q ta) (sym (key-there a q) ∙ f ∙ key-here b r)))
-            (λ r. sound .distinct a b al bl (old-taken a q ta) (old-taken b r tb)
+            (λ r. ok .distinct a b al bl (old-taken a q ta) (old-taken b r tb)
             (sym (key-there a q) ∙ f ∙ key-there b r)));
       }
 
   pub insert-entry : entryOf g (putSlot g img i s) key ≡ some s
   insert-entry =
-      entry-stands g (putSlot g img i s) key pos s insert-sound k (i, il, new-taken i refl, here)
+      entry-stands g (putSlot g img i s) key pos s insert-findable k (i, il, new-taken i refl, here)
 
   pub insert-other : (key′ : Bytes) → (key′ ≡ key → ⊥) → allZero key′ ≡ false
       → entryOf g (putSlot g img i s) key′ ≡ entryOf g img key′
   insert-other key′ n z′ =
-      same-entries g img (putSlot g img i s) key′ pos sound insert-sound z′ (λ s′ k′. (before s′, after s′ k′))
+      same-entries g img (putSlot g img i s) key′ pos ok insert-findable z′ (λ s′ k′. (before s′, after s′ k′))
     where
       -- the slot of a taken one is another than the vacant one
       before : (s′ : Bytes) → Stands g img s′ → Stands g (putSlot g img i s) s′
@@ -242,8 +242,8 @@ module _ (g : Layout) (img key : Bytes) (i : ℕ) (s : Bytes) (room : Room g (le
   pub replace-search : (key′ : Bytes) → search g (putSlot g img i s) key′ ≡ search g img key′
   replace-search key′ = search-keys g img (putSlot g img i s) key′ pos kept-key
 
-  pub replace-sound : Sound g img → Sound g (putSlot g img i s)
-  replace-sound sound = sound-keys g img (putSlot g img i s) kept-key sound
+  pub replace-findable : Findable g img → Findable g (putSlot g img i s)
+  replace-findable ok = findable-keys g img (putSlot g img i s) kept-key ok
 
   pub replace-entry : entryOf g (putSlot g img i s) key ≡ some s
   replace-entry =
@@ -286,7 +286,8 @@ one-taken g img i = go (vacant g (slot g img i))
     go false = refl
 
 -- those from i on, and those below i
-taken-total : (g : Layout) (img : Bytes) (n i : ℕ) → takenFrom g img n i + total (ones g img) i ≡ total (ones g img) (i + n)
+taken-total : (g : Layout) (img : Bytes) (n i : ℕ)
+    → takenFrom g img n i + total (ones g img) i ≡ total (ones g img) (i + n)
 unfolding takenFrom total
 taken-total g img zero i = rw (add-zero i) (zero-add (total (ones g img) i))
 taken-total g img (suc n) i =

@@ -115,7 +115,8 @@ opened-facts img h =
       first = leb-true fF fE (and-left _ _ is-d);
       last = leb-true fE mostCharacter (and-right (leb fF fE) _ is-d);
       scramble-at = eqb-true (field img scrambleField) scrambleStart (and-left _ _ is-e);
-      table-at = eqb-true (field img tableField) tableStart (and-right (eqb (field img scrambleField) scrambleStart) _ is-e);
+      table-at =
+          eqb-true (field img tableField) tableStart (and-right (eqb (field img scrambleField) scrambleStart) _ is-e);
       data-at = eqb-true fD (dataStart fK fN) is-f;
       free-low = leb-true fD fX (and-left _ _ is-g);
       free-high = leb-true fX L (and-right (leb fD fX) _ is-g);
@@ -157,7 +158,9 @@ pub opened-room : (img : Bytes) → Opened img → Room (layoutOf img) (length i
 unfolding layoutOf dataStart slotSize
 opened-room img o =
     record {
-      table = subst (λ (d : ℕ). tableStart + field img slotsField * (field img keyField + 4) ≤ d) (sym (o .data-at)) (roundUp-least (tableStart + field img slotsField * (field img keyField + 4)));
+      table =
+          subst (λ (d : ℕ). tableStart + field img slotsField * (field img keyField + 4) ≤ d) (sym (o .data-at))
+          (roundUp-least (tableStart + field img slotsField * (field img keyField + 4)));
       area = omega (arith, o .free-low, o .free-high);
     }
 
@@ -189,7 +192,8 @@ top-bit img h =
     }
 
 -- ---- a call's number: the opening's where that refuses, else that of the questions after it
-pub firstNo-opened : (img : Bytes) (more : List Question) → openNumber img ≡ 0 → firstNo (opened img more) ≡ firstNo more
+pub firstNo-opened : (img : Bytes) (more : List Question) → openNumber img ≡ 0
+    → firstNo (opened img more) ≡ firstNo more
 unfolding openNumber opened
 firstNo-opened img more h =
     let h5 = firstNo-tail 1 (sizeAllowed (length img)) _ (λ z. omega arith) h in
@@ -198,7 +202,8 @@ firstNo-opened img more h =
     ∙ firstNo-yes 5 (versionKnown img) _ (firstNo-head 5 _ _ (λ z. omega arith) h5)
     ∙ firstNo-yes 6 (headerSound img) more (firstNo-head 6 _ [] (λ z. omega arith) h6)
 
-pub firstNo-refused : (img : Bytes) (more : List Question) → (openNumber img ≡ 0 → ⊥) → firstNo (opened img more) ≡ openNumber img
+pub firstNo-refused : (img : Bytes) (more : List Question) → (openNumber img ≡ 0 → ⊥)
+    → firstNo (opened img more) ≡ openNumber img
 unfolding openNumber opened
 firstNo-refused img more h =
     by-bool (sizeAllowed (length img))

@@ -19,7 +19,7 @@ use Rattle.bhtf.specs.Image.{field, Layout, layoutOf, slot, offsetOf}
 use Rattle.bhtf.specs.Search.{Probe, met, empty, exhausted, search, isMet, isEmpty, slotOf}
 use Rattle.bhtf.specs.Messages.{headSize, lengthAt, textAt, isActive, shown, held, freshText, renewedText, placedText}
 use Rattle.bhtf.specs.Delete.{deleted, deletedAt}
-use Rattle.bhtf.specs.Questions.{ask, firstNo, nameAllowed, modeKnown, newInMode1, slotToTake, messageSound, metMessageSound, somePoint, lengthAllowed, spaceLeft, named, pointAsks, addAsks, lookupAsks, deleteAsks, openNumber, addNumber, deleteNumber, lookupNumber, placeNumber}
+use Rattle.bhtf.specs.Questions.{ask, firstNo, nameAllowed, modeKnown, newInMode1, slotToTake, messageSound, metMessageSound, somePoint, lengthAllowed, spaceLeft, named, pointAsks, addAsks, shownAsks, removedAsks, lookupAsks, deleteAsks, openNumber, addNumber, deleteNumber, lookupNumber, placeNumber}
 use Rattle.bhtf.specs.Calls.{plain, settled, add, delete, lookup, lookupOffset, lookupStart, lookupLength}
 use Rattle.bhtf.proofs.Tests.{by-bool, and-true, zero-yes, zero-no}
 use Rattle.bhtf.proofs.Bytes.{part-length}
@@ -41,6 +41,83 @@ settled-no n img x h = zero-no n x img h
 pub room-none : (g : Layout) (img : Bytes) → placeNumber g img none ≡ 0
 unfolding lengthAllowed spaceLeft
 room-none g img = firstNo-yes 12 true _ refl ∙ firstNo-yes 13 true [] refl ∙ firstNo-none
+
+-- ---- the questions behind the search, by how it ended
+
+module _ (g : Layout) (img : Bytes) where
+  -- lookup's and delete's
+  pub shown-14 : (s : Probe) → isMet s ≡ false → firstNo (shownAsks g img s) ≡ 14
+  shown-14 s h = firstNo-no 14 _ _ h
+
+  pub removed-14 : (s : Probe) → isMet s ≡ false → firstNo (removedAsks g img s) ≡ 14
+  removed-14 s h = firstNo-no 14 _ _ h
+
+  module _ (i : ℕ) where
+    abbrev sound? : Bool
+    sound? = messageSound g img (offsetOf g (slot g img i))
+
+    pub shown-11 : sound? ≡ false → firstNo (shownAsks g img (met i)) ≡ 11
+    unfolding isMet metMessageSound
+    shown-11 h = firstNo-yes 14 true _ refl ∙ firstNo-no 11 _ [] h
+
+    pub shown-0 : sound? ≡ true → firstNo (shownAsks g img (met i)) ≡ 0
+    unfolding isMet metMessageSound
+    shown-0 h = firstNo-yes 14 true _ refl ∙ firstNo-yes 11 _ [] h ∙ firstNo-none
+
+    pub removed-11 : (sound? && somePoint img) ≡ false → firstNo (removedAsks g img (met i)) ≡ 11
+    unfolding isMet metMessageSound
+    removed-11 h = firstNo-yes 14 true _ refl ∙ firstNo-no 11 _ [] h
+
+    pub removed-0 : sound? ≡ true → somePoint img ≡ true → firstNo (removedAsks g img (met i)) ≡ 0
+    unfolding isMet metMessageSound
+    removed-0 h k = firstNo-yes 14 true _ refl ∙ firstNo-yes 11 _ [] (and-true _ _ h k) ∙ firstNo-none
+
+  -- add's, 9 to 13
+  module _ (bytes : Bytes) (mode : ℕ) where
+    module _ (i : ℕ) where
+      abbrev renewal : Option Bytes
+      renewal = renewedText g img (offsetOf g (slot g img i)) bytes mode
+
+      pub point-9 : eqb mode 1 ≡ true → firstNo (pointAsks g img (met i) bytes mode) ≡ 9
+      unfolding pointAsks newInMode1 isMet
+      point-9 h = firstNo-no 9 _ _ (ap (λ (t : Bool). not (t && true)) h)
+
+      present : eqb mode 1 ≡ false → firstNo (pointAsks g img (met i) bytes mode)
+          ≡ firstNo (ask 11 (messageSound g img (offsetOf g (slot g img i))) ∷ ask 12 (lengthAllowed g renewal)
+          ∷ ask 13 (spaceLeft g (field img freeField) (length img) renewal) ∷ [])
+      unfolding pointAsks newInMode1 slotToTake isMet metMessageSound placedText
+      present h = firstNo-yes 9 _ _ (ap (λ (t : Bool). not (t && true)) h) ∙ firstNo-yes 10 _ _ refl
+
+      pub point-11 : eqb mode 1 ≡ false → messageSound g img (offsetOf g (slot g img i)) ≡ false
+          → firstNo (pointAsks g img (met i) bytes mode) ≡ 11
+      point-11 h s = present h ∙ firstNo-no 11 _ _ s
+
+      pub point-renewed : eqb mode 1 ≡ false → messageSound g img (offsetOf g (slot g img i)) ≡ true
+          → firstNo (pointAsks g img (met i) bytes mode) ≡ placeNumber g img renewal
+      point-renewed h s = present h ∙ firstNo-yes 11 _ _ s
+
+    absent-9 : (s : Probe) → isMet s ≡ false → newInMode1 s mode ≡ true
+    unfolding newInMode1
+    absent-9 s e = rw e (by-bool (eqb mode 1) (λ y. rw y refl) (λ n. rw n refl))
+
+    pub point-10 : (s : Probe) → isMet s ≡ false → slotToTake (field img pointsField) (g .N) s ≡ false
+        → firstNo (pointAsks g img s bytes mode) ≡ 10
+    unfolding pointAsks
+    point-10 s e h = firstNo-yes 9 _ _ (absent-9 s e) ∙ firstNo-no 10 _ _ h
+
+    pub point-10-exhausted : firstNo (pointAsks g img exhausted bytes mode) ≡ 10
+    unfolding isMet isEmpty slotToTake
+    point-10-exhausted = point-10 exhausted refl refl
+
+    pub point-10-full : (i : ℕ) → ltb (field img pointsField) (g .N) ≡ false
+        → firstNo (pointAsks g img (empty i) bytes mode) ≡ 10
+    unfolding isMet isEmpty slotToTake
+    point-10-full i h = point-10 (empty i) refl h
+
+    pub point-fresh : (i : ℕ) → ltb (field img pointsField) (g .N) ≡ true
+        → firstNo (pointAsks g img (empty i) bytes mode) ≡ placeNumber g img (freshText bytes mode)
+    unfolding pointAsks isMet isEmpty slotToTake metMessageSound placedText
+    point-fresh i h = firstNo-yes 9 _ _ (absent-9 (empty i) refl) ∙ firstNo-yes 10 _ _ h ∙ firstNo-yes 11 true _ refl
 
 -- ---- questions 1, 5 and 6 come first
 
@@ -92,17 +169,15 @@ module _ (img key : Bytes) (open₀ : openNumber img ≡ 0) where
   lookup-14 a h = lookup-asks ∙ firstNo-yes 7 _ _ a ∙ firstNo-no 14 _ _ h
 
   module _ (a : nameAllowed (g .K) key ≡ true) (i : ℕ) (m : found ≡ met i) where
-    lookup-11-asks : lookupNumber img key ≡ firstNo (ask 11 (messageSound g img (offsetOf g (slot g img i))) ∷ [])
-    unfolding lookupAsks isMet metMessageSound
-    lookup-11-asks =
-        lookup-asks ∙ firstNo-yes 7 _ _ a ∙ firstNo-yes 14 _ _ (ap isMet m)
-        ∙ ap (λ (s : Probe). firstNo (ask 11 (metMessageSound g img s) ∷ [])) m
+    lookup-met : lookupNumber img key ≡ firstNo (shownAsks g img (met i))
+    unfolding lookupAsks
+    lookup-met = lookup-asks ∙ firstNo-yes 7 _ _ a ∙ ap (λ (s : Probe). firstNo (shownAsks g img s)) m
 
     pub lookup-11 : messageSound g img (offsetOf g (slot g img i)) ≡ false → lookupNumber img key ≡ 11
-    lookup-11 h = lookup-11-asks ∙ firstNo-no 11 _ [] h
+    lookup-11 h = lookup-met ∙ shown-11 g img i h
 
     pub lookup-0 : messageSound g img (offsetOf g (slot g img i)) ≡ true → lookupNumber img key ≡ 0
-    lookup-0 h = lookup-11-asks ∙ firstNo-yes 11 _ [] h ∙ firstNo-none
+    lookup-0 h = lookup-met ∙ shown-0 g img i h
 
     -- the answer: the text of the point's active message
     module _ (s : messageSound g img (offsetOf g (slot g img i)) ≡ true) where
@@ -143,18 +218,15 @@ module _ (img key : Bytes) (open₀ : openNumber img ≡ 0) where
   delete-14 a h = delete-asks ∙ firstNo-yes 7 _ _ a ∙ firstNo-no 14 _ _ h
 
   module _ (a : nameAllowed (g .K) key ≡ true) (i : ℕ) (m : found ≡ met i) where
-    delete-11-asks : deleteNumber img key
-        ≡ firstNo (ask 11 (messageSound g img (offsetOf g (slot g img i)) && somePoint img) ∷ [])
-    unfolding deleteAsks isMet metMessageSound
-    delete-11-asks =
-        delete-asks ∙ firstNo-yes 7 _ _ a ∙ firstNo-yes 14 _ _ (ap isMet m)
-        ∙ ap (λ (s : Probe). firstNo (ask 11 (metMessageSound g img s && somePoint img) ∷ [])) m
+    delete-met : deleteNumber img key ≡ firstNo (removedAsks g img (met i))
+    unfolding deleteAsks
+    delete-met = delete-asks ∙ firstNo-yes 7 _ _ a ∙ ap (λ (s : Probe). firstNo (removedAsks g img s)) m
 
     pub delete-11 : (messageSound g img (offsetOf g (slot g img i)) && somePoint img) ≡ false → deleteNumber img key ≡ 11
-    delete-11 h = delete-11-asks ∙ firstNo-no 11 _ [] h
+    delete-11 h = delete-met ∙ removed-11 g img i h
 
     pub delete-0 : messageSound g img (offsetOf g (slot g img i)) ≡ true → somePoint img ≡ true → deleteNumber img key ≡ 0
-    delete-0 h k = delete-11-asks ∙ firstNo-yes 11 _ [] (and-true _ _ h k) ∙ firstNo-none
+    delete-0 h k = delete-met ∙ removed-0 g img i h k
 
     pub delete-accepted : deleteNumber img key ≡ 0 → delete img key .after ≡ deletedAt g img i
     unfolding delete deleted
@@ -180,59 +252,31 @@ module _ (img key : Bytes) (open₀ : openNumber img ≡ 0) where
       unfolding addAsks named
       add-point = add-asks ∙ firstNo-yes 7 _ _ a ∙ firstNo-yes 8 _ _ k
 
+      ended : (s : Probe) → found ≡ s → addNumber img key bytes mode ≡ firstNo (pointAsks g img s bytes mode)
+      ended s m = add-point ∙ ap (λ (p : Probe). firstNo (pointAsks g img p bytes mode)) m
+
       -- a point that is present
       module _ (i : ℕ) (m : found ≡ met i) where
         pub add-9 : eqb mode 1 ≡ true → addNumber img key bytes mode ≡ 9
-        unfolding pointAsks newInMode1 isMet
-        add-9 h =
-            add-point ∙ ap (λ (s : Probe). firstNo (pointAsks g img s bytes mode)) m
-            ∙ firstNo-no 9 _ _ (ap (λ (t : Bool). not (t && true)) h)
-
-        present : eqb mode 1 ≡ false → addNumber img key bytes mode
-            ≡ firstNo (ask 11 (messageSound g img (offsetOf g (slot g img i)))
-            ∷ ask 12 (lengthAllowed g (renewedText g img (offsetOf g (slot g img i)) bytes mode))
-            ∷ ask 13 (spaceLeft g (field img freeField) (length img) (renewedText g img (offsetOf g (slot g img i)) bytes mode)) ∷ [])
-        unfolding pointAsks newInMode1 slotToTake isMet metMessageSound placedText
-        present h =
-            add-point ∙ ap (λ (s : Probe). firstNo (pointAsks g img s bytes mode)) m
-            ∙ firstNo-yes 9 _ _ (ap (λ (t : Bool). not (t && true)) h)
-            ∙ firstNo-yes 10 _ _ refl
+        add-9 h = ended (met i) m ∙ point-9 g img bytes mode i h
 
         pub add-11 : eqb mode 1 ≡ false → messageSound g img (offsetOf g (slot g img i)) ≡ false → addNumber img key bytes mode ≡ 11
-        add-11 h s = present h ∙ firstNo-no 11 _ _ s
+        add-11 h s = ended (met i) m ∙ point-11 g img bytes mode i h s
 
         pub add-renewed : eqb mode 1 ≡ false → messageSound g img (offsetOf g (slot g img i)) ≡ true
             → addNumber img key bytes mode ≡ placeNumber g img (renewedText g img (offsetOf g (slot g img i)) bytes mode)
-        add-renewed h s = present h ∙ firstNo-yes 11 _ _ s
+        add-renewed h s = ended (met i) m ∙ point-renewed g img bytes mode i h s
 
       -- a point that is absent
-      absent-9 : isMet found ≡ false → newInMode1 found mode ≡ true
-      unfolding newInMode1
-      absent-9 e = rw e (by-bool (eqb mode 1) (λ y. rw y refl) (λ n. rw n refl))
-
-      pub add-10 : isMet found ≡ false → slotToTake (field img pointsField) (g .N) found ≡ false → addNumber img key bytes mode ≡ 10
-      unfolding pointAsks
-      add-10 e h = add-point ∙ firstNo-yes 9 _ _ (absent-9 e) ∙ firstNo-no 10 _ _ h
-
       pub add-10-exhausted : found ≡ exhausted → addNumber img key bytes mode ≡ 10
-      unfolding isMet isEmpty slotToTake
-      add-10-exhausted e = add-10 (ap isMet e) (ap (slotToTake (field img pointsField) (g .N)) e)
+      add-10-exhausted m = ended exhausted m ∙ point-10-exhausted g img bytes mode
 
       module _ (i : ℕ) (m : found ≡ empty i) where
         pub add-10-full : ltb (field img pointsField) (g .N) ≡ false → addNumber img key bytes mode ≡ 10
-        unfolding isMet isEmpty slotToTake
-        add-10-full h = add-10 (ap isMet m) (ap (slotToTake (field img pointsField) (g .N)) m ∙ h)
+        add-10-full h = ended (empty i) m ∙ point-10-full g img bytes mode i h
 
         pub add-fresh : ltb (field img pointsField) (g .N) ≡ true → addNumber img key bytes mode ≡ placeNumber g img (freshText bytes mode)
-        unfolding pointAsks isMet isEmpty slotToTake metMessageSound placedText
-        add-fresh h =
-            add-point
-            ∙ firstNo-yes 9 _ _ (absent-9 (ap isMet m))
-            ∙ ap (λ (s : Probe). firstNo (ask 10 (slotToTake (field img pointsField) (g .N) s) ∷ ask 11 (metMessageSound g img s)
-            ∷ ask 12 (lengthAllowed g (placedText g img s bytes mode))
-            ∷ ask 13 (spaceLeft g (field img freeField) (length img) (placedText g img s bytes mode)) ∷ [])) m
-            ∙ firstNo-yes 10 _ _ h
-            ∙ firstNo-yes 11 true _ refl
+        add-fresh h = ended (empty i) m ∙ point-fresh g img bytes mode i h
 
 -- a refused lookup shows the image's first 0 bytes
 pub lookup-refused : (img key : Bytes) → (lookupNumber img key ≡ 0 → ⊥) → lookup img key .answer ≡ plain (lookupNumber img key)

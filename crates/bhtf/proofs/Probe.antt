@@ -2,7 +2,7 @@
 --     Passed g img key d      the slots less than d steps above the key's home are taken, by other keys
 --     turn-met, turn-empty, turn-on      one slot read: the three cases of `probe`
 --     search-met, search-empty, search-exhausted      what is so where a search ended thus
---     search-finds      a sound image's taken slots are found
+--     search-finds      the taken slots of a findable table are found
 --     search-keys, search-frame, entryOf-frame      a search depends on the slots' keys alone
 -- Assumes nothing.
 use mathlib.Core.Path.{_≡_, refl, sym, ap, _∙_, subst}
@@ -17,7 +17,7 @@ use Rattle.bhtf.specs.Search.{Probe, met, empty, exhausted, next, dist, 
 use Rattle.bhtf.proofs.Tests.{by-bool, by-le, by-eq, not-both}
 use Rattle.bhtf.proofs.Bytes.{same-true, same-false}
 use Rattle.bhtf.proofs.Cyclic.{next-lt, dist-lt, dist-self, dist-same, dist-next}
-use Rattle.bhtf.proofs.Table.{Taken, keyAt, Sound, slotMet, entryOf}
+use Rattle.bhtf.proofs.Table.{Taken, keyAt, Findable, slotMet, entryOf}
 
 pub home-lt : (g : Layout) (key : Bytes) → 0 < g .N → home g key < g .N
 unfolding home
@@ -119,7 +119,8 @@ module _ (g : Layout) (img key : Bytes) (pos : 0 < g .N) where
       (dist-lt (g .N) (home g key) k (home-lt g key pos) kl)
 
   -- the three ways in which a search ends
-  pub by-search {ℓ} : {A : Type ℓ} → ((i : ℕ) → search g img key ≡ met i → A) → ((i : ℕ) → search g img key ≡ empty i → A)
+  pub by-search {ℓ} : {A : Type ℓ} → ((i : ℕ) → search g img key ≡ met i → A)
+      → ((i : ℕ) → search g img key ≡ empty i → A)
       → (search g img key ≡ exhausted → A) → A
   by-search {A = A} yes′ free none′ = go (search g img key) refl
     where
@@ -134,7 +135,8 @@ module _ (g : Layout) (img key : Bytes) (pos : 0 < g .N) where
 
   -- ---- present and absent keys
 
-  pub search-finds : (i : ℕ) → Sound g img → i < g .N → Taken g img i → keyAt g img i ≡ key → search g img key ≡ met i
+  pub search-finds : (i : ℕ) → Findable g img → i < g .N → Taken g img i → keyAt g img i ≡ key
+      → search g img key ≡ met i
   search-finds i s l t k =
       by-search
       (λ j e.
@@ -188,6 +190,9 @@ module _ (g : Layout) (img img′ key : Bytes) (pos : 0 < g .N) where
   unfolding entryOf slotMet
   entryOf-frame f =
       by-search g img key pos
-      (λ i e. ap (slotMet g img′) (search-frame f ∙ e) ∙ ap some (f i (search-met g img key pos i e .0)) ∙ sym (ap (slotMet g img) e))
+      (λ i e.
+      ap (slotMet g img′) (search-frame f ∙ e)
+      ∙ ap some (f i (search-met g img key pos i e .0))
+      ∙ sym (ap (slotMet g img) e))
       (λ i e. ap (slotMet g img′) (search-frame f ∙ e) ∙ sym (ap (slotMet g img) e))
       (λ e. ap (slotMet g img′) (search-frame f ∙ e) ∙ sym (ap (slotMet g img) e))

@@ -10,8 +10,8 @@ use mathlib.Core.Logic.{_⊎_, inl, inr}
 use lib.ListN.{length, take, drop, replicate, length-append, length-replicate, replicate-append-replicate}
 use lib.Seq.{take-at, drop-at, take-take, length-take-le}
 use Rattle.bhtf.specs.Bytes.{Bytes, part, store, number, digits, zeros, allZero}
-use Rattle.bhtf.specs.Limits.{tableStart}
-use Rattle.bhtf.specs.Image.{field, setField, Layout, slotSize, slotStart, slot, putSlot, keyOf, offsetOf, slotBytes, blank, vacant}
+use Rattle.bhtf.specs.Limits.{word, tableStart}
+use Rattle.bhtf.specs.Image.{field, setField, Layout, layoutOf, slotSize, slotStart, slot, putSlot, keyOf, offsetOf, slotBytes, blank, vacant}
 use Rattle.bhtf.proofs.Tests.{by-le, by-eq}
 use Rattle.bhtf.proofs.Bytes.{part-length, length-store, part-store-same, part-store-other, Apart, length-digits, number-digits-fits, length-zeros, allZero-zeros}
 
@@ -21,7 +21,7 @@ pub length-setField : (img : Bytes) (at n : ℕ) → at + 4 ≤ length img → l
 unfolding setField
 length-setField img at n h = length-store img at (digits 4 n) (rw (length-digits 4 n) h)
 
-pub field-setField-same : (img : Bytes) (at n : ℕ) → at + 4 ≤ length img → n < 2 ^ 32 → field (setField img at n) at ≡ n
+pub field-setField-same : (img : Bytes) (at n : ℕ) → at + 4 ≤ length img → n < word → field (setField img at n) at ≡ n
 unfolding field setField
 field-setField-same img at n h f =
     ap (λ (m : ℕ). number (part (store img at (digits 4 n)) at m)) (sym (length-digits 4 n))
@@ -51,6 +51,11 @@ part-setField-other img p n q m h a =
 pub record Room (g : Layout) (len : ℕ) : Type 0 where
   pub table : tableStart + g .N * slotSize g ≤ g .D
   pub area : g .D ≤ len
+
+-- question 12's bound can be written in the W bytes of a message's length
+pub layout-most : (img : Bytes) → layoutOf img .most < 256 ^ layoutOf img .W
+unfolding layoutOf
+layout-most img = omega arith
 
 -- a slot ends at or below the data offset
 pub slot-end : (g : Layout) {len : ℕ} → Room g len → (i : ℕ) → i < g .N → slotStart g i + slotSize g ≤ g .D
@@ -150,7 +155,7 @@ module _ (g : Layout) where
   unfolding keyOf slotBytes
   keyOf-entry key o e = take-at key (digits 4 o) (g .K) e
 
-  pub offsetOf-entry : (key : Bytes) (o : ℕ) → length key ≡ g .K → o < 2 ^ 32 → offsetOf g (slotBytes key o) ≡ o
+  pub offsetOf-entry : (key : Bytes) (o : ℕ) → length key ≡ g .K → o < word → offsetOf g (slotBytes key o) ≡ o
   unfolding offsetOf slotBytes
   offsetOf-entry key o e f = ap number (drop-at key (digits 4 o) (g .K) e) ∙ number-digits-fits 4 o f
 

@@ -1,4 +1,4 @@
--- The measure of delete's walk: how far the entries stand from their homes, and what a write to a slot and a move do to it.
+-- The measure of delete's walk: how far the entries stand from their homes; what a slot's write and a move do to it.
 --     over g img f       the sum over the slots i of f i (the bytes of slot i)
 --     spread g img       the sum over the taken slots of the steps from home to slot
 --     over-putSlot, over-moved        what such a sum is after a write, and after a move into the hole
@@ -106,7 +106,8 @@ module _ (g : Layout) (img : Bytes) (r : Room g (length img)) (h j : ℕ) (lh : 
 
   -- a sum in which vacant slots count nothing
   pub over-moved : (f : ℕ → Bytes → ℕ) → ((k : ℕ) (s : Bytes) → vacant g s ≡ true → f k s ≡ 0) → (h ≡ j → ⊥)
-      → vacant g (slot g img h) ≡ true → over g (moved g img h j) f + f j (slot g img j) ≡ over g img f + f h (slot g img j)
+      → vacant g (slot g img h) ≡ true
+      → over g (moved g img h j) f + f j (slot g img j) ≡ over g img f + f h (slot g img j)
   unfolding moved
   over-moved f zeroAt n v =
       let half : Bytes = putSlot g img h (slot g img j) in

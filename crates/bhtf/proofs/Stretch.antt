@@ -1,10 +1,11 @@
 -- A message as a stretch of bytes, from its header to the end of its text, and what depends on that stretch alone.
---     size g img o          how many bytes the stretch of the message at o has
+--     span g img o          how many bytes the stretch of the message at o has
 --     Lies g img o          question 11 as facts: inside the data area, with a letter and a length that are allowed
+--     Stored g img o        no message, or one that passes question 11 and whose length its W bytes can hold
 --     SameOn img img′ p n   the two images agree on the n bytes from p on
 -- Assumes nothing.
 use mathlib.Core.Path.{_≡_, refl, ap, _∙_}
-use Prim.Native.Nat.{ℕ, _+_, _≤_}
+use Prim.Native.Nat.{ℕ, _+_, _^_, _≤_, _<_}
 use native.Mathlib.Omega.{arith}
 use mathlib.Core.Logic.{inl, inr}
 use mathlib.Core.Bool.{true, _&&_, _||_}
@@ -19,10 +20,14 @@ use Rattle.bhtf.specs.Questions.{messageSound}
 use Rattle.bhtf.proofs.Tests.{by-eq, by-or, and-left, and-right, and-true, or-right}
 use Rattle.bhtf.proofs.Bytes.{Apart, part-store-other}
 
-abbrev pub size : Layout → Bytes → ℕ → ℕ
-size g img o = headSize g + lengthAt g img o
+abbrev pub span : Layout → Bytes → ℕ → ℕ
+span g img o = headSize g + lengthAt g img o
 
--- the length at an offset is what the message there holds
+-- no offset holds nothing; the length at an offset is what the message there holds
+pub held-none : (g : Layout) (img : Bytes) (o : ℕ) → o ≡ 0 → held g img o ≡ 0
+unfolding held
+held-none g img o z = rw z refl
+
 pub held-some : (g : Layout) (img : Bytes) (o : ℕ) → (o ≡ 0 → ⊥) → held g img o ≡ lengthAt g img o
 unfolding held
 held-some g img o z = rw (ne-eqb o 0 z) refl
@@ -33,7 +38,7 @@ pub record Lies (g : Layout) (img : Bytes) (o : ℕ) : Type 0 where
   pub low : g .D ≤ o
   pub letter : (eqb (letterAt img o) active || eqb (letterAt img o) inactive) ≡ true
   pub least : leastLength ≤ lengthAt g img o
-  pub end : o + size g img o ≤ field img freeField
+  pub end : o + span g img o ≤ field img freeField
 
 pub sound-lies : (g : Layout) (img : Bytes) (o : ℕ) → messageSound g img o ≡ true → (o ≡ 0 → ⊥) → Lies g img o
 unfolding messageSound
@@ -64,11 +69,21 @@ lies-sound g img o l =
     let c = leb leastLength (lengthAt g img o) in
     let end₁ : o + headSize g + lengthAt g img o ≤ field img freeField = omega (arith, l .end) in
     or-right (eqb o 0) _
-    (and-true (a && b && c) _ (and-true (a && b) c (and-true a b (le-leb _ _ (l .low)) (l .letter)) (le-leb _ _ (l .least))) (le-leb _ _ end₁))
+    (and-true (a && b && c) _
+    (and-true (a && b) c (and-true a b (le-leb _ _ (l .low)) (l .letter)) (le-leb _ _ (l .least))) (le-leb _ _ end₁))
 
 pub none-sound : (g : Layout) (img : Bytes) → messageSound g img 0 ≡ true
 unfolding messageSound
 none-sound g img = refl
+
+-- ---- what the invariant says of a message
+
+pub record Stored (g : Layout) (img : Bytes) (o : ℕ) : Type 0 where
+  pub sound : messageSound g img o ≡ true
+  pub short : (o ≡ 0 → ⊥) → lengthAt g img o < 256 ^ g .W
+
+pub none-stored : (g : Layout) (img : Bytes) → Stored g img 0
+none-stored g img = record { sound = none-sound g img; short = λ z. absurd (z refl) }
 
 -- ---- images that agree on a stretch
 
@@ -88,7 +103,7 @@ same-on-store img at v p n h (inr a) = record { on = λ q m lo hi. part-store-ot
 
 -- ---- what depends on the stretch alone
 
-module _ (g : Layout) (img img′ : Bytes) (o : ℕ) (same : SameOn img img′ o (size g img o)) where
+module _ (g : Layout) (img img′ : Bytes) (o : ℕ) (same : SameOn img img′ o (span g img o)) where
   pub letterAt-same : letterAt img′ o ≡ letterAt img o
   unfolding letterAt headSize
   letterAt-same = ap number (same .on o 1 (omega arith) (omega arith))
@@ -97,8 +112,8 @@ module _ (g : Layout) (img img′ : Bytes) (o : ℕ) (same : SameOn img img′ o
   unfolding lengthAt headSize
   lengthAt-same = ap number (same .on (o + 1) (g .W) (omega arith) (omega arith))
 
-  pub size-same : size g img′ o ≡ size g img o
-  size-same = ap (λ (m : ℕ). headSize g + m) lengthAt-same
+  pub span-same : span g img′ o ≡ span g img o
+  span-same = ap (λ (m : ℕ). headSize g + m) lengthAt-same
 
   pub textAt-same : textAt g img′ o ≡ textAt g img o
   unfolding textAt
@@ -125,9 +140,17 @@ module _ (g : Layout) (img img′ : Bytes) (o : ℕ) (same : SameOn img img′ o
       }
 
 -- question 11 is answered yes again where X has not fallen
-pub sound-same : (g : Layout) (img img′ : Bytes) (o : ℕ) → ((o ≡ 0 → ⊥) → SameOn img img′ o (size g img o))
+pub sound-same : (g : Layout) (img img′ : Bytes) (o : ℕ) → ((o ≡ 0 → ⊥) → SameOn img img′ o (span g img o))
     → field img freeField ≤ field img′ freeField → messageSound g img o ≡ true → messageSound g img′ o ≡ true
 sound-same g img img′ o same up s =
     by-eq o 0
     (λ z. rw z (none-sound g img′))
     (λ z. lies-sound g img′ o (lies-same g img img′ o (same z) up (sound-lies g img o s z)))
+
+pub stored-same : (g : Layout) (img img′ : Bytes) (o : ℕ) → ((o ≡ 0 → ⊥) → SameOn img img′ o (span g img o))
+    → field img freeField ≤ field img′ freeField → Stored g img o → Stored g img′ o
+stored-same g img img′ o same up s =
+    record {
+      sound = sound-same g img img′ o same up (s .sound);
+      short = λ z. rw (lengthAt-same g img img′ o (same z)) (s .short z);
+    }

@@ -1,6 +1,6 @@
--- The table as the proofs see it: taken slots, the invariant of tables that searches go by, and what a name's slot holds.
+-- The table as the proofs see it: taken slots, tables in which searches find what stands, and what a name's slot holds.
 --     Taken g img i       slot i is taken
---     Sound g img         1. no vacant slot from an entry's home up to it; 2. no key stands twice
+--     Findable g img      1. no vacant slot from an entry's home up to it; 2. no key stands twice
 --     entryOf g img key   the bytes of the slot where the search meets the key
 --     weight g img w      the sum of w over the taken slots' bytes
 -- Assumes nothing.
@@ -23,7 +23,7 @@ keyAt g img i = keyOf g (slot g img i)
 abbrev pub homeAt : Layout → Bytes → ℕ → ℕ
 homeAt g img i = home g (keyAt g img i)
 
-pub record Sound (g : Layout) (img : Bytes) : Type 0 where
+pub record Findable (g : Layout) (img : Bytes) : Type 0 where
   pub paths : (i k : ℕ) → i < g .N → k < g .N → Taken g img i
       → dist (g .N) (homeAt g img i) k < dist (g .N) (homeAt g img i) i → Taken g img k
   pub distinct : (i j : ℕ) → i < g .N → j < g .N → Taken g img i → Taken g img j → keyAt g img i ≡ keyAt g img j → i ≡ j

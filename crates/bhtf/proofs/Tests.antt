@@ -1,5 +1,5 @@
--- Tests on Bools and numbers: halves of a conjunction, and case splits by continuation, which keep the equation and which
--- `omega` reads.
+-- Tests on Bools and numbers: halves of a conjunction, and case splits by continuation, which keep the equation and
+-- which `omega` reads.
 --     by-bool b yes no      on b
 --     by-le a b yes no      on a ≤ b; by-eq on a ≡ b; by-either on one of two facts
 --     zero-yes, zero-no     what stands behind a number that is 0, and where it is not

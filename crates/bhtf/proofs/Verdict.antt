@@ -1,8 +1,9 @@
 -- The lowest number for which a test holds, and what a check that says sound has seen.
 --     lowest-some, lowest-none      what the answer of `lowest` says
 --     lowest-yes, lowest-no, lowest-end      one number looked at, as a loop from i up to n has it
---     searches-sound      a table where each taken slot's key, searched, ends there is sound
---     check-open, check-searches, check-messages, check-count, check-weight, check-sound      of an image that the check calls sound
+--     searches-findable      a table where each taken slot's key, searched, ends there is findable
+--     check-open, check-searches, check-messages, check-count, check-weight, check-findable
+--                         of an image that the check calls sound
 -- Assumes nothing.
 use mathlib.Core.Path.{_≡_, refl, sym, ap, _∙_}
 use Prim.Native.Nat.{ℕ, zero, suc, _+_, _-_, _≤_, _<_}
@@ -16,9 +17,9 @@ use Rattle.bhtf.specs.Limits.{pointsField}
 use Rattle.bhtf.specs.Image.{field, Layout, layoutOf, slot, offsetOf}
 use Rattle.bhtf.specs.Search.{Probe, met, empty, exhausted, search}
 use Rattle.bhtf.specs.Questions.{messageSound, openNumber}
-use Rattle.bhtf.specs.Inspect.{lowest, taken, takenFrom, endsAt, slotSound, slotFails, Verdict, sound, countSound, verdictOf, check}
+use Rattle.bhtf.specs.Inspect.{lowest, taken, takenFrom, endsAt, slotSound, slotFails, Verdict, sound, countSound, verdictOf, tableVerdict, check}
 use Rattle.bhtf.proofs.Tests.{by-bool, by-eq, and-left, and-right}
-use Rattle.bhtf.proofs.Table.{Taken, keyAt, Sound, weight}
+use Rattle.bhtf.proofs.Table.{Taken, keyAt, Findable, weight}
 use Rattle.bhtf.proofs.Probe.{search-met}
 use Rattle.bhtf.proofs.Insert.{count-taken}
 
@@ -92,9 +93,9 @@ endsAt-met (met j) i e = ap met (eqb-true j i e)
 endsAt-met (empty j) i e = let z : _≡_ {A = ℕ} 0 1 = cc in absurd (omega arith)
 endsAt-met exhausted i e = let z : _≡_ {A = ℕ} 0 1 = cc in absurd (omega arith)
 
-pub searches-sound : (g : Layout) (img : Bytes)
-    → ((i : ℕ) → i < g .N → Taken g img i → search g img (keyAt g img i) ≡ met i) → Sound g img
-searches-sound g img f =
+pub searches-findable : (g : Layout) (img : Bytes)
+    → ((i : ℕ) → i < g .N → Taken g img i → search g img (keyAt g img i) ≡ met i) → Findable g img
+searches-findable g img f =
     record {
       paths = λ i k il kl t d. search-met g img (keyAt g img i) (omega arith) i (f i il t) .2 k kl d .0;
       distinct = λ i j il jl ti tj e.
@@ -105,7 +106,8 @@ searches-sound g img f =
     }
 
 -- a taken slot that does not fail
-pub fails-not : (g : Layout) (img : Bytes) (i : ℕ) → slotFails g img i ≡ false → Taken g img i → slotSound g img i ≡ true
+pub fails-not : (g : Layout) (img : Bytes) (i : ℕ) → slotFails g img i ≡ false → Taken g img i
+    → slotSound g img i ≡ true
 unfolding slotFails taken
 fails-not g img i e t = not-false (slotSound g img i) (ap (λ (b : Bool). not b && not (slotSound g img i)) (sym t) ∙ e)
 
@@ -130,19 +132,16 @@ verdict-open false v n e = let z : _≡_ {A = ℕ} 0 1 = cc in absurd (omega ari
 
 module _ (img : Bytes) (ok : check img ≡ sound) where
   -- the two parts of the verdict
-  parts : (eqb (openNumber img) 0 ≡ true)
-      × (verdictOf (countSound (layoutOf img) img) (lowest (slotFails (layoutOf img) img) (layoutOf img .N) 0) ≡ sound)
-  parts =
-      verdict-open (eqb (openNumber img) 0)
-      (verdictOf (countSound (layoutOf img) img) (lowest (slotFails (layoutOf img) img) (layoutOf img .N) 0))
-      (openNumber img) (unfold check in ok)
+  parts : (eqb (openNumber img) 0 ≡ true) × (tableVerdict img ≡ sound)
+  parts = verdict-open (eqb (openNumber img) 0) (tableVerdict img) (openNumber img) (unfold check in ok)
 
   -- a taken slot is sound
   check-slot : (i : ℕ) → i < layoutOf img .N → Taken (layoutOf img) img i → slotSound (layoutOf img) img i ≡ true
   check-slot i l t =
       fails-not (layoutOf img) img i
       (lowest-none (slotFails (layoutOf img) img) (layoutOf img .N) 0
-      (verdict-none (countSound (layoutOf img) img) (lowest (slotFails (layoutOf img) img) (layoutOf img .N) 0) (parts .1))
+      (verdict-none (countSound (layoutOf img) img) (lowest (slotFails (layoutOf img) img) (layoutOf img .N) 0)
+      (parts .1))
       i (omega arith) (omega arith))
       t
 
@@ -168,10 +167,11 @@ module _ (img : Bytes) (ok : check img ≡ sound) where
   check-count =
       eqb-true (field img pointsField) (takenFrom (layoutOf img) img (layoutOf img .N) 0)
       (unfold countSound in
-      verdict-count (countSound (layoutOf img) img) (lowest (slotFails (layoutOf img) img) (layoutOf img .N) 0) (parts .1))
+      verdict-count (countSound (layoutOf img) img) (lowest (slotFails (layoutOf img) img) (layoutOf img .N) 0)
+      (parts .1))
 
   pub check-weight : field img pointsField ≡ weight (layoutOf img) img (λ s. 1)
   check-weight = check-count ∙ count-taken (layoutOf img) img
 
-  pub check-sound : Sound (layoutOf img) img
-  check-sound = searches-sound (layoutOf img) img check-searches
+  pub check-findable : Findable (layoutOf img) img
+  check-findable = searches-findable (layoutOf img) img check-searches

@@ -1,5 +1,5 @@
--- Document 01, "The plain control book": entries with distinct names, and the space used. It knows nothing of slots or bytes
--- of an image: "Each step is fed its call's arguments and nothing from the file."
+-- Document 01, "The plain control book": entries with distinct names, and the space used. It knows nothing of slots or
+-- bytes of an image: "Each step is fed its call's arguments and nothing from the file."
 -- Assumes nothing.
 use Prim.Native.Nat.{ℕ, _+_}
 use mathlib.Core.Bool.{false, cond}
@@ -69,24 +69,24 @@ entered b name text held more =
 unfoldable pub placed : Book → Bytes → Bytes → Book
 placed b name text = entered b name text (length text) (b .terms .head + length text)
 
--- "Add of m bytes, name absent: 10 if there are N entries; then, for m above 0, 12 .. and 13 .. Otherwise the text is the data,
--- held = m, and U grows by 4 + m if m is above 0."
+-- "Add of m bytes, name absent: 10 if there are N entries; then, for m above 0, 12 .. and 13 .. Otherwise the text is
+-- the data, held = m, and U grows by 4 + m if m is above 0."
 unfoldable pub addAbsent : Book → Bytes → Bytes → Outcome Book
 addAbsent b name data′ =
     cond (eqb (length data′) 0)
     (stepOf b (ask 10 (ltb (length (b .entries)) (b .terms .N)) ∷ []) (entered b name [] 0 0))
     (stepOf b (ask 10 (ltb (length (b .entries)) (b .terms .N)) ∷ roomAsks b (length data′)) (placed b name data′))
 
--- "Mode 2 with m = 0 empties the text. Mode 2 with m at most held sets the text and held = m. Mode 2 with larger m sets both
--- after 12 and 13, and U grows by 4 + m."
+-- "Mode 2 with m = 0 empties the text. Mode 2 with m at most held sets the text and held = m. Mode 2 with larger m sets
+-- both after 12 and 13, and U grows by 4 + m."
 unfoldable pub replace : Book → Entry → Bytes → Outcome Book
 replace b e data′ =
     cond (eqb (length data′) 0) (stepOf b [] (entered b (e .name) [] (e .held) 0))
     (cond (leb (length data′) (e .held)) (stepOf b [] (entered b (e .name) data′ (length data′) 0))
     (stepOf b (roomAsks b (length data′)) (placed b (e .name) data′)))
 
--- "Mode 3 with m = 0 changes nothing. Otherwise t = text length + m takes m's place in 12, 13 and the growth of U; the text gets
--- the data behind it and held = t."
+-- "Mode 3 with m = 0 changes nothing. Otherwise t = text length + m takes m's place in 12, 13 and the growth of U; the
+-- text gets the data behind it and held = t."
 unfoldable pub append : Book → Entry → Bytes → Outcome Book
 append b e data′ =
     cond (eqb (length data′) 0) (stepOf b [] b)
@@ -116,7 +116,8 @@ deleteFound b name (some e) =
     stepOf b [] (record { terms = b .terms; entries = without name (b .entries); used = b .used })
 
 unfoldable pub bookDelete : Book → Bytes → Outcome Book
-bookDelete b name = guarded b (ask 7 (nameAllowed (b .terms .K) name) ∷ []) (deleteFound b name (find name (b .entries)))
+bookDelete b name =
+    guarded b (ask 7 (nameAllowed (b .terms .K) name) ∷ []) (deleteFound b name (find name (b .entries)))
 
 -- "Lookup: 14 if absent, else text and length."
 unfoldable pub lookupFound : Book → Option Entry → Outcome Book

@@ -57,8 +57,8 @@ lookupOffset img key =
     let o : ℕ = offsetOf g (slot g img (slotOf (search g img key))) in
     cond (eqb (lookupNumber img key) 0 && isActive img o) o 0
 
--- "Lookup answers the message length, 0 for none, and hands back the message bytes as a part of the lent image. With no message,
--- or refused, the part is the image's first 0 bytes." Where the part starts, and its length.
+-- "Lookup answers the message length, 0 for none, and hands back the message bytes as a part of the lent image. With no
+-- message, or refused, the part is the image's first 0 bytes." Where the part starts, and its length.
 unfoldable pub lookupStart : Bytes → Bytes → ℕ
 lookupStart img key = cond (eqb (lookupOffset img key) 0) 0 (lookupOffset img key + headSize (layoutOf img))
 
@@ -68,7 +68,10 @@ lookupLength img key = held (layoutOf img) img (lookupOffset img key)
 unfoldable pub lookup : Bytes → Bytes → Outcome Bytes
 lookup img key =
     let m : ℕ = lookupLength img key in
-    record { after = img; answer = record { number = lookupNumber img key; amount = m; text = part img (lookupStart img key) m } }
+    record {
+      after = img;
+      answer = record { number = lookupNumber img key; amount = m; text = part img (lookupStart img key) m };
+    }
 
 -- "count answers C, and 0 beside the number when refused"
 unfoldable pub countOf : Bytes → ℕ

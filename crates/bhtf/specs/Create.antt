@@ -1,4 +1,4 @@
--- Document 01, "The image", from "Create takes a slice" on: the generator, the scramble, and the image that create leaves.
+-- Document 01, "The image", from "Create takes a slice" on: the generator, the scramble, and create's image.
 -- Assumes nothing.
 use Prim.Native.Nat.{ℕ, zero, suc, _+_, _-_, _*_, _%_}
 use mathlib.Core.Bool.{cond}
@@ -36,7 +36,8 @@ unfoldable pub freshHeader : ℕ → ℕ → Bytes
 freshHeader K N =
     magic ++ (major ∷ minor ∷ patch ∷ []) ++ digits 4 0 ++ digits 4 K ++ digits 4 N ++ digits 4 0
     ++ digits 4 defaultMultiplier ++ digits 4 defaultStart ++ digits 4 defaultFirst ++ digits 4 defaultLast
-    ++ digits 4 scrambleStart ++ digits 4 tableStart ++ digits 4 (dataStart K N) ++ digits 4 (dataStart K N) ++ digits 4 minusOne
+    ++ digits 4 scrambleStart ++ digits 4 tableStart ++ digits 4 (dataStart K N) ++ digits 4 (dataStart K N)
+    ++ digits 4 minusOne
 
 -- "It writes the header above with .. and the scramble. All other bytes become zero." N is not 0 here.
 unfoldable pub freshImage : ℕ → ℕ → ℕ → ℕ → Bytes

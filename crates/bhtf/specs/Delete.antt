@@ -1,5 +1,5 @@
--- Document 01, "Messages", from "Delete:" on: what an accepted delete leaves. Knuth's Algorithm R (The Art of Computer Programming,
--- volume 3, section 6.4), run upwards.
+-- Document 01, "Messages", from "Delete:" on: what an accepted delete leaves. Knuth's Algorithm R (The Art of Computer
+-- Programming, volume 3, section 6.4), run upwards.
 --     closed g img i           the image with slot i emptied, and the gap closed behind it
 --     deleted g img probe      the image that an accepted delete leaves
 -- Assumes nothing.
@@ -12,7 +12,8 @@ use Rattle.bhtf.specs.Image.{field, setField, Layout, slot, putSlot, key
 use Rattle.bhtf.specs.Search.{Probe, met, empty, exhausted, next, dist}
 use Rattle.bhtf.specs.Messages.{retire}
 
--- "An entry whose home is not among the slots from the one after the hole up to its own": i is among the slots from a up to b
+-- "An entry whose home is not among the slots from the one after the hole up to its own":
+-- i is among the slots from a up to b
 unfoldable pub among : ℕ → ℕ → ℕ → ℕ → Bool
 among N a b i = leb (dist N a i) (dist N a b)
 
@@ -29,7 +30,8 @@ pub record Closing : Type 0 where
 unfoldable pub moved : Layout → Bytes → ℕ → ℕ → Bytes
 moved g img hole j = putSlot g (putSlot g img hole (slot g img j)) j (blank g)
 
--- "Look at the slots after it in turn, wrapping. .. The walk ends at the first empty slot, which may be the hole itself."
+-- "Look at the slots after it in turn, wrapping. .. The walk ends at the first empty slot, which may be the hole
+-- itself."
 -- The first number bounds the slots looked at; `close-ends` shows that it is never what ends the walk.
 unfoldable pub closeFrom : ℕ → Layout → Bytes → ℕ → ℕ → Closing
 closeFrom zero g img hole j = record { image = img; at = j }

@@ -1,4 +1,4 @@
--- Demand 3, the theorem over lists of calls, as one statement: `Agreement`. It is about the list as a whole, from create itself.
+-- Demand 3, the theorem over lists of calls, as one statement: `Agreement`, about the list as a whole, from create on.
 -- Its proof stands in another crate; this file can be read without it.
 -- Assumes nothing.
 use Prim.Native.Nat.{ℕ, _+_, _-_}
@@ -16,7 +16,8 @@ use Rattle.bhtf.specs.Questions.{nameAllowed}
 use Rattle.bhtf.specs.Calls.{create, lookup, perform, Call, answers, stateAfter}
 use Rattle.bhtf.specs.Book.{Book, Terms, Entry, newBook, find, bookStep}
 
--- "The file finds a point when its name has K bytes, not all zero, and the search meets it; its message is what lookup shows."
+-- "The file finds a point when its name has K bytes, not all zero, and the search meets it; its message is what lookup
+-- shows."
 unfoldable pub fileText : Bytes → Bytes → Option Bytes
 fileText img name =
     let g = layoutOf img in
@@ -34,8 +35,8 @@ bookText b name = textOf (find name (b .entries))
 unfoldable pub termsOf : ℕ → ℕ → ℕ → Terms
 termsOf L K N = record { K = K; N = N; R = L - dataStart K N; head = lengthWidth + 1; most = mostLength }
 
--- On a list of calls the image's answers are the book's, in order; and after the list the file finds exactly the book's points
--- with the book's texts.
+-- On a list of calls the image's answers are the book's, in order; and after the list the file finds exactly the book's
+-- points with the book's texts.
 unfoldable pub Agrees : Bytes → Book → List Call → Type 0
 Agrees img b calls =
     (answers perform calls img ≡ answers bookStep calls b)

@@ -33,7 +33,8 @@ lastPage D X = cond (eqb X D) minusOne ((X - D - 1) / pageSize)
 
 -- ---- From name to slot
 
--- "For each key byte c multiply by the multiplier, cut to 32 bits; then, if F ≤ c ≤ E, exclusive-or with scramble number c − F."
+-- "For each key byte c multiply by the multiplier, cut to 32 bits; then, if F ≤ c ≤ E, exclusive-or with scramble
+-- number c − F."
 -- S is the scramble's bytes.
 unfoldable pub hashStep : ℕ → ℕ → ℕ → Bytes → ℕ → ℕ → ℕ
 hashStep multiplier F E S h c =
@@ -51,7 +52,9 @@ scramble img = part img scrambleStart (4 * (field img lastField - field img firs
 
 -- "Hash: begin with the start value." The hash of a key, before the modulo.
 unfoldable pub hash : Bytes → Bytes → ℕ
-hash img key = hashFrom (field img multiplierField) (field img firstField) (field img lastField) (scramble img) (field img startField) key
+hash img key =
+    hashFrom (field img multiplierField) (field img firstField) (field img lastField) (scramble img)
+    (field img startField) key
 
 -- ---- The layout
 
@@ -66,7 +69,14 @@ pub record Layout : Type 0 where
 
 unfoldable pub layoutOf : Bytes → Layout
 layoutOf img =
-    record { K = field img keyField; N = field img slotsField; D = field img dataField; W = lengthWidth; most = mostLength; hashed = hash img }
+    record {
+      K = field img keyField;
+      N = field img slotsField;
+      D = field img dataField;
+      W = lengthWidth;
+      most = mostLength;
+      hashed = hash img;
+    }
 
 -- "The home slot is the hash modulo N."
 unfoldable pub home : Layout → Bytes → ℕ

@@ -25,8 +25,8 @@ takenFrom g img (suc left) i = cond (taken g img i) 1 0 + takenFrom g img left (
 
 -- ---- the walk
 
--- "The walk from slot i shows the lowest taken slot at or above i, its key as a part of the image, or the end; i ≥ N is the
--- end. The end and a refusal show the image's first 0 bytes."
+-- "The walk from slot i shows the lowest taken slot at or above i, its key as a part of the image, or the end; i ≥ N is
+-- the end. The end and a refusal show the image's first 0 bytes."
 pub data Stop : Type 0 where
   refused : ℕ → Stop
   stopped : ℕ → Stop
@@ -77,8 +77,8 @@ slotSound g img i =
 unfoldable pub slotFails : Layout → Bytes → ℕ → Bool
 slotFails g img i = taken g img i && not (slotSound g img i)
 
--- "The check says sound when each taken slot's key, searched, ends there, its message passes 11, and C is the number of taken
--- slots. Else it names the lowest failing slot, or, if only C fails, the count."
+-- "The check says sound when each taken slot's key, searched, ends there, its message passes 11, and C is the number of
+-- taken slots. Else it names the lowest failing slot, or, if only C fails, the count."
 pub data Verdict : Type 0 where
   refused : ℕ → Verdict
   sound : Verdict
@@ -93,11 +93,13 @@ verdictOf c (some i) = slotBad i
 verdictOf true none = sound
 verdictOf false none = countBad
 
+-- of the table of an image whose header is accepted
+abbrev pub tableVerdict : Bytes → Verdict
+tableVerdict img =
+    verdictOf (countSound (layoutOf img) img) (lowest (slotFails (layoutOf img) img) (layoutOf img .N) 0)
+
 unfoldable pub check : Bytes → Verdict
-check img =
-    cond (eqb (openNumber img) 0)
-    (verdictOf (countSound (layoutOf img) img) (lowest (slotFails (layoutOf img) img) (layoutOf img .N) 0))
-    (refused (openNumber img))
+check img = cond (eqb (openNumber img) 0) (tableVerdict img) (refused (openNumber img))
 
 -- the check's number
 unfoldable pub verdictNumber : Verdict → ℕ

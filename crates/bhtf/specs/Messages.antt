@@ -1,19 +1,19 @@
--- Document 01, "Messages": a message in the image, new space, and what an accepted add leaves. Delete stands in `Delete`, the
--- questions that come before in `Questions`; the calls, questions and effect together, in `Calls`.
+-- Document 01, "Messages": a message in the image, new space, and what an accepted add leaves. Delete stands in
+-- `Delete`, the questions that come before in `Questions`; the calls, questions and effect together, in `Calls`.
 --     shown g img o           the text of the active message at offset o, nothing where there is none
 --     takeSpace g img t       the image with a new message t at X
 --     added g img key data mode       the image that an accepted add leaves
 -- Assumes nothing.
-use Prim.Native.Nat.{ℕ, zero, suc, _+_, _-_, _*_}
-use mathlib.Core.Bool.{Bool, true, false, cond, not, _&&_}
+use Prim.Native.Nat.{ℕ, _+_, _-_}
+use mathlib.Core.Bool.{Bool, cond, not, _&&_}
 use mathlib.Core.List.{[], _∷_, _++_}
 use mathlib.Core.Option.{Option, none, some}
 use lib.ListN.{length}
 use lib.Dec.{leb, eqb}
 use Rattle.bhtf.specs.Bytes.{Bytes, part, store, number, digits, zeros}
 use Rattle.bhtf.specs.Limits.{active, inactive, pointsField, freeField, pageField}
-use Rattle.bhtf.specs.Image.{field, setField, lastPage, Layout, slot, putSlot, keyOf, offsetOf, slotBytes, blank, vacant, home}
-use Rattle.bhtf.specs.Search.{Probe, met, empty, exhausted, search, next, dist}
+use Rattle.bhtf.specs.Image.{field, setField, lastPage, Layout, slot, putSlot, offsetOf, slotBytes}
+use Rattle.bhtf.specs.Search.{Probe, met, empty, exhausted, search}
 
 -- ---- a message in the image: a letter, W bytes of length, the text
 unfoldable pub headSize : Layout → ℕ
@@ -35,6 +35,10 @@ isActive img o = not (eqb o 0) && eqb (letterAt img o) active
 -- the text of a point's active message; none is the empty text
 unfoldable pub shown : Layout → Bytes → ℕ → Bytes
 shown g img o = cond (isActive img o) (textAt g img o) []
+
+-- the length of that text
+unfoldable pub shownLength : Layout → Bytes → ℕ → ℕ
+shownLength g img o = cond (isActive img o) (lengthAt g img o) 0
 
 -- the length "at the offset (0 for no offset)"
 unfoldable pub held : Layout → Bytes → ℕ → ℕ

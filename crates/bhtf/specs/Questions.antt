@@ -1,4 +1,4 @@
--- Document 01, "Questions before a call": questions 1 to 14 in its order, and for each call the order in which it puts them.
+-- Document 01, "Questions before a call": questions 1 to 14, and for each call the order in which it puts them.
 --     firstNo qs      the number of the first question answered no, 0 where there is none
 -- Where a question begins with a condition ("If the key is absent, .."), it is answered yes where the condition fails.
 -- Assumes nothing.
@@ -44,10 +44,11 @@ tableFits L K N = leb (dataStart K N) L
 
 -- "5. Are the first 5 bytes "BHTFv", the next two 1 and 0, the next at most 1?"
 unfoldable pub versionKnown : Bytes → Bool
-versionKnown img = same (part img 0 5) magic && eqb (getD img 5 0) major && eqb (getD img 6 0) minor && leb (getD img 7 0) patch
+versionKnown img =
+    same (part img 0 5) magic && eqb (getD img 5 0) major && eqb (getD img 6 0) minor && leb (getD img 7 0) patch
 
--- "6. Is K from 1 to 32, N from 1 to 65,536, C at most N, F ≤ E ≤ 255, are the scramble and table offsets as above, is D by its
--- formula, and D ≤ X ≤ L?" After question 1 no field within these bounds has its top bit set: `top-bit`.
+-- "6. Is K from 1 to 32, N from 1 to 65,536, C at most N, F ≤ E ≤ 255, are the scramble and table offsets as above, is
+-- D by its formula, and D ≤ X ≤ L?" After question 1 no field within these bounds has its top bit set: `top-bit`.
 unfoldable pub headerSound : Bytes → Bool
 headerSound img =
     keyAllowed (field img keyField)
@@ -106,8 +107,8 @@ spaceLeft g place L (some t) = leb (place + headSize g + length t) L
 
 -- "14. Is the key present?" is `isMet`.
 
--- ---- the order for each call: "Create: 1 to 4. Every other call: 1, 5, 6, then add 7 to 13; lookup and delete 7, 14, 11;
--- count, walk and check nothing more." N is the number of slots after "0 means 5,507".
+-- ---- the order for each call: "Create: 1 to 4. Every other call: 1, 5, 6, then add 7 to 13; lookup and delete 7, 14,
+-- 11; count, walk and check nothing more." N is the number of slots after "0 means 5,507".
 unfoldable pub createAsks : ℕ → ℕ → ℕ → List Question
 createAsks L K N = ask 1 (sizeAllowed L) ∷ ask 2 (keyAllowed K) ∷ ask 3 (slotsAllowed N) ∷ ask 4 (tableFits L K N) ∷ []
 
@@ -131,16 +132,23 @@ pointAsks g img s data′ mode =
 unfoldable pub addAsks : Layout → Bytes → Probe → Bytes → Bytes → ℕ → List Question
 addAsks g img s key data′ mode = named (g .K) key mode (pointAsks g img s data′ mode)
 
+-- 14 and 11, of lookup and of delete
+abbrev pub shownAsks : Layout → Bytes → Probe → List Question
+shownAsks g img s = ask 14 (isMet s) ∷ ask 11 (metMessageSound g img s) ∷ []
+
+abbrev pub removedAsks : Layout → Bytes → Probe → List Question
+removedAsks g img s = ask 14 (isMet s) ∷ ask 11 (metMessageSound g img s && somePoint img) ∷ []
+
 unfoldable pub lookupAsks : Layout → Bytes → Probe → Bytes → List Question
-lookupAsks g img s key = ask 7 (nameAllowed (g .K) key) ∷ ask 14 (isMet s) ∷ ask 11 (metMessageSound g img s) ∷ []
+lookupAsks g img s key = ask 7 (nameAllowed (g .K) key) ∷ shownAsks g img s
 
 unfoldable pub deleteAsks : Layout → Bytes → Probe → Bytes → List Question
-deleteAsks g img s key =
-    ask 7 (nameAllowed (g .K) key) ∷ ask 14 (isMet s) ∷ ask 11 (metMessageSound g img s && somePoint img) ∷ []
+deleteAsks g img s key = ask 7 (nameAllowed (g .K) key) ∷ removedAsks g img s
 
 -- 12 and 13 alone, of the text that is to be placed in new space, if any
 abbrev pub placeNumber : Layout → Bytes → Option Bytes → ℕ
-placeNumber g img p = firstNo (ask 12 (lengthAllowed g p) ∷ ask 13 (spaceLeft g (field img freeField) (length img) p) ∷ [])
+placeNumber g img p =
+    firstNo (ask 12 (lengthAllowed g p) ∷ ask 13 (spaceLeft g (field img freeField) (length img) p) ∷ [])
 
 -- the number that each call is refused with, 0 where it is accepted
 unfoldable pub createNumber : ℕ → ℕ → ℕ → ℕ
@@ -148,6 +156,10 @@ createNumber L K N = firstNo (createAsks L K N)
 
 unfoldable pub openNumber : Bytes → ℕ
 openNumber img = firstNo (opened img [])
+
+-- 1, 5, 6 and 7, and add's 8 (yes where a call has no mode): what every call on a name puts before it looks at the table
+unfoldable pub seekNumber : Bytes → Bytes → Bool → ℕ
+seekNumber img key known = firstNo (opened img (ask 7 (nameAllowed (layoutOf img .K) key) ∷ ask 8 known ∷ []))
 
 unfoldable pub addNumber : Bytes → Bytes → Bytes → ℕ → ℕ
 addNumber img key data′ mode =

@@ -2,7 +2,8 @@
 --     copied-slot, moved-code, stays-code       the code's places and numbers are the layout's
 --     looked-stays, looked-moves                one look, by the test
 --     Walking start s h₀ j₀ img h j             the loop's invariant: the walk goes on from here as from the start
---     walking-start, walking-turn, walking-less, walking-end
+--     walking-start, walking-turn               it holds at the start, and after each look, with less left
+--     walking-end, walking-closed               at an empty slot the walk has ended, and its image is `closed`'s
 -- Assumes nothing.
 use mathlib.Core.Path.{_≡_, refl, sym, ap, ap₂, _∙_, subst}
 use Prim.Native.Nat.{ℕ, _+_, _*_, _<_}
@@ -20,12 +21,12 @@ use Rattle.bhtf.proofs.Slots.{slots-apart, length-blank}
 use Rattle.bhtf.proofs.Table.{Taken}
 use Rattle.bhtf.proofs.Closing.{Going, left, looks, going-closed, going-skip, going-move, left-skip, left-move}
 use Rattle.bhtf.proofs.Closing.{turn-image, turn-skip, turn-move, closed-looks, hole-other}
-use Rattle.layout.specs.Shapes.{shapeOf}
+use Rattle.layout.specs.Shapes.{shapeOf, Open}
 use Rattle.layout.specs.declared.shape.Shape.{Shape}
 use Rattle.table.specs.Slots.{Placed, homeIn}
 use Rattle.closing.specs.Walks.{Beside, lookedImage, lookedHole}
 use Rattle.table.proofs.Headers.{layout-slots, slot-place, slot-room, room, placed-opened}
-use Rattle.table.proofs.Heads.{SameHead, head-trans, head-putSlot, head-half, head-moved}
+use Rattle.table.proofs.Heads.{SameHead, same-open, head-trans, head-putSlot, head-half, head-moved}
 
 -- ---- a move
 apart-at : (q m p q′ m′ p′ : ℕ) → q′ ≡ q → m′ ≡ m → p′ ≡ p → Apart q m p m → Apart q′ m′ p′ m′
@@ -33,38 +34,38 @@ apart-at q m p q′ m′ p′ e f g (inl h) = inl (omega arith)
 apart-at q m p q′ m′ p′ e f g (inr h) = inr (omega arith)
 
 module _ (img : Bytes) (s : Shape) (is : s ≡ shapeOf img) (hole j : ℕ) (from to : ℕ)
-    (from-at : from ≡ 2048 + j * (s .key + 4)) (to-at : to ≡ 2048 + hole * (s .key + 4)) where
-  pub code-apart : (hole ≡ j → ⊥) → Apart from (s .key + 4) to (s .key + 4)
+    (from-at : from ≡ 2048 + j * (s .keylen + 4)) (to-at : to ≡ 2048 + hole * (s .keylen + 4)) where
+  pub code-apart : (hole ≡ j → ⊥) → Apart from (s .keylen + 4) to (s .keylen + 4)
   code-apart n =
-      apart-at _ _ _ from (s .key + 4) to (from-at ∙ sym (slot-place img s is j)) (sym (slot-room img s is))
+      apart-at _ _ _ from (s .keylen + 4) to (from-at ∙ sym (slot-place img s is j)) (sym (slot-room img s is))
       (to-at ∙ sym (slot-place img s is hole)) (slots-apart (layoutOf img) j hole (λ e. n (sym e)))
 
-  pub copied-slot : store img to (part img from (s .key + 4))
+  pub copied-slot : store img to (part img from (s .keylen + 4))
       ≡ putSlot (layoutOf img) img hole (slot (layoutOf img) img j)
   unfolding putSlot slot
   copied-slot =
-      ap₂ (λ (p q : ℕ). store img p (part img q (s .key + 4)))
+      ap₂ (λ (p q : ℕ). store img p (part img q (s .keylen + 4)))
       (to-at ∙ sym (slot-place img s is hole)) (from-at ∙ sym (slot-place img s is j))
       ∙ ap (λ (m : ℕ). store img (slotStart (layoutOf img) hole) (part img (slotStart (layoutOf img) j) m)) (sym (slot-room img s is))
 
 -- the image half way, b, and after slot j was zeroed by b's own layout
-pub moved-code : (img b : Bytes) (s : Shape) (hole j : ℕ) → openNumber img ≡ 0 → s ≡ shapeOf img → Beside s hole j
+pub moved-code : (img b : Bytes) (s : Shape) (hole j : ℕ) → Open img s → Beside s hole j
     → b ≡ putSlot (layoutOf img) img hole (slot (layoutOf img) img j)
     → putSlot (layoutOf b) b j (blank (layoutOf b)) ≡ moved (layoutOf img) img hole j
 unfolding moved
-moved-code img b s hole j h is d e =
-    let n = layout-slots img s is in
-    let half = head-half (layoutOf img) img h (room img h) hole j (omega (arith, d .hole-lt)) (omega (arith, d .slot-lt)) in
+moved-code img b s hole j o d e =
+    let n = layout-slots img s (o .shape) in
+    let half = head-half (layoutOf img) img (o .accepted) (room img (o .accepted)) hole j (omega (arith, d .hole-lt)) (omega (arith, d .slot-lt)) in
     ap (λ (x : Bytes). putSlot (layoutOf x) x j (blank (layoutOf x))) e
     ∙ ap (λ (g : Layout). putSlot g (putSlot (layoutOf img) img hole (slot (layoutOf img) img j)) j (blank g))
     (half .layout)
 
-pub placed-code : (img b : Bytes) (s : Shape) (hole j : ℕ) → openNumber img ≡ 0 → s ≡ shapeOf img → Beside s hole j
+pub placed-code : (img b : Bytes) (s : Shape) (hole j : ℕ) → Open img s → Beside s hole j
     → b ≡ putSlot (layoutOf img) img hole (slot (layoutOf img) img j) → Placed b s
-placed-code img b s hole j h is d e =
-    let n = layout-slots img s is in
-    let half = head-half (layoutOf img) img h (room img h) hole j (omega (arith, d .hole-lt)) (omega (arith, d .slot-lt)) in
-    subst (λ (x : Bytes). Placed x s) (sym e) (placed-opened _ s (half .opened) (is ∙ sym (half .shape)))
+placed-code img b s hole j o d e =
+    let n = layout-slots img s (o .shape) in
+    let half = head-half (layoutOf img) img (o .accepted) (room img (o .accepted)) hole j (omega (arith, d .hole-lt)) (omega (arith, d .slot-lt)) in
+    subst (λ (x : Bytes). Placed x s) (sym e) (placed-opened _ s (same-open half o))
 
 -- ---- a look
 pub stays-code : (img : Bytes) (s : Shape) → s ≡ shapeOf img → (hole j home′ : ℕ) → home′ ≡ homeIn img j
@@ -85,14 +86,14 @@ module _ (g : Layout) (img : Bytes) (hole j : ℕ) where
 -- ---- the loop
 pub record Walking (start : Bytes) (s : Shape) (h₀ j₀ : ℕ) (img : Bytes) (h j : ℕ) : Type 0 where
   pub head : SameHead start img
-  pub shape : s ≡ shapeOf img
+  pub opened : Open img s
   pub going : Going (layoutOf start) img h j
   pub same : closeFrom (looks (layoutOf start) start h₀ j₀) (layoutOf start) start h₀ j₀ .image
       ≡ closeFrom (looks (layoutOf start) img h j) (layoutOf start) img h j .image
 
 module _ {start : Bytes} {s : Shape} {h₀ j₀ : ℕ} {img : Bytes} {h j : ℕ} (w : Walking start s h₀ j₀ img h j) where
   pub walking-slots : layoutOf start .N ≡ s .slots
-  walking-slots = sym (ap (λ (g : Layout). g .N) (w .head .layout)) ∙ layout-slots img s (w .shape)
+  walking-slots = sym (ap (λ (g : Layout). g .N) (w .head .layout)) ∙ layout-slots img s (w .opened .shape)
 
   -- the test, and one look, by the layout of the start
   look-image : lookedImage (layoutOf img) img h j ≡ lookedImage (layoutOf start) img h j
@@ -119,7 +120,7 @@ module _ {start : Bytes} {s : Shape} {h₀ j₀ : ℕ} {img : Bytes} {h j : ℕ}
   after-stays t a = (
     record {
       head = w .head;
-      shape = w .shape;
+      opened = w .opened;
       going = going-skip (layoutOf start) img h j (w .going) t;
       same = w .same ∙ ap (λ (x : Closing). x .image) (turn-skip (layoutOf start) img h j (w .going) t a);
     },
@@ -133,7 +134,7 @@ module _ {start : Bytes} {s : Shape} {h₀ j₀ : ℕ} {img : Bytes} {h j : ℕ}
       let head′ = head-moved g img (w .head .opened) (w .going .room) h j (w .going .hole-lt) (w .going .slot-lt) in (
         record {
           head = head-trans (w .head) head′;
-          shape = w .shape ∙ sym (head′ .shape);
+          opened = same-open head′ (w .opened);
           going = going-move g img h j (w .going) t;
           same = w .same ∙ ap (λ (x : Closing). x .image) (turn-move g img h j (w .going) t a);
         },
@@ -164,29 +165,29 @@ module _ {start : Bytes} {s : Shape} {h₀ j₀ : ℕ} {img : Bytes} {h j : ℕ}
       sym (w .same ∙ turn-image (layoutOf start) img h j (sym (ap (λ (g : Layout). vacant g (slot g img j)) (w .head .layout)) ∙ v))
 
 -- ---- the start: slot i was zeroed
-module _ (img : Bytes) (s : Shape) (o : openNumber img ≡ 0) (is : s ≡ shapeOf img) (i : ℕ) (l : i < s .slots) where
+module _ (img : Bytes) (s : Shape) (o : Open img s) (i : ℕ) (l : i < s .slots) where
   slot-lt : i < layoutOf img .N
-  slot-lt = omega (arith, layout-slots img s is)
+  slot-lt = omega (arith, layout-slots img s (o .shape))
 
   cleared : Bytes
   cleared = putSlot (layoutOf img) img i (blank (layoutOf img))
 
   cleared-head : SameHead img cleared
   unfolding cleared
-  cleared-head = head-putSlot (layoutOf img) img o (room img o) i (blank (layoutOf img)) slot-lt (length-blank (layoutOf img))
+  cleared-head = head-putSlot (layoutOf img) img (o .accepted) (room img (o .accepted)) i (blank (layoutOf img)) slot-lt (length-blank (layoutOf img))
 
   pub walking-start : (b : Bytes) (j : ℕ) → b ≡ putSlot (layoutOf img) img i (blank (layoutOf img)) → j ≡ next (s .slots) i
       → Walking b s i j b i j
   unfolding cleared
   walking-start b j e ej =
       subst (λ (x : Bytes). Walking x s i j x i j) (sym e)
-      (subst (λ (k : ℕ). Walking cleared s i k cleared i k) (sym (ej ∙ ap (λ (n : ℕ). next n i) (sym (layout-slots img s is))))
+      (subst (λ (k : ℕ). Walking cleared s i k cleared i k) (sym (ej ∙ ap (λ (n : ℕ). next n i) (sym (layout-slots img s (o .shape)))))
       (record {
         head = record { opened = cleared-head .opened; layout = refl; shape = refl; size = refl };
-        shape = is ∙ sym (cleared-head .shape);
+        opened = same-open cleared-head o;
         going =
             subst (λ (g : Layout). Going g cleared i (next (layoutOf img .N) i)) (sym (cleared-head .layout))
-            (going-closed (layoutOf img) img (room img o) i slot-lt);
+            (going-closed (layoutOf img) img (room img (o .accepted)) i slot-lt);
         same = refl;
       }))
 
@@ -195,7 +196,7 @@ module _ (img : Bytes) (s : Shape) (o : openNumber img ≡ 0) (is : s ≡ shapeO
   unfolding cleared
   walking-closed b j e ej =
       ap₂ (λ (x : Bytes) (k : ℕ). closeFrom (looks (layoutOf x) x i k) (layoutOf x) x i k .image) e
-      (ej ∙ ap (λ (n : ℕ). next n i) (sym (layout-slots img s is)))
+      (ej ∙ ap (λ (n : ℕ). next n i) (sym (layout-slots img s (o .shape))))
       ∙ ap (λ (g : Layout). closeFrom (looks g cleared i (next (layoutOf img .N) i)) g cleared i (next (layoutOf img .N) i) .image)
       (cleared-head .layout)
-      ∙ sym (closed-looks (layoutOf img) img (room img o) i slot-lt)
+      ∙ sym (closed-looks (layoutOf img) img (room img (o .accepted)) i slot-lt)

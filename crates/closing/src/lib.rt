@@ -12,9 +12,8 @@ ghost use Prim.Native.Nat.{_≤_, _<_};
 ghost use Rattle.bhtf.specs.Limits.{mostSlots};
 ghost use Rattle.bhtf.specs.Image.{layoutOf};
 ghost use Rattle.bhtf.specs.Delete.{among, moved, closed};
-ghost use Rattle.bhtf.specs.Questions.{openNumber};
 ghost use Rattle.bhtf.specs.Search.{next, dist};
-ghost use Rattle.layout.specs.Shapes.{shapeOf};
+ghost use Rattle.layout.specs.Shapes.{Open};
 ghost use Rattle.table.specs.Slots.{homeIn, clearedIn, Placed};
 ghost use Rattle.closing.specs.Walks.{Beside, Looked};
 
@@ -45,7 +44,7 @@ fn clear_slot(image: &mut [u8], shape: Shape, i: Slot)
     requires { ⌜ Placed (now image) shape × (i .0 < shape .slots) ⌝ }
     ensures { λ _. ⌜ now (image .exit) ≡ clearedIn (now (image .entry)) (i .0) ⌝ }
 {
-    let size = shape.key;
+    let size = shape.keylen;
     let a = i.start(size).at();
     let e = a + (size + 4);
     zero(&mut image[a..e]);
@@ -53,10 +52,10 @@ fn clear_slot(image: &mut [u8], shape: Shape, i: Slot)
 
 // Moves the entry of slot j into the hole; slot j is zeroed.
 fn move_slot(image: &mut [u8], shape: Shape, hole: Slot, j: Slot)
-    requires { ⌜ (openNumber (now image) ≡ 0) × (shape ≡ shapeOf (now image)) × Beside shape (hole .0) (j .0) ⌝ }
+    requires { ⌜ Open (now image) shape × Beside shape (hole .0) (j .0) ⌝ }
     ensures { λ _. ⌜ now (image .exit) ≡ moved (layoutOf (now (image .entry))) (now (image .entry)) (hole .0) (j .0) ⌝ }
 {
-    let size = shape.key;
+    let size = shape.keylen;
     let from = j.start(size).at();
     let to = hole.start(size).at();
     copy_apart(image, from, to, size + 4);
@@ -65,7 +64,7 @@ fn move_slot(image: &mut [u8], shape: Shape, hole: Slot, j: Slot)
 
 // The home of the entry in slot i.
 fn home_of(image: &[u8], shape: Shape, i: Slot) -> Slot
-    requires { ⌜ (openNumber (now image) ≡ 0) × (shape ≡ shapeOf (now image)) × (i .0 < shape .slots) ⌝ }
+    requires { ⌜ Open (now image) shape × (i .0 < shape .slots) ⌝ }
     ensures { λ r. ⌜ r .0 ≡ homeIn (now (image .entry)) (i .0) ⌝ }
 {
     home(image, shape, key_of(image, shape, i))
@@ -73,7 +72,7 @@ fn home_of(image: &[u8], shape: Shape, i: Slot) -> Slot
 
 // Looks at slot j, which is taken: its entry stays, or moves into the hole. Answers the hole from then on.
 fn look(image: &mut [u8], shape: Shape, hole: Slot, j: Slot) -> Slot
-    requires { ⌜ (openNumber (now image) ≡ 0) × (shape ≡ shapeOf (now image)) × Beside shape (hole .0) (j .0) ⌝ }
+    requires { ⌜ Open (now image) shape × Beside shape (hole .0) (j .0) ⌝ }
     ensures { λ r. ⌜ Looked (now (image .entry)) (hole .0) (j .0) (r .0) (now (image .exit)) ⌝ }
 {
     if stays(shape.slots, hole, j, home_of(image, shape, j)) {
@@ -85,7 +84,7 @@ fn look(image: &mut [u8], shape: Shape, hole: Slot, j: Slot) -> Slot
 
 // Takes the entry of the slot out: the slot is zeroed, and the walk goes on from there to the first empty slot.
 pub fn close(image: &mut [u8], shape: Shape, hole: Slot)
-    requires { ⌜ (openNumber (now image) ≡ 0) × (shape ≡ shapeOf (now image)) × (hole .0 < shape .slots) ⌝ }
+    requires { ⌜ Open (now image) shape × (hole .0 < shape .slots) ⌝ }
     ensures { λ _. ⌜ now (image .exit) ≡ closed (layoutOf (now (image .entry))) (now (image .entry)) (hole .0) ⌝ }
 {
     let slots = shape.slots;

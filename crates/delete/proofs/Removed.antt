@@ -1,7 +1,7 @@
 -- Delete's steps on an image whose header is accepted, and what delete answers.
 --     head-counted              the message made inactive and C written: layout, shape and length stay, the header is accepted
 --     removed                   the steps together are the definition's image
---     answers-no, answers-yes   the number and the image, of a call that is refused or accepted
+--     refused-answer, found-answer      the number and the image, from `seek`'s answer and the search's end
 --     unsound, no-point, some-point     question 11 with C
 -- Assumes nothing.
 use mathlib.Core.Path.{_≡_, sym, ap, ap₂, _∙_}
@@ -14,12 +14,14 @@ use Rattle.bhtf.specs.Bytes.{Bytes}
 use Rattle.bhtf.specs.Limits.{slotsField, pointsField}
 use Rattle.bhtf.specs.Image.{field, setField, Layout, layoutOf, slot, offsetOf}
 use Rattle.bhtf.specs.Messages.{retire}
-use Rattle.bhtf.specs.Delete.{closed, deletedAt}
-use Rattle.bhtf.specs.Questions.{openNumber, messageSound, somePoint, deleteNumber}
-use Rattle.bhtf.specs.Calls.{plain, delete}
+use Rattle.bhtf.specs.Search.{Probe, search}
+use Rattle.bhtf.specs.Delete.{closed, deletedAt, deleted}
+use Rattle.bhtf.specs.Questions.{openNumber, messageSound, somePoint, firstNo, removedAsks, seekNumber, deleteNumber}
+use Rattle.bhtf.specs.Calls.{plain, settled, delete}
 use Rattle.bhtf.proofs.Opened.{Opened, opened-facts}
 use Rattle.bhtf.proofs.Kept.{kept-trans}
 use Rattle.bhtf.proofs.Effects.{retire-kept, retire-field, retire-opened, points-kept, points-opened}
+use Rattle.bhtf.proofs.Sought.{delete-stop, delete-on}
 use Rattle.bhtf.proofs.Outcomes.{delete-refused}
 use Rattle.table.proofs.Heads.{SameHead, head-opened}
 
@@ -61,14 +63,20 @@ pub some-point : (img : Bytes) (p : ℕ) → p ≡ field img pointsField → (p 
 unfolding somePoint
 some-point img p e z = le-leb 1 (field img pointsField) (omega arith)
 
--- ---- the answer
+-- ---- the answer from `seek`'s
 module _ (img key : Bytes) where
-  pub answers-no : (n : ℕ) → n ≡ deleteNumber img key → (n ≡ 0 → ⊥)
+  pub refused-answer : (n : ℕ) → n ≡ seekNumber img key true → (n ≡ 0 → ⊥)
       → (n ≡ delete img key .answer .number) × (img ≡ delete img key .after)
   unfolding delete plain
-  answers-no n e z = (e, sym (delete-refused img key (λ q. z (e ∙ q))))
+  refused-answer n e z =
+      let is : n ≡ deleteNumber img key = e ∙ sym (delete-stop img key (λ q. z (e ∙ q))) in
+      (is, sym (delete-refused img key (λ q. z (is ∙ q))))
 
-  pub answers-yes : (after : Bytes) → deleteNumber img key ≡ 0 → after ≡ delete img key .after
-      → (0 ≡ delete img key .answer .number) × (after ≡ delete img key .after)
+  pub found-answer : seekNumber img key true ≡ 0 → (n : ℕ) (after : Bytes) (p : Probe) → p ≡ search (layoutOf img) img key
+      → n ≡ firstNo (removedAsks (layoutOf img) img p) → after ≡ settled n img (deleted (layoutOf img) img p)
+      → (n ≡ delete img key .answer .number) × (after ≡ delete img key .after)
   unfolding delete plain
-  answers-yes after z e = (sym z, e)
+  found-answer a n after p e is h =
+      let number : n ≡ deleteNumber img key =
+      is ∙ ap (λ (q : Probe). firstNo (removedAsks (layoutOf img) img q)) e ∙ sym (delete-on img key a) in
+      (number, h ∙ ap₂ (λ (m : ℕ) (q : Probe). settled m img (deleted (layoutOf img) img q)) number e)

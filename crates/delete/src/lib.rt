@@ -3,14 +3,12 @@ use closing::close;
 use layout::places::Offset;
 use layout::places::Slot;
 use layout::shape::Shape;
-use layout::shape::read_shape;
 use messages::message_sound;
-use questions::name_allowed;
-use questions::open_number;
+use seek::Sought;
+use seek::seek;
 use storing::retire;
 use table::Found;
 use table::offset_of;
-use table::search;
 use words::fields::read_u32;
 use words::fields::write_u32;
 use words::limits::POINTS_FIELD;
@@ -18,16 +16,16 @@ ghost use mathlib.Core.Path.{_≡_};
 ghost use mathlib.Core.Bool.{true};
 ghost use Prim.Native.Nat.{_≤_, _<_};
 ghost use Rattle.bhtf.specs.Limits.{pointsField};
-ghost use Rattle.bhtf.specs.Calls.{delete};
+ghost use Rattle.bhtf.specs.Calls.{settled, delete};
 ghost use Rattle.bhtf.specs.Image.{field, layoutOf, slot, offsetOf};
-ghost use Rattle.bhtf.specs.Delete.{deletedAt};
-ghost use Rattle.bhtf.specs.Questions.{openNumber, messageSound};
-ghost use Rattle.layout.specs.Shapes.{shapeOf};
+ghost use Rattle.bhtf.specs.Delete.{deletedAt, deleted};
+ghost use Rattle.bhtf.specs.Questions.{messageSound, firstNo, removedAsks};
+ghost use Rattle.layout.specs.Shapes.{Open};
+ghost use Rattle.table.specs.Probes.{probeOf, Within};
 
 // Takes the point of slot i out, of message offset o, from an image that holds so many points.
 fn remove(image: &mut [u8], shape: Shape, i: Slot, o: Offset, points: u32)
-    requires { ⌜ (openNumber (now image) ≡ 0)
-        × (shape ≡ shapeOf (now image))
+    requires { ⌜ Open (now image) shape
         × (i .0 < shape .slots)
         × (o .0 ≡ offsetOf (layoutOf (now image)) (slot (layoutOf (now image)) (now image) (i .0)))
         × (messageSound (layoutOf (now image)) (now image) (o .0) ≡ true)
@@ -40,20 +38,13 @@ fn remove(image: &mut [u8], shape: Shape, i: Slot, o: Offset, points: u32)
     close(image, shape, i);
 }
 
-// Deletes the key's point. Answers 0; or the number of the first question answered no, and then changes no byte.
-pub fn delete(image: &mut [u8], key: &[u8]) -> u32
-    ensures { λ r. ⌜ (r ≡ delete (now (image .entry)) (now (key .entry)) .answer .number)
-        × (now (image .exit) ≡ delete (now (image .entry)) (now (key .entry)) .after) ⌝ }
+// Deletes the point for which the search ended so: questions 14 and 11, then the point goes.
+fn delete_found(image: &mut [u8], shape: Shape, found: Found) -> u32
+    requires { ⌜ Open (now image) shape × Within (shape .slots) (probeOf found) ⌝ }
+    ensures { λ r. ⌜ (r ≡ firstNo (removedAsks (layoutOf (now (image .entry))) (now (image .entry)) (probeOf found)))
+        × (now (image .exit)
+        ≡ settled r (now (image .entry)) (deleted (layoutOf (now (image .entry))) (now (image .entry)) (probeOf found))) ⌝ }
 {
-    let number = open_number(image);
-    if number != 0 {
-        return number;
-    }
-    let shape = read_shape(image);
-    if !name_allowed(key, shape.key) {
-        return 7;
-    }
-    let found = search(image, shape, key);
     let Found::Met(slot) = found else {
         return 14;
     };
@@ -67,4 +58,16 @@ pub fn delete(image: &mut [u8], key: &[u8]) -> u32
     }
     remove(image, shape, slot, o, points);
     0
+}
+
+// Deletes the key's point. Answers 0; or the number of the first question answered no, and then changes no byte.
+pub fn delete(image: &mut [u8], key: &[u8]) -> u32
+    ensures { λ r. ⌜ (r ≡ delete (now (image .entry)) (now (key .entry)) .answer .number)
+        × (now (image .exit) ≡ delete (now (image .entry)) (now (key .entry)) .after) ⌝ }
+{
+    let sought = seek(image, key, true);
+    match sought {
+        Sought::Refused(number) => number,
+        Sought::At(shape, found) => delete_found(image, shape, found),
+    }
 }

@@ -1,6 +1,6 @@
 -- What the check and the walk are good for.
---     sound-lookup      on an image that the check calls sound, lookup finds every taken slot's key with that slot's message
---     walked-all        the walk from 0, each time from one past the last slot, shows every taken slot once, in rising order
+--     sound-lookup      on an image that the check calls sound, lookup finds every taken slot's key, with its message
+--     walked-all        the walk from 0, each time from one past the last slot, shows every taken slot once, rising
 -- Assumes nothing.
 use mathlib.Core.Path.{_≡_, refl, sym, ap, _∙_}
 use Prim.Native.Nat.{ℕ, zero, suc, _+_, _≤_, _<_}
@@ -47,8 +47,8 @@ pub sound-lookup : (img : Bytes) → check img ≡ sound → (i : ℕ) → i < l
       text = shown (layoutOf img) img (offsetOf (layoutOf img) (slot (layoutOf img) img i));
     }
 sound-lookup img ok i l t =
-    lookup-shows img (keyAt (layoutOf img) img i) (check-open img ok) (key-allowed img ok i l t) i (check-searches img ok i l t)
-    (check-messages img ok i l t)
+    lookup-shows img (keyAt (layoutOf img) img i) (check-open img ok) (key-allowed img ok i l t) i
+    (check-searches img ok i l t) (check-messages img ok i l t)
 
 -- ---- the walk through a table
 
@@ -99,7 +99,8 @@ module _ (g : Layout) (img : Bytes) where
       let on : walked (suc steps) g img (suc i) ≡ takenList g img left (suc i) =
       walked-from left (suc steps) (suc i) (omega arith) (omega arith) in
       by-bool (taken g img i)
-      (λ e. walked-here steps i (next-here i (omega arith) e) ∙ ap (λ (x : List ℕ). i ∷ x) here ∙ sym (list-here left i e))
+      (λ e. walked-here steps i (next-here i (omega arith) e) ∙ ap (λ (x : List ℕ). i ∷ x) here
+      ∙ sym (list-here left i e))
       (λ e. walked-same (suc steps) i (suc i) (next-on i (omega arith) e) ∙ on ∙ sym (list-on left i e))
 
   pub walked-all : (steps : ℕ) → g .N ≤ steps → walked steps g img 0 ≡ takenList g img (g .N) 0

@@ -13,9 +13,11 @@ use types.Run.{OneOf}
 use denote.Enum.Declared.{tagOf}
 use borrow.Author.Tests.{eq-eqb, ne-eqb}
 use Rattle.bhtf.specs.Bytes.{Bytes}
+use Rattle.bhtf.specs.Limits.{pointsField}
 use Rattle.bhtf.specs.Image.{field, Layout, layoutOf, slot, offsetOf}
-use Rattle.bhtf.specs.Inspect.{lowest, taken, takenFrom, endsAt, slotSound, slotFails, Verdict, sound, slotBad, countBad, countSound, verdictOf, check}
 use Rattle.bhtf.specs.Search.{Probe, search}
+use Rattle.bhtf.specs.Questions.{messageSound, openNumber}
+use Rattle.bhtf.specs.Inspect.{lowest, taken, takenFrom, endsAt, slotSound, slotFails, Verdict, sound, slotBad, countBad, countSound, verdictOf, tableVerdict, check}
 use Rattle.bhtf.proofs.Tests.{by-either, zero-yes, zero-no}
 use Rattle.bhtf.proofs.Table.{keyAt}
 use Rattle.bhtf.proofs.Verdict.{lowest-yes, lowest-no, lowest-end}
@@ -24,12 +26,11 @@ use Rattle.table.specs.Probes.{probeOf}
 use Rattle.table.specs.declared.Found as found
 use Rattle.table.proofs.Found as row
 use Rattle.table.specs.declared.Found.the-variants.{Met, Empty, Exhausted}
-use Rattle.bhtf.specs.Questions.{messageSound, openNumber}
-use Rattle.inspect.specs.Verdicts.{tableVerdict}
 
 -- ---- the number of taken slots from i on
 module _ (g : Layout) (img : Bytes) where
-  counted : (n i : ℕ) → i < n → takenFrom g img (n - i) i ≡ cond (taken g img i) 1 0 + takenFrom g img (n - (i + 1)) (i + 1)
+  counted : (n i : ℕ) → i < n
+      → takenFrom g img (n - i) i ≡ cond (taken g img i) 1 0 + takenFrom g img (n - (i + 1)) (i + 1)
   unfolding takenFrom
   counted n i l =
       let q : n - i ≡ suc (n - (i + 1)) = omega arith in
@@ -72,9 +73,15 @@ pub passed-start : (g : Layout) (img : Bytes) (slots : ℕ) → g .N ≡ slots �
 passed-start g img slots q =
     let m : g .N ≡ slots - 0 = omega arith in
     let t : takenFrom g img (g .N) 0 ≡ takenFrom g img (slots - 0) 0 = ap (λ (n : ℕ). takenFrom g img n 0) m in
-    record { low = omega arith; few = omega arith; fails = ap (λ (n : ℕ). lowest (slotFails g img) n 0) m; counts = omega arith }
+    record {
+      low = omega arith;
+      few = omega arith;
+      fails = ap (λ (n : ℕ). lowest (slotFails g img) n 0) m;
+      counts = omega arith;
+    }
 
-module _ (g : Layout) (img : Bytes) (slots count i : ℕ) (w : Passed g img slots count i) (l : i < slots) (at : ℕ) (q : at ≡ i) where
+module _ (g : Layout) (img : Bytes) (slots count i : ℕ) (w : Passed g img slots count i) (l : i < slots)
+    (at : ℕ) (q : at ≡ i) where
   pub passed-on : taken g img at ≡ true → slotSound g img at ≡ true → Passed g img slots (count + 1) (i + 1)
   passed-on t s =
       let t′ : taken g img i ≡ true = ap (taken g img) (sym q) ∙ t in
@@ -108,46 +115,36 @@ verdict-fails true i = refl
 verdict-fails false i = refl
 
 pub passed-fails : (img : Bytes) (slots count i : ℕ) → Passed (layoutOf img) img slots count i → i < slots
-    → (at : ℕ) → at ≡ i → taken (layoutOf img) img at ≡ true → slotSound (layoutOf img) img at ≡ false → slotBad at ≡ tableVerdict img
-unfolding tableVerdict
+    → (at : ℕ) → at ≡ i → taken (layoutOf img) img at ≡ true → slotSound (layoutOf img) img at ≡ false
+    → slotBad at ≡ tableVerdict img
 passed-fails img slots count i w l at q t s =
     let c = countSound (layoutOf img) img in
     sym (ap (verdictOf c) (passed-at (layoutOf img) img slots count i w l at q t s) ∙ verdict-fails c at)
 
 module _ (img : Bytes) (slots count i : ℕ) (w : Passed (layoutOf img) img slots count i) (l : slots ≤ i) where
   none-fails : (b : Bool) → countSound (layoutOf img) img ≡ b → tableVerdict img ≡ verdictOf b none
-  unfolding tableVerdict
-  none-fails b e =
-      ap₂ verdictOf e (w .fails ∙ lowest-end (slotFails (layoutOf img) img) slots i l)
+  none-fails b e = ap₂ verdictOf e (w .fails ∙ lowest-end (slotFails (layoutOf img) img) slots i l)
 
   counted-all : takenFrom (layoutOf img) img (layoutOf img .N) 0 ≡ count
   counted-all = omega (arith, w .counts, counted-end (layoutOf img) img slots i l)
 
-  pub passed-sound : field img 20 ≡ count → sound ≡ tableVerdict img
+  pub passed-sound : field img pointsField ≡ count → sound ≡ tableVerdict img
   unfolding countSound verdictOf
-  passed-sound e =
-      sym (none-fails true (eq-eqb (field img 20) (takenFrom (layoutOf img) img (layoutOf img .N) 0) (e ∙ sym counted-all)))
+  passed-sound e = sym (none-fails true (eq-eqb (field img pointsField) _ (e ∙ sym counted-all)))
 
-  pub passed-count : (field img 20 ≡ count → ⊥) → countBad ≡ tableVerdict img
+  pub passed-count : (field img pointsField ≡ count → ⊥) → countBad ≡ tableVerdict img
   unfolding countSound verdictOf
-  passed-count e =
-      sym (none-fails false
-      (ne-eqb (field img 20) (takenFrom (layoutOf img) img (layoutOf img .N) 0) (λ z. e (z ∙ counted-all))))
+  passed-count e = sym (none-fails false (ne-eqb (field img pointsField) _ (λ z. e (z ∙ counted-all))))
 
 pub check-closed : (img : Bytes) (n : ℕ) → n ≡ openNumber img → (n ≡ 0 → ⊥) → Verdict.refused n ≡ check img
 unfolding check
 check-closed img n q h =
     ap Verdict.refused q
-    ∙ sym (zero-no (openNumber img)
-    (verdictOf (countSound (layoutOf img) img) (lowest (slotFails (layoutOf img) img) (layoutOf img .N) 0))
-    (Verdict.refused (openNumber img)) (λ z. h (q ∙ z)))
+    ∙ sym (zero-no (openNumber img) (tableVerdict img) (Verdict.refused (openNumber img)) (λ z. h (q ∙ z)))
 
 pub check-open : (img : Bytes) → openNumber img ≡ 0 → tableVerdict img ≡ check img
-unfolding check tableVerdict
-check-open img h =
-    sym (zero-yes (openNumber img)
-    (verdictOf (countSound (layoutOf img) img) (lowest (slotFails (layoutOf img) img) (layoutOf img .N) 0))
-    (Verdict.refused (openNumber img)) h)
+unfolding check
+check-open img h = sym (zero-yes (openNumber img) (tableVerdict img) (Verdict.refused (openNumber img)) h)
 
 -- ---- a slot's search
 pub not-met : (f : found.Found) → OneOf (1 ∷ 2 ∷ []) (tagOf row.the-type f) → (i : ℕ) → endsAt (probeOf f) i ≡ false
@@ -165,7 +162,8 @@ unfolding probeOf endsAt
 met-here f {j} e i n = ap (λ (x : found.Found). endsAt (probeOf x) i) e ∙ eq-eqb (j .0) i n
 
 -- k is the key of slot i, and f how its search ended
-module _ (g : Layout) (img : Bytes) (i : ℕ) (k : Bytes) (is : k ≡ keyAt g img i) (f : found.Found) (e : probeOf f ≡ search g img k) where
+module _ (g : Layout) (img : Bytes) (i : ℕ) (k : Bytes) (is : k ≡ keyAt g img i)
+    (f : found.Found) (e : probeOf f ≡ search g img k) where
   searched : probeOf f ≡ search g img (keyAt g img i)
   searched = e ∙ ap (search g img) is
 
@@ -176,8 +174,8 @@ module _ (g : Layout) (img : Bytes) (i : ℕ) (k : Bytes) (is : k ≡ keyAt g im
   pub ends-false : endsAt (probeOf f) i ≡ false → false ≡ slotSound g img i
   ends-false z = sym (sound-is ∙ ap (λ (b : Bool). b && messageSound g img (offsetOf g (slot g img i))) z)
 
-  pub ends-true : endsAt (probeOf f) i ≡ true → (m : Bool) (o : ℕ) → o ≡ offsetOf g (slot g img i) → m ≡ messageSound g img o
-      → m ≡ slotSound g img i
+  pub ends-true : endsAt (probeOf f) i ≡ true → (m : Bool) (o : ℕ) → o ≡ offsetOf g (slot g img i)
+      → m ≡ messageSound g img o → m ≡ slotSound g img i
   ends-true z m o q r =
       r ∙ ap (messageSound g img) q
       ∙ sym (sound-is ∙ ap (λ (b : Bool). b && messageSound g img (offsetOf g (slot g img i))) z)

@@ -1,8 +1,5 @@
--- The check's answer in code, as the specification's; and the verdict on an accepted header's table.
--- Assumes nothing.
-use Rattle.bhtf.specs.Bytes.{Bytes}
-use Rattle.bhtf.specs.Image.{layoutOf}
-use Rattle.bhtf.specs.Inspect.{lowest, slotFails, Verdict, sound, slotBad, countBad, countSound, verdictOf}
+-- The check's answer in code, as the specification's. Assumes nothing.
+use Rattle.bhtf.specs.Inspect.{Verdict, sound, slotBad, countBad}
 use Rattle.inspect.specs.declared.Verdict as code
 use Rattle.inspect.specs.declared.Verdict.the-variants.{Refused, Sound, SlotFails, CountFails}
 
@@ -11,7 +8,3 @@ verdictIn (Refused n) = Verdict.refused n
 verdictIn Sound = sound
 verdictIn (SlotFails i) = slotBad (i .0)
 verdictIn CountFails = countBad
-
-unfoldable pub tableVerdict : Bytes → Verdict
-tableVerdict img =
-    verdictOf (countSound (layoutOf img) img) (lowest (slotFails (layoutOf img) img) (layoutOf img .N) 0)

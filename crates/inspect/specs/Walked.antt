@@ -3,7 +3,7 @@
 --     takenList g img left i    the taken slots among those that are left from i on, in rising order, each once
 -- Assumes nothing.
 use Prim.Native.Nat.{ℕ, zero, suc}
-use mathlib.Core.Bool.{Bool, cond}
+use mathlib.Core.Bool.{cond}
 use mathlib.Core.List.{List, [], _∷_}
 use mathlib.Core.Option.{Option, none, some}
 use Rattle.bhtf.specs.Bytes.{Bytes}

@@ -1,5 +1,5 @@
-// The check: whether each taken slot's key, searched, ends there, its message passes question 11, and C is the number of
-// taken slots. One search for each taken slot; the first that fails ends it.
+// The check: whether each taken slot's key, searched, ends there, its message passes question 11, and C is the number
+// of taken slots. One search for each taken slot; the first that fails ends it.
 use layout::places::Slot;
 use layout::shape::Shape;
 use layout::shape::read_shape;
@@ -15,10 +15,9 @@ use words::limits::POINTS_FIELD;
 ghost use mathlib.Core.Path.{_≡_};
 ghost use Prim.Native.Nat.{_<_};
 ghost use Rattle.bhtf.specs.Image.{layoutOf};
-ghost use Rattle.bhtf.specs.Inspect.{slotSound, check};
-ghost use Rattle.bhtf.specs.Questions.{openNumber};
-ghost use Rattle.layout.specs.Shapes.{shapeOf};
-ghost use Rattle.inspect.specs.Verdicts.{verdictIn, tableVerdict};
+ghost use Rattle.bhtf.specs.Inspect.{slotSound, tableVerdict, check};
+ghost use Rattle.layout.specs.Shapes.{Open};
+ghost use Rattle.inspect.specs.Verdicts.{verdictIn};
 
 // What the check says: refused with a number, sound, the lowest slot that fails, or that C alone fails.
 pub enum Verdict {
@@ -30,7 +29,7 @@ pub enum Verdict {
 
 // Whether the key of slot i, searched, ends there, and its message passes question 11.
 fn slot_sound(image: &[u8], shape: Shape, i: Slot) -> bool
-    requires { ⌜ (openNumber (now image) ≡ 0) × (shape ≡ shapeOf (now image)) × (i .0 < shape .slots) ⌝ }
+    requires { ⌜ Open (now image) shape × (i .0 < shape .slots) ⌝ }
     ensures { λ r. ⌜ r ≡ slotSound (layoutOf (now (image .entry))) (now (image .entry)) (i .0) ⌝ }
 {
     let Found::Met(j) = search(image, shape, key_of(image, shape, i)) else {
@@ -44,7 +43,7 @@ fn slot_sound(image: &[u8], shape: Shape, i: Slot) -> bool
 
 // The check of an accepted header's table.
 fn check_table(image: &[u8], shape: Shape) -> Verdict
-    requires { ⌜ (openNumber (now image) ≡ 0) × (shape ≡ shapeOf (now image)) ⌝ }
+    requires { ⌜ Open (now image) shape ⌝ }
     ensures { λ r. ⌜ verdictIn r ≡ tableVerdict (now (image .entry)) ⌝ }
 {
     let slots = shape.slots;

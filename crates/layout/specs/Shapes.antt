@@ -1,19 +1,30 @@
--- The numbers of an image's header that the code hands about, by the specification's fields.
+-- The numbers of an image's header that the code hands about, by the specification's layout and fields.
+--     shapeOf img      the shape that an image's header gives
+--     Open img s       the header is accepted, and s is its shape: what a function on an opened image asks
 -- Assumes nothing.
-use Prim.Native.Nat.{ℕ}
+use mathlib.Core.Path.{_≡_}
 use Rattle.bhtf.specs.Bytes.{Bytes}
-use Rattle.bhtf.specs.Limits.{keyField, slotsField, multiplierField, startField, firstField, lastField, dataField}
-use Rattle.bhtf.specs.Image.{field}
+use Rattle.bhtf.specs.Limits.{multiplierField, startField, firstField, lastField}
+use Rattle.bhtf.specs.Image.{field, layoutOf}
+use Rattle.bhtf.specs.Messages.{headSize}
+use Rattle.bhtf.specs.Questions.{openNumber}
 use Rattle.layout.specs.declared.shape.Shape.{Shape}
 
 unfoldable pub shapeOf : Bytes → Shape
 shapeOf img =
     record {
-      key = field img keyField;
-      slots = field img slotsField;
-      area = record { 0 = field img dataField };
+      keylen = layoutOf img .K;
+      slots = layoutOf img .N;
+      area = record { 0 = layoutOf img .D };
+      head = headSize (layoutOf img);
+      most = layoutOf img .most;
       multiplier = field img multiplierField;
-      start = field img startField;
+      basis = field img startField;
       first = field img firstField;
       last = field img lastField;
     }
+
+-- questions 1, 5 and 6 are answered yes
+pub record Open (img : Bytes) (s : Shape) : Type 0 where
+  pub accepted : openNumber img ≡ 0
+  pub shape : s ≡ shapeOf img

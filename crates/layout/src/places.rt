@@ -3,7 +3,7 @@ use words::limits::TABLE_START;
 ghost use mathlib.Core.Path.{_≡_};
 ghost use Prim.Native.Nat.{_+_, _*_, _≤_, _<_};
 ghost use Rattle.bhtf.specs.Search.{next};
-ghost use Rattle.bhtf.specs.Limits.{tableStart};
+ghost use Rattle.bhtf.specs.Limits.{mostKey, mostSlots, tableStart};
 
 // A slot of the table.
 pub struct Slot(usize);
@@ -25,11 +25,11 @@ impl Slot {
     }
 
     // Where the slot's bytes begin.
-    pub fn start(self, size: usize) -> Offset
-        requires { ⌜ (self .0 < 1048576) × (size ≤ 32) ⌝ }
-        ensures { λ r. ⌜ r .0 ≡ tableStart + self .0 * (size + 4) ⌝ }
+    pub fn start(self, keylen: usize) -> Offset
+        requires { ⌜ (self .0 < mostSlots) × (keylen ≤ mostKey) ⌝ }
+        ensures { λ r. ⌜ r .0 ≡ tableStart + self .0 * (keylen + 4) ⌝ }
     {
-        Offset(TABLE_START + self.0 * (size + 4))
+        Offset(TABLE_START + self.0 * (keylen + 4))
     }
 
     // The slot after this one, wrapping to the first.

@@ -1,45 +1,53 @@
-// The numbers of a header that place an image's bytes and that no call changes.
+// The numbers of a header that place an image's bytes and that no call changes, and those of a message's header.
 use crate::places::Offset;
 use words::fields::read_u32;
 use words::limits::DATA_FIELD;
 use words::limits::FIRST_FIELD;
+use words::limits::HEAD;
 use words::limits::KEY_FIELD;
 use words::limits::LAST_FIELD;
+use words::limits::MOST_LENGTH;
 use words::limits::MULTIPLIER_FIELD;
 use words::limits::SLOTS_FIELD;
 use words::limits::START_FIELD;
 ghost use mathlib.Core.Path.{_≡_};
 ghost use Prim.Native.Nat.{_≤_};
 ghost use lib.ListN.{length};
+ghost use Rattle.bhtf.specs.Limits.{headerSize};
 ghost use Rattle.layout.specs.Shapes.{shapeOf};
 
+// K, N and D; the size of a message's header and a message's largest length; the hash's numbers (its basis is 01's start value).
 pub struct Shape {
-    pub key: usize,
+    pub keylen: usize,
     pub slots: usize,
     pub area: Offset,
+    pub head: usize,
+    pub most: usize,
     pub multiplier: u32,
-    pub start: u32,
+    pub basis: u32,
     pub first: u32,
     pub last: u32,
 }
 
 pub fn read_shape(image: &[u8]) -> Shape
-    requires { ⌜ 60 ≤ length (now image) ⌝ }
+    requires { ⌜ headerSize ≤ length (now image) ⌝ }
     ensures { λ r. ⌜ r ≡ shapeOf (now (image .entry)) ⌝ }
 {
-    let key = read_u32(image, KEY_FIELD) as usize;
+    let keylen = read_u32(image, KEY_FIELD) as usize;
     let slots = read_u32(image, SLOTS_FIELD) as usize;
     let multiplier = read_u32(image, MULTIPLIER_FIELD);
-    let start = read_u32(image, START_FIELD);
+    let basis = read_u32(image, START_FIELD);
     let first = read_u32(image, FIRST_FIELD);
     let last = read_u32(image, LAST_FIELD);
     let area = Offset::new(read_u32(image, DATA_FIELD) as usize);
     Shape {
-        key,
+        keylen,
         slots,
         area,
+        head: HEAD,
+        most: MOST_LENGTH,
         multiplier,
-        start,
+        basis,
         first,
         last,
     }

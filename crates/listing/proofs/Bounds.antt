@@ -1,50 +1,59 @@
 -- How long the text of an image of at most 65,536 bytes is.
 --     listed-bound, printed-bound      at most 262,144 bytes
--- Each slot of K + 4 bytes gives a line of at most 13 + 2 K bytes, which is at most 4 bytes of text for each of its own.
+-- Each slot of K + 4 bytes gives a line of at most 13 + 2 K bytes: at most 4 bytes of text for each of its own.
 -- Assumes nothing.
 use mathlib.Core.Path.{_≡_, refl, ap}
 use Prim.Native.Nat.{ℕ, zero, suc, _+_, _*_, _≤_, _<_}
 use native.Mathlib.Nat.{suc-mul}
 use native.Mathlib.Omega.{arith}
-use mathlib.Core.Bool.{Bool, cond}
+use mathlib.Core.Bool.{Bool, true, cond}
 use lib.ListN.{length, length-append}
 use borrow.Author.Tests.{le-leb, lt-leb}
 use Rattle.bhtf.specs.Bytes.{Bytes}
+use Rattle.bhtf.specs.Limits.{mostSlots}
 use Rattle.bhtf.specs.Image.{layoutOf, slotSize, slot, keyOf, offsetOf}
-use Rattle.bhtf.specs.Messages.{lengthAt, isActive}
+use Rattle.bhtf.specs.Messages.{isActive, shownLength}
 use Rattle.bhtf.specs.Questions.{sizeAllowed, versionKnown, headerSound, messageSound, openNumber}
 use Rattle.bhtf.specs.Inspect.{taken}
 use Rattle.bhtf.proofs.Tests.{by-bool, by-eq, by-le}
 use Rattle.bhtf.proofs.Slots.{length-slot, length-keyOf}
 use Rattle.bhtf.proofs.Opened.{opened-facts, opened-room}
 use Rattle.bhtf.proofs.Effects.{message-end, active-some}
+use Rattle.messages.proofs.Sound.{length-shown-yes, length-shown-no}
 use Rattle.questions.proofs.Headers.{open-0, open-1, open-5, open-6}
-use Rattle.listing.specs.Listed.{heading, lengthText, line, row, lines, listed, mostListed, tooLong, printed}
+use Rattle.listing.specs.Listed.{heading, lengthText, line, row, lines, listed, mostListed, tooLong, printed, mostPrinted}
 use Rattle.text.proofs.Numbers.{decimal-5, length-hexes}
-use Rattle.listing.proofs.Rows.{text-bad, text-none, text-active, row-taken, row-vacant, line-length, refused-length, listed-closed, listed-open}
+use Rattle.listing.proofs.Rows.{text-bad, text-sound, row-taken, row-vacant, line-length, refused-length, listed-closed, listed-open}
 
-module _ (img : Bytes) (small : length img ≤ 65536) (open₀ : openNumber img ≡ 0) where
+module _ (img : Bytes) (small : length img ≤ mostListed) (open₀ : openNumber img ≡ 0) where
+  shown-bound : (o : ℕ) → messageSound (layoutOf img) img o ≡ true → shownLength (layoutOf img) img o < 100000
+  shown-bound o s =
+      let f = opened-facts img open₀ in
+      by-bool (isActive img o)
+      (λ a.
+      let end = message-end img f o s (active-some img o a) in
+      omega (arith, length-shown-yes (layoutOf img) img o a, end, f .free-high))
+      (λ a. omega (arith, length-shown-no (layoutOf img) img o a))
+
   text-bound : (o : ℕ) → length (lengthText (layoutOf img) img o) ≤ 5
   text-bound o =
-      let f = opened-facts img open₀ in
-      by-bool (messageSound (layoutOf img) img o)
-      (λ s. by-bool (isActive img o)
-      (λ a.
-      let m : lengthAt (layoutOf img) img o < 100000 = omega (arith, message-end img f o s (active-some img o a), f .free-high) in
-      omega (arith, ap length (text-active (layoutOf img) img o o refl s a (lengthAt (layoutOf img) img o) refl), decimal-5 (lengthAt (layoutOf img) img o) m))
-      (λ a. omega (arith, ap length (text-none (layoutOf img) img o o refl s a), decimal-5 0 (omega arith))))
-      (λ s. omega (arith, ap length (text-bad (layoutOf img) img o o refl s)))
+      let g = layoutOf img in
+      by-bool (messageSound g img o)
+      (λ s.
+      let m = shownLength g img o in
+      omega (arith, ap length (text-sound g img o o refl s m refl), decimal-5 m (shown-bound o s)))
+      (λ s. omega (arith, ap length (text-bad g img o o refl s)))
 
   line-bound : (i : ℕ) → i < layoutOf img .N → length (line (layoutOf img) img i) ≤ 4 * slotSize (layoutOf img)
   unfolding slotSize
   line-bound i l =
       let f = opened-facts img open₀ in
-      let n : layoutOf img .N ≤ 65536 = unfold layoutOf in f .slots-high in
-      let key = keyOf (layoutOf img) (slot (layoutOf img) img i) in
-      let k : length key ≡ layoutOf img .K =
-      length-keyOf (layoutOf img) (slot (layoutOf img) img i) (length-slot (layoutOf img) img (opened-room img f) i l) in
-      let o = offsetOf (layoutOf img) (slot (layoutOf img) img i) in
-      omega (arith, line-length (layoutOf img) img i, decimal-5 i (omega arith), length-hexes key, text-bound o)
+      let n : layoutOf img .N ≤ mostSlots = unfold layoutOf in f .slots-high in
+      let g = layoutOf img in
+      let key = keyOf g (slot g img i) in
+      let k : length key ≡ g .K = length-keyOf g (slot g img i) (length-slot g img (opened-room img f) i l) in
+      let o = offsetOf g (slot g img i) in
+      omega (arith, line-length g img i, decimal-5 i (omega arith), length-hexes key, text-bound o)
 
   row-bound : (i : ℕ) → i < layoutOf img .N → length (row (layoutOf img) img i) ≤ 4 * slotSize (layoutOf img)
   row-bound i l =
@@ -66,7 +75,7 @@ module _ (img : Bytes) (small : length img ≤ 65536) (open₀ : openNumber img 
         suc-mul left (slotSize (layoutOf img)),
       )
 
-  open-bound : length (listed img) ≤ 262144
+  open-bound : length (listed img) ≤ mostPrinted
   open-bound =
       let r = opened-room img (opened-facts img open₀) in
       omega (
@@ -90,11 +99,12 @@ number-bound img =
     (λ b. small 5 (open-5 img a b) (omega arith)))
     (λ a. small 1 (open-1 img a) (omega arith))
 
-pub listed-bound : (img : Bytes) → length img ≤ 65536 → length (listed img) ≤ 262144
+pub listed-bound : (img : Bytes) → length img ≤ mostListed → length (listed img) ≤ mostPrinted
 listed-bound img small =
     by-eq (openNumber img) 0 (open-bound img small)
     (λ n.
-    omega (arith, ap length (listed-closed img (openNumber img) refl n), refused-length (openNumber img), decimal-5 (openNumber img) (number-bound img)))
+    let r = openNumber img in
+    omega (arith, ap length (listed-closed img r refl n), refused-length r, decimal-5 r (number-bound img)))
 
 -- ---- the lister's input
 pub printed-listed : (bytes : Bytes) → length bytes ≤ mostListed → printed bytes ≡ listed bytes
@@ -105,7 +115,7 @@ pub printed-long : (bytes : Bytes) → mostListed < length bytes → printed byt
 unfolding printed
 printed-long bytes h = ap (λ (b : Bool). cond b (listed bytes) tooLong) (lt-leb (length bytes) mostListed h)
 
-pub printed-bound : (bytes : Bytes) → length (printed bytes) ≤ 262144
+pub printed-bound : (bytes : Bytes) → length (printed bytes) ≤ mostPrinted
 printed-bound bytes =
     by-le (length bytes) mostListed
     (λ h. omega (arith, ap length (printed-listed bytes h), listed-bound bytes h))

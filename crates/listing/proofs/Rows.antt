@@ -1,5 +1,5 @@
 -- Lines of slots: their cases, their turns in the loop over slots, and their lengths.
---     text-bad, text-none, text-active      the length of a slot's message
+--     text-bad, text-sound      the length of a slot's message
 --     row-taken, row-vacant, lines-step, lines-end      a slot's line, and the lines from slot i on
 --     listed-closed, listed-open      the whole text
 --     line-length      of a line's pieces
@@ -12,7 +12,7 @@ use mathlib.Core.List.{[], _++_}
 use lib.ListN.{length, length-append}
 use Rattle.bhtf.specs.Bytes.{Bytes}
 use Rattle.bhtf.specs.Image.{Layout, layoutOf, slot, keyOf, offsetOf}
-use Rattle.bhtf.specs.Messages.{lengthAt, isActive}
+use Rattle.bhtf.specs.Messages.{shownLength}
 use Rattle.bhtf.specs.Questions.{messageSound, openNumber}
 use Rattle.bhtf.specs.Inspect.{taken}
 use Rattle.bhtf.proofs.Tests.{zero-yes, zero-no}
@@ -23,21 +23,11 @@ use Rattle.listing.specs.Listed.{heading, bad, lengthText, line, row, li
 module _ (g : Layout) (img : Bytes) (o o′ : ℕ) (q : o ≡ o′) where
   pub text-bad : messageSound g img o ≡ false → lengthText g img o′ ≡ bad
   unfolding lengthText
-  text-bad s =
-      ap (λ (b : Bool). cond b (decimal (cond (isActive img o′) (lengthAt g img o′) 0)) bad) (ap (messageSound g img) (sym q) ∙ s)
+  text-bad s = rw (← q, s)
 
-  sound-text : messageSound g img o ≡ true → lengthText g img o′ ≡ decimal (cond (isActive img o) (lengthAt g img o) 0)
+  pub text-sound : messageSound g img o ≡ true → (m : ℕ) → m ≡ shownLength g img o → lengthText g img o′ ≡ decimal m
   unfolding lengthText
-  sound-text s =
-      ap (λ (b : Bool). cond b (decimal (cond (isActive img o′) (lengthAt g img o′) 0)) bad) (ap (messageSound g img) (sym q) ∙ s)
-      ∙ ap (λ (n : ℕ). decimal (cond (isActive img n) (lengthAt g img n) 0)) (sym q)
-
-  pub text-none : messageSound g img o ≡ true → isActive img o ≡ false → lengthText g img o′ ≡ decimal 0
-  text-none s a = sound-text s ∙ ap (λ (b : Bool). decimal (cond b (lengthAt g img o) 0)) a
-
-  pub text-active : messageSound g img o ≡ true → isActive img o ≡ true → (m : ℕ) → m ≡ lengthAt g img o
-      → lengthText g img o′ ≡ decimal m
-  text-active s a m e = sound-text s ∙ ap (λ (b : Bool). decimal (cond b (lengthAt g img o) 0)) a ∙ ap decimal (sym e)
+  text-sound s m e = rw (← q, s, e)
 
 module _ (g : Layout) (img : Bytes) where
   pub row-taken : (i : ℕ) → taken g img i ≡ true → row g img i ≡ line g img i
@@ -67,7 +57,8 @@ module _ (g : Layout) (img : Bytes) where
       ap (λ (m : ℕ). lines g img m 0) q
 
   pub line-length : (i : ℕ) → length (line g img i)
-      ≡ length (decimal i) + 1 + length (hexes (keyOf g (slot g img i))) + 1 + length (lengthText g img (offsetOf g (slot g img i))) + 1
+      ≡ length (decimal i) + 1 + length (hexes (keyOf g (slot g img i))) + 1
+      + length (lengthText g img (offsetOf g (slot g img i))) + 1
   unfolding line
   line-length i = simp length-append
 
@@ -78,7 +69,8 @@ refused-length n = simp length-append
 pub listed-closed : (img : Bytes) (n : ℕ) → n ≡ openNumber img → (n ≡ 0 → ⊥) → listed img ≡ refusedText n
 unfolding listed
 listed-closed img n q h =
-    zero-no (openNumber img) (heading ++ lines (layoutOf img) img (layoutOf img .N) 0) (refusedText (openNumber img)) (λ z. h (q ∙ z))
+    zero-no (openNumber img) (heading ++ lines (layoutOf img) img (layoutOf img .N) 0) (refusedText (openNumber img))
+    (λ z. h (q ∙ z))
     ∙ ap refusedText (sym q)
 
 pub listed-open : (img : Bytes) (slots : ℕ) → openNumber img ≡ 0 → layoutOf img .N ≡ slots

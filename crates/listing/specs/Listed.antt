@@ -1,7 +1,7 @@
 -- Document 01, "Walk, check, lister, C": the text that the lister prints of an image.
--- "It prints a heading, then slot, key (two lower-case hexadecimal digits a byte) and the length of the slot's own active
--- message (0 if none, bad where 11 fails) of each taken slot in slot order, one space between, a line feed after each line; or,
--- as the only line, "refused", a space and the number".
+-- "It prints a heading, then slot, key (two lower-case hexadecimal digits a byte) and the length of the slot's own
+-- active message (0 if none, bad where 11 fails) of each taken slot in slot order, one space between, a line feed after
+-- each line; or, as the only line, "refused", a space and the number".
 --     listed img      the whole text of an image
 --     printed bytes   what the lister prints for its input
 -- Assumes nothing.
@@ -12,7 +12,7 @@ use lib.Dec.{eqb, leb}
 use lib.ListN.{length}
 use Rattle.bhtf.specs.Bytes.{Bytes}
 use Rattle.bhtf.specs.Image.{Layout, layoutOf, slot, keyOf, offsetOf}
-use Rattle.bhtf.specs.Messages.{lengthAt, isActive}
+use Rattle.bhtf.specs.Messages.{shownLength}
 use Rattle.bhtf.specs.Questions.{messageSound, openNumber}
 use Rattle.bhtf.specs.Inspect.{taken}
 use Rattle.text.specs.Text.{decimal, hexes, space, feed}
@@ -30,11 +30,12 @@ bad = 98 ∷ 97 ∷ 100 ∷ []
 
 -- of the message at offset o
 unfoldable pub lengthText : Layout → Bytes → ℕ → Bytes
-lengthText g img o = cond (messageSound g img o) (decimal (cond (isActive img o) (lengthAt g img o) 0)) bad
+lengthText g img o = cond (messageSound g img o) (decimal (shownLength g img o)) bad
 
 unfoldable pub line : Layout → Bytes → ℕ → Bytes
 line g img i =
-    decimal i ++ space ++ hexes (keyOf g (slot g img i)) ++ space ++ lengthText g img (offsetOf g (slot g img i)) ++ feed
+    decimal i ++ space ++ hexes (keyOf g (slot g img i)) ++ space
+    ++ lengthText g img (offsetOf g (slot g img i)) ++ feed
 
 unfoldable pub row : Layout → Bytes → ℕ → Bytes
 row g img i = cond (taken g img i) (line g img i) []
@@ -49,7 +50,8 @@ refusedText n = refusal ++ decimal n ++ feed
 
 unfoldable pub listed : Bytes → Bytes
 listed img =
-    cond (eqb (openNumber img) 0) (heading ++ lines (layoutOf img) img (layoutOf img .N) 0) (refusedText (openNumber img))
+    cond (eqb (openNumber img) 0) (heading ++ lines (layoutOf img) img (layoutOf img .N) 0)
+    (refusedText (openNumber img))
 
 -- "The lister reads an image of at most 65,536 bytes from standard input"
 abbrev pub mostListed : ℕ

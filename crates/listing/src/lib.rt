@@ -2,9 +2,8 @@
 use layout::places::Slot;
 use layout::shape::Shape;
 use layout::shape::read_shape;
-use messages::is_active;
-use messages::length_at;
 use messages::message_sound;
+use messages::shown_length;
 use questions::open_number;
 use table::key_of;
 use table::offset_of;
@@ -17,16 +16,19 @@ ghost use Prim.Native.Nat.{_+_, _≤_, _<_};
 ghost use mathlib.Core.Path.{_≡_};
 ghost use lib.ListN.{length, take};
 ghost use Rattle.bhtf.specs.Image.{layoutOf};
-ghost use Rattle.bhtf.specs.Questions.{openNumber};
-ghost use Rattle.layout.specs.Shapes.{shapeOf};
+ghost use Rattle.layout.specs.Shapes.{Open};
 ghost use Rattle.text.specs.Puts.{Put};
 ghost use Rattle.listing.specs.Listed.{lengthText, line, row, lines, refusedText, listed, printed, mostPrinted};
 ghost use Rattle.table.specs.Slots.{offsetIn};
 
+// A longer input is not listed.
+const MOST_LISTED: usize = 65536;
+
 // The length of the slot's own active message: 0 if there is none, `bad` where question 11 fails.
 fn put_length(image: &[u8], shape: Shape, i: Slot, out: &mut [u8], at: usize) -> usize
-    requires { ⌜ (openNumber (now image) ≡ 0) × (shape ≡ shapeOf (now image)) × (i .0 < shape .slots)
-        × (at + length (lengthText (layoutOf (now image)) (now image) (offsetIn (now image) (i .0))) ≤ length (now out)) ⌝ }
+    requires { ⌜ Open (now image) shape × (i .0 < shape .slots)
+        × (at + length (lengthText (layoutOf (now image)) (now image) (offsetIn (now image) (i .0)))
+        ≤ length (now out)) ⌝ }
     ensures { λ r. ⌜ Put (now (out .entry)) at (now (out .exit)) r
         (lengthText (layoutOf (now (image .entry))) (now (image .entry)) (offsetIn (now (image .entry)) (i .0))) ⌝ }
 {
@@ -34,17 +36,15 @@ fn put_length(image: &[u8], shape: Shape, i: Slot, out: &mut [u8], at: usize) ->
     if !message_sound(image, shape, o) {
         return put_bytes(out, at, b"bad");
     }
-    if !is_active(image, o) {
-        return put_decimal(out, at, 0);
-    }
-    put_decimal(out, at, length_at(image, o))
+    put_decimal(out, at, shown_length(image, shape, o))
 }
 
 // The line of slot i.
 fn put_line(image: &[u8], shape: Shape, i: Slot, out: &mut [u8], at: usize) -> usize
-    requires { ⌜ (openNumber (now image) ≡ 0) × (shape ≡ shapeOf (now image)) × (i .0 < shape .slots)
+    requires { ⌜ Open (now image) shape × (i .0 < shape .slots)
         × (at + length (line (layoutOf (now image)) (now image) (i .0)) ≤ length (now out)) ⌝ }
-    ensures { λ r. ⌜ Put (now (out .entry)) at (now (out .exit)) r (line (layoutOf (now (image .entry))) (now (image .entry)) (i .0)) ⌝ }
+    ensures { λ r. ⌜ Put (now (out .entry)) at (now (out .exit)) r
+        (line (layoutOf (now (image .entry))) (now (image .entry)) (i .0)) ⌝ }
 {
     let a = put_decimal(out, at, i.number());
     let b = put_byte(out, a, b' ');
@@ -56,9 +56,10 @@ fn put_line(image: &[u8], shape: Shape, i: Slot, out: &mut [u8], at: usize) -> u
 
 // The line of slot i if it is taken.
 fn put_row(image: &[u8], shape: Shape, i: Slot, out: &mut [u8], at: usize) -> usize
-    requires { ⌜ (openNumber (now image) ≡ 0) × (shape ≡ shapeOf (now image)) × (i .0 < shape .slots)
+    requires { ⌜ Open (now image) shape × (i .0 < shape .slots)
         × (at + length (row (layoutOf (now image)) (now image) (i .0)) ≤ length (now out)) ⌝ }
-    ensures { λ r. ⌜ Put (now (out .entry)) at (now (out .exit)) r (row (layoutOf (now (image .entry))) (now (image .entry)) (i .0)) ⌝ }
+    ensures { λ r. ⌜ Put (now (out .entry)) at (now (out .exit)) r
+        (row (layoutOf (now (image .entry))) (now (image .entry)) (i .0)) ⌝ }
 {
     if !is_taken(image, shape, i) {
         return at;
@@ -68,9 +69,10 @@ fn put_row(image: &[u8], shape: Shape, i: Slot, out: &mut [u8], at: usize) -> us
 
 // The lines of all taken slots, in slot order.
 fn put_lines(image: &[u8], shape: Shape, out: &mut [u8], at: usize) -> usize
-    requires { ⌜ (openNumber (now image) ≡ 0) × (shape ≡ shapeOf (now image))
+    requires { ⌜ Open (now image) shape
         × (at + length (lines (layoutOf (now image)) (now image) (shape .slots) 0) ≤ length (now out)) ⌝ }
-    ensures { λ r. ⌜ Put (now (out .entry)) at (now (out .exit)) r (lines (layoutOf (now (image .entry))) (now (image .entry)) (shape .slots) 0) ⌝ }
+    ensures { λ r. ⌜ Put (now (out .entry)) at (now (out .exit)) r
+        (lines (layoutOf (now (image .entry))) (now (image .entry)) (shape .slots) 0) ⌝ }
 {
     let slots = shape.slots;
     let mut end = at;
@@ -105,13 +107,14 @@ pub fn list(image: &[u8], out: &mut [u8]) -> usize
     put_lines(image, read_shape(image), out, at)
 }
 
-// What the lister prints for its input. The second clause follows from the first; it lets a caller take the text as a part.
+// What the lister prints for its input. The second clause follows from the first; by it a caller takes the text as a
+// part.
 pub fn print(input: &[u8], out: &mut [u8]) -> usize
     requires { ⌜ mostPrinted ≤ length (now out) ⌝ }
     ensures text { λ r. ⌜ Put (now (out .entry)) 0 (now (out .exit)) r (printed (now (input .entry))) ⌝ }
     ensures within { λ r. ⌜ (r ≤ length (now (out .exit))) × (r ≡ length (take r (now (out .exit)))) ⌝ }
 {
-    if 65536 < input.len() {
+    if MOST_LISTED < input.len() {
         return put_bytes(out, 0, b"too long\n");
     }
     list(input, out)

@@ -1,31 +1,32 @@
 -- What count and lookup answer, case by case, as the code comes to it; and that lookup's part lies in the image.
 --     count-refused, count-accepted      the number and C
---     Shows img key n s l                the number, start and length that lookup answers, as a fact
---     shows-refused, shows-inactive, shows-active      from the number and the message's offset
+--     shows-refused, shows-inactive, shows-active      what the search's end shows, by question 11 and the message's letter
+--     located-refused, located-found     lookup's number, start and length, from `seek`'s answer
 --     start-none, length-none            where no message is shown
 --     inside                             the part that lookup shows ends in the image
 -- Assumes nothing.
 use mathlib.Core.Path.{_≡_, refl, sym, ap, ap₂, _∙_}
 use Prim.Native.Nat.{ℕ, _+_, _≤_}
 use native.Mathlib.Omega.{arith}
-use mathlib.Core.Bool.{Bool, true, false, cond}
+use mathlib.Core.Bool.{Bool, true, false, cond, _&&_}
 use lib.ListN.{length}
+use lib.Dec.{eqb}
 use borrow.Author.Tests.{eq-eqb, ne-eqb}
 use Rattle.bhtf.specs.Bytes.{Bytes, part}
 use Rattle.bhtf.specs.Limits.{pointsField}
 use Rattle.bhtf.specs.Image.{field, Layout, layoutOf, slot, offsetOf}
-use Rattle.bhtf.specs.Search.{met, search, isMet}
-use Rattle.bhtf.specs.Messages.{headSize, isActive, held}
-use Rattle.bhtf.specs.Questions.{nameAllowed, messageSound, openNumber, lookupNumber}
+use Rattle.bhtf.specs.Search.{Probe, met, empty, exhausted, search, isMet, slotOf}
+use Rattle.bhtf.specs.Messages.{headSize, lengthAt, isActive, held}
+use Rattle.bhtf.specs.Questions.{firstNo, shownAsks, messageSound, openNumber, seekNumber, lookupNumber}
 use Rattle.bhtf.specs.Calls.{lookup, lookupOffset, lookupStart, lookupLength, count, countOf}
 use Rattle.bhtf.proofs.Tests.{by-bool, by-eq}
 use Rattle.bhtf.proofs.Bytes.{part-length}
-use Rattle.bhtf.proofs.Opened.{opened-facts}
-use Rattle.bhtf.proofs.Probe.{by-search}
+use Rattle.bhtf.proofs.Opened.{Opened, opened-facts}
 use Rattle.bhtf.proofs.Effects.{message-end, active-some}
-use Rattle.bhtf.proofs.Outcomes.{offset-refused, offset-met, lookup-closed, lookup-7, lookup-14, lookup-11, lookup-0}
-use Rattle.bhtf.proofs.Stretch.{held-some}
-use Rattle.messages.proofs.Sound.{head-four, held-none}
+use Rattle.bhtf.proofs.Outcomes.{offset-refused, shown-14, shown-11, shown-0}
+use Rattle.bhtf.proofs.Sought.{seek-opened, lookup-stop, lookup-on}
+use Rattle.bhtf.proofs.Stretch.{held-none, held-some}
+use Rattle.lookup.specs.Shown.{shownOffset, Shows}
 
 -- ---- count
 module _ (img : Bytes) (n : ℕ) where
@@ -38,26 +39,61 @@ module _ (img : Bytes) (n : ℕ) where
   unfolding count countOf
   count-accepted h e = (sym h, rw (eq-eqb (openNumber img) 0 h) e)
 
--- ---- lookup
-abbrev pub Shows : Bytes → Bytes → ℕ → ℕ → ℕ → Type 0
-Shows img key n s l = (n ≡ lookupNumber img key) × (s ≡ lookupStart img key) × (l ≡ lookupLength img key)
+-- ---- what is shown, by how the search ended
+module _ (g : Layout) (img : Bytes) (s : Probe) where
+  pub offset-none : (firstNo (shownAsks g img s) ≡ 0 → ⊥) → shownOffset g img s ≡ 0
+  unfolding shownOffset
+  offset-none z = rw (ne-eqb (firstNo (shownAsks g img s)) 0 z) refl
 
+  module _ (n start m : ℕ) where
+    none-shown : n ≡ firstNo (shownAsks g img s) → shownOffset g img s ≡ 0 → start ≡ 0 → m ≡ 0 → Shows g img s n start m
+    none-shown e z es em =
+        record {
+          number = e;
+          begins = es ∙ sym (rw (eq-eqb (shownOffset g img s) 0 z) refl);
+          counts = em ∙ sym (held-none g img (shownOffset g img s) z);
+        }
+
+    pub shows-refused : n ≡ firstNo (shownAsks g img s) → (n ≡ 0 → ⊥) → start ≡ 0 → m ≡ 0 → Shows g img s n start m
+    shows-refused e z es em = none-shown e (offset-none (λ q. z (e ∙ q))) es em
+
+module _ (g : Layout) (img : Bytes) (i : ℕ) (s : messageSound g img (offsetOf g (slot g img i)) ≡ true) where
+  abbrev at : ℕ
+  at = offsetOf g (slot g img i)
+
+  pub offset-is : shownOffset g img (met i) ≡ cond (isActive img at) at 0
+  unfolding shownOffset slotOf
+  offset-is = rw (shown-0 g img i s) refl
+
+  module _ (n start m : ℕ) (e : n ≡ 0) where
+    pub shows-inactive : isActive img at ≡ false → start ≡ 0 → m ≡ 0 → Shows g img (met i) n start m
+    shows-inactive a es em =
+        none-shown g img (met i) n start m (e ∙ sym (shown-0 g img i s)) (offset-is ∙ ap (λ (b : Bool). cond b at 0) a) es em
+
+    pub shows-active : isActive img at ≡ true → start ≡ at + headSize g → m ≡ lengthAt g img at → Shows g img (met i) n start m
+    shows-active a es em =
+        let o : shownOffset g img (met i) ≡ at = offset-is ∙ ap (λ (b : Bool). cond b at 0) a in
+        let z : at ≡ 0 → ⊥ = active-some img at a in
+        record {
+          number = e ∙ sym (shown-0 g img i s);
+          begins =
+              es ∙ sym (ap (λ (p : ℕ). cond (eqb p 0) 0 (p + headSize g)) o
+              ∙ ap (λ (b : Bool). cond b 0 (at + headSize g)) (ne-eqb at 0 z));
+          counts = em ∙ sym (ap (held g img) o ∙ held-some g img at z);
+        }
+
+-- ---- lookup's numbers from `seek`'s answer
 module _ (img key : Bytes) where
   abbrev g : Layout
   g = layoutOf img
 
-  -- the message's offset
-  module _ (i : ℕ) (m : search g img key ≡ met i) (z : lookupNumber img key ≡ 0) where
-    abbrev at : ℕ
-    at = offsetOf g (slot g img i)
+  abbrev found : Probe
+  found = search g img key
 
-    offset-inactive : isActive img at ≡ false → lookupOffset img key ≡ 0
-    offset-inactive a = offset-met img key i m z ∙ ap (λ (b : Bool). cond b at 0) a
+  -- the number, the start of the text and its length
+  abbrev pub Located : ℕ → ℕ → ℕ → Type 0
+  Located n start m = (n ≡ lookupNumber img key) × (start ≡ lookupStart img key) × (m ≡ lookupLength img key)
 
-    offset-active : isActive img at ≡ true → lookupOffset img key ≡ at
-    offset-active a = offset-met img key i m z ∙ ap (λ (b : Bool). cond b at 0) a
-
-  -- start and length by the offset
   pub start-none : lookupOffset img key ≡ 0 → lookupStart img key ≡ 0
   unfolding lookupStart
   start-none z = rw (eq-eqb (lookupOffset img key) 0 z) refl
@@ -66,72 +102,67 @@ module _ (img key : Bytes) where
   unfolding lookupLength
   length-none z = held-none g img (lookupOffset img key) z
 
-  module _ (o : ℕ) (e : lookupOffset img key ≡ o) (some′ : o ≡ 0 → ⊥) where
-    start-some : lookupStart img key ≡ o + 4
-    unfolding lookupStart
-    start-some =
-        ap (λ (b : Bool). cond b 0 (lookupOffset img key + headSize g))
-        (ne-eqb (lookupOffset img key) 0 (λ z. some′ (sym e ∙ z)))
-        ∙ ap₂ _+_ e (head-four img)
+  pub located-refused : (n start m : ℕ) → n ≡ seekNumber img key true → (n ≡ 0 → ⊥) → start ≡ 0 → m ≡ 0 → Located n start m
+  located-refused n start m e z es em =
+      let refused : lookupNumber img key ≡ n = lookup-stop img key (λ q. z (e ∙ q)) ∙ sym e in
+      let o = offset-refused img key (λ q. z (sym refused ∙ q)) in
+      (sym refused, es ∙ sym (start-none o), em ∙ sym (length-none o))
 
-    length-some : lookupLength img key ≡ held g img o
-    unfolding lookupLength
-    length-some = ap (held g img) e
+  module _ (asked : seekNumber img key true ≡ 0) where
+    offset-shown : lookupOffset img key ≡ shownOffset g img found
+    unfolding lookupOffset shownOffset
+    offset-shown =
+        let o = offsetOf g (slot g img (slotOf found)) in
+        ap (λ (n : ℕ). cond (eqb n 0 && isActive img o) o 0) (lookup-on img key asked)
 
-  -- ---- what the code answers
-  module _ (n s l : ℕ) where
-    shows-none : n ≡ lookupNumber img key → lookupOffset img key ≡ 0 → s ≡ 0 → l ≡ 0 → Shows img key n s l
-    shows-none e z es el = (e, es ∙ sym (start-none z), el ∙ sym (length-none z))
-
-    pub shows-refused : n ≡ lookupNumber img key → (n ≡ 0 → ⊥) → s ≡ 0 → l ≡ 0 → Shows img key n s l
-    shows-refused e z es el = shows-none e (offset-refused img key (λ q. z (e ∙ q))) es el
-
-    module _ (z : lookupNumber img key ≡ 0) (e : n ≡ 0) (i : ℕ) (m : search g img key ≡ met i) where
-      pub shows-inactive : isActive img (offsetOf g (slot g img i)) ≡ false → s ≡ 0 → l ≡ 0 → Shows img key n s l
-      shows-inactive a es el = shows-none (e ∙ sym z) (offset-inactive i m z a) es el
-
-      pub shows-active : isActive img (offsetOf g (slot g img i)) ≡ true → s ≡ offsetOf g (slot g img i) + 4
-          → l ≡ held g img (offsetOf g (slot g img i)) → Shows img key n s l
-      shows-active a es el =
-          let o = offsetOf g (slot g img i) in
-          let at′ = offset-active i m z a in
-          let some′ = active-some img o a in
-          (e ∙ sym z, es ∙ sym (start-some o at′ some′), el ∙ sym (length-some o at′ some′))
+    pub located-found : (n start m : ℕ) (p : Probe) → p ≡ found → Shows g img p n start m → Located n start m
+    unfolding lookupStart lookupLength
+    located-found n start m p e s = (
+      s .number ∙ ap (λ (q : Probe). firstNo (shownAsks g img q)) e ∙ sym (lookup-on img key asked),
+      s .begins
+          ∙ ap (λ (q : Probe). cond (eqb (shownOffset g img q) 0) 0 (shownOffset g img q + headSize g)) e
+          ∙ ap (λ (o : ℕ). cond (eqb o 0) 0 (o + headSize g)) (sym offset-shown),
+      s .counts ∙ ap (λ (q : Probe). held g img (shownOffset g img q)) e ∙ ap (held g img) (sym offset-shown),
+    )
 
   -- ---- the part lies in the image
-  inside-none : lookupOffset img key ≡ 0 → lookupStart img key + lookupLength img key ≤ length img
+  abbrev Inside : Type 0
+  Inside = lookupStart img key + lookupLength img key ≤ length img
+
+  inside-none : lookupOffset img key ≡ 0 → Inside
   inside-none z = omega (arith, start-none z, length-none z)
 
-  inside-refused : (n : ℕ) → lookupNumber img key ≡ n → (n ≡ 0 → ⊥)
-      → lookupStart img key + lookupLength img key ≤ length img
-  inside-refused n e z = inside-none (offset-refused img key (λ q. z (sym e ∙ q)))
+  inside-active : (o : ℕ) → lookupOffset img key ≡ o → Opened img → messageSound g img o ≡ true → (o ≡ 0 → ⊥) → Inside
+  unfolding lookupStart lookupLength
+  inside-active o e f s z =
+      rw (e, ne-eqb o 0 z) (omega (arith, held-some g img o z, message-end img f o s z, f .free-high))
 
-  inside-met : openNumber img ≡ 0 → nameAllowed (g .K) key ≡ true → (i : ℕ) → search g img key ≡ met i
-      → lookupStart img key + lookupLength img key ≤ length img
-  inside-met h a i m =
-      let o = offsetOf g (slot g img i) in
-      by-bool (messageSound g img o)
-      (λ s.
-      let z = lookup-0 img key h a i m s in
-      by-bool (isActive img o)
-      (λ b.
-      let e = offset-active i m z b in
-      let f = opened-facts img h in
-      let some′ = active-some img o b in
-      omega (arith, start-some o e some′, length-some o e some′, held-some g img o some′, head-four img, message-end img f o s some′, f .free-high))
-      (λ b. inside-none (offset-inactive i m z b)))
-      (λ s. inside-refused 11 (lookup-11 img key h a i m s) (λ q. omega arith))
-
-  pub inside : lookupStart img key + lookupLength img key ≤ length img
+  pub inside : Inside
+  unfolding isMet
   inside =
-      by-eq (openNumber img) 0
-      (λ h. by-bool (nameAllowed (g .K) key)
-      (λ a. by-search g img key (unfold layoutOf in (omega (arith, opened-facts img h .slots-low)))
-      (λ i m. inside-met h a i m)
-      (λ i m. inside-refused 14 (lookup-14 img key h a (unfold isMet in ap isMet m)) (λ q. omega arith))
-      (λ m. inside-refused 14 (lookup-14 img key h a (unfold isMet in ap isMet m)) (λ q. omega arith)))
-      (λ a. inside-refused 7 (lookup-7 img key h a) (λ q. omega arith)))
-      (λ h. inside-refused (openNumber img) (lookup-closed img key h) h)
+      by-eq (seekNumber img key true) 0
+      (λ a. by-probe found refl a)
+      (λ n. inside-none (offset-refused img key (λ q. n (sym (lookup-stop img key n) ∙ q))))
+    where
+      refused : (p : Probe) → found ≡ p → seekNumber img key true ≡ 0 → (firstNo (shownAsks g img p) ≡ 0 → ⊥) → Inside
+      refused p e a z = inside-none (offset-shown a ∙ ap (shownOffset g img) e ∙ offset-none g img p z)
+
+      absent : (p : Probe) → found ≡ p → seekNumber img key true ≡ 0 → isMet p ≡ false → Inside
+      absent p e a h = refused p e a (λ q. omega (arith, shown-14 g img p h))
+
+      by-probe : (p : Probe) → found ≡ p → seekNumber img key true ≡ 0 → Inside
+      by-probe (met i) e a =
+          let o = offsetOf g (slot g img i) in
+          by-bool (messageSound g img o)
+          (λ s.
+          let at′ : lookupOffset img key ≡ cond (isActive img o) o 0 =
+          offset-shown a ∙ ap (shownOffset g img) e ∙ offset-is g img i s in
+          by-bool (isActive img o)
+          (λ b. inside-active o (at′ ∙ ap (λ (t : Bool). cond t o 0) b) (opened-facts img (seek-opened img key true a)) s (active-some img o b))
+          (λ b. inside-none (at′ ∙ ap (λ (t : Bool). cond t o 0) b)))
+          (λ s. refused (met i) e a (λ q. omega (arith, shown-11 g img i s)))
+      by-probe (empty i) e a = absent (empty i) e a refl
+      by-probe exhausted e a = absent exhausted e a refl
 
   -- ---- lookup's answer by start and length
   pub lookup-answer : (n : ℕ) (t : Bytes) → n ≡ lookupNumber img key → t ≡ part img (lookupStart img key) (lookupLength img key)

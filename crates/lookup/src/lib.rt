@@ -3,22 +3,26 @@
 //     locate   where a point's active message stands, as numbers
 //     lookup   the message as a part of the lent image
 use layout::places::Offset;
-use layout::shape::read_shape;
-use messages::held_at;
+use layout::shape::Shape;
 use messages::is_active;
+use messages::length_at;
 use messages::message_sound;
 use messages::text_start;
-use questions::name_allowed;
 use questions::open_number;
+use seek::Sought;
+use seek::seek;
 use table::Found;
 use table::offset_of;
-use table::search;
 use words::fields::read_u32;
 use words::limits::POINTS_FIELD;
 ghost use mathlib.Core.Path.{_≡_};
 ghost use lib.ListN.{length};
 ghost use Rattle.bhtf.specs.Calls.{lookup, lookupStart, lookupLength, count};
+ghost use Rattle.bhtf.specs.Image.{layoutOf};
 ghost use Rattle.bhtf.specs.Questions.{lookupNumber};
+ghost use Rattle.layout.specs.Shapes.{Open};
+ghost use Rattle.table.specs.Probes.{probeOf, Within};
+ghost use Rattle.lookup.specs.Shown.{Shows};
 
 // What count answers: the number of the first question answered no, 0 where there is none; and the points held.
 pub struct Counted {
@@ -35,7 +39,8 @@ pub struct Located {
 
 // The number of points held; 0 beside the number when refused.
 pub fn count(image: &[u8]) -> Counted
-    ensures { λ r. ⌜ (r .number ≡ count (now (image .entry)) .answer .number) × (r .points ≡ count (now (image .entry)) .answer .amount) ⌝ }
+    ensures { λ r. ⌜ (r .number ≡ count (now (image .entry)) .answer .number)
+        × (r .points ≡ count (now (image .entry)) .answer .amount) ⌝ }
 {
     let number = open_number(image);
     if number != 0 {
@@ -57,21 +62,12 @@ fn nothing(number: u32) -> Located
     }
 }
 
-// Where the active message of the key's point stands.
-pub fn locate(image: &[u8], key: &[u8]) -> Located
-    ensures { λ r. ⌜ (r .number ≡ lookupNumber (now (image .entry)) (now (key .entry)))
-        × (r .start .0 ≡ lookupStart (now (image .entry)) (now (key .entry)))
-        × (r .length ≡ lookupLength (now (image .entry)) (now (key .entry))) ⌝ }
+// Where the active message of the point stands for which the search ended so: questions 14 and 11.
+fn locate_found(image: &[u8], shape: Shape, found: Found) -> Located
+    requires { ⌜ Open (now image) shape × Within (shape .slots) (probeOf found) ⌝ }
+    ensures { λ r. ⌜ Shows (layoutOf (now (image .entry))) (now (image .entry)) (probeOf found)
+        (r .number) (r .start .0) (r .length) ⌝ }
 {
-    let number = open_number(image);
-    if number != 0 {
-        return nothing(number);
-    }
-    let shape = read_shape(image);
-    if !name_allowed(key, shape.key) {
-        return nothing(7);
-    }
-    let found = search(image, shape, key);
     let Found::Met(slot) = found else {
         return nothing(14);
     };
@@ -82,12 +78,25 @@ pub fn locate(image: &[u8], key: &[u8]) -> Located
     if !is_active(image, o) {
         return nothing(0);
     }
-    let start = text_start(o);
-    let length = held_at(image, o);
+    let start = text_start(shape, o);
+    let length = length_at(image, shape, o);
     Located {
         number: 0,
         start,
         length,
+    }
+}
+
+// Where the active message of the key's point stands.
+pub fn locate(image: &[u8], key: &[u8]) -> Located
+    ensures { λ r. ⌜ (r .number ≡ lookupNumber (now (image .entry)) (now (key .entry)))
+        × (r .start .0 ≡ lookupStart (now (image .entry)) (now (key .entry)))
+        × (r .length ≡ lookupLength (now (image .entry)) (now (key .entry))) ⌝ }
+{
+    let sought = seek(image, key, true);
+    match sought {
+        Sought::Refused(number) => nothing(number),
+        Sought::At(shape, found) => locate_found(image, shape, found),
     }
 }
 

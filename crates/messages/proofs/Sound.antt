@@ -1,7 +1,8 @@
--- A message in the image, as code reads it: its letter, its header's 4 bytes, and question 11.
---     letter-byte, head-four, length-bound      the header
+-- A message in the image, as code reads it: its letter, its length, and question 11.
+--     letter-byte, length-bound      the header
 --     sound-none, sound-low, sound-high, sound-read, sound-tests      question 11, by where the offset stands
---     active-none, active-letter, held-none     whether it is active, and the length held
+--     active-none, active-letter     whether it is active
+--     length-shown-yes, length-shown-no      how much text it shows
 -- Assumes nothing.
 use mathlib.Core.Path.{_≡_, refl, sym, ap, _∙_}
 use Prim.Native.Nat.{ℕ, _+_, _≤_, _<_, _^_}
@@ -12,13 +13,11 @@ use lib.ListN.{length, getD}
 use lib.Dec.{leb, eqb}
 use borrow.Author.Tests.{le-leb, lt-leb, eq-eqb, ne-eqb}
 use Rattle.bhtf.specs.Bytes.{Bytes, number}
-use Rattle.bhtf.specs.Limits.{active, inactive, leastLength, dataField, freeField}
+use Rattle.bhtf.specs.Limits.{active, inactive, leastLength, lengthWidth, freeField}
 use Rattle.bhtf.specs.Image.{field, Layout, layoutOf}
-use Rattle.bhtf.specs.Messages.{headSize, letterAt, lengthAt, isActive, held}
+use Rattle.bhtf.specs.Messages.{headSize, letterAt, lengthAt, isActive, held, shownLength}
 use Rattle.bhtf.specs.Questions.{messageSound}
 use Rattle.bhtf.proofs.Bytes.{AreBytes}
-use Rattle.layout.specs.Shapes.{shapeOf}
-use Rattle.layout.specs.declared.shape.Shape.{Shape}
 use Rattle.words.proofs.Numbers.{part-cons, part-zero, part-three, number-three}
 
 -- ---- the header
@@ -27,11 +26,8 @@ unfolding letterAt number
 letter-byte img o h =
     ap number (part-cons img o 0 h ∙ ap (λ (t : Bytes). getD img o 0 ∷ t) (part-zero img (o + 1))) ∙ omega arith
 
-pub head-four : (img : Bytes) → headSize (layoutOf img) ≡ 4
-unfolding headSize layoutOf
-head-four img = refl
-
-pub length-bound : (img : Bytes) (o : ℕ) → AreBytes img → o + 4 ≤ length img → lengthAt (layoutOf img) img o < 2 ^ 24
+pub length-bound : (img : Bytes) (o : ℕ) → AreBytes img → o + (lengthWidth + 1) ≤ length img
+    → lengthAt (layoutOf img) img o < 256 ^ lengthWidth
 unfolding lengthAt layoutOf
 length-bound img o b h =
     omega (
@@ -42,15 +38,6 @@ length-bound img o b h =
       b (o + 1 + 1),
       b (o + 1 + 2),
     )
-
--- ---- the data offset, as the code hands it on
-pub layout-area : (img : Bytes) → layoutOf img .D ≡ field img dataField
-unfolding layoutOf
-layout-area img = refl
-
-pub shape-area : (img : Bytes) (s : Shape) → s ≡ shapeOf img → s .area .0 ≡ layoutOf img .D
-unfolding shapeOf layoutOf
-shape-area img s e = ap (λ (t : Shape). t .area .0) e
 
 -- ---- question 11, by where the offset stands
 module _ (g : Layout) (img : Bytes) (o : ℕ) where
@@ -91,14 +78,14 @@ module _ (g : Layout) (img : Bytes) (o : ℕ) where
   sound-read z h = sound-some z ∙ rw (le-leb (g .D) o h)
 
 -- the tests of a header that was read
-pub sound-tests : (img : Bytes) (o at m x : ℕ) → at ≡ o → 0 < o → layoutOf img .D ≤ o → o < length img
-    → m ≡ lengthAt (layoutOf img) img o → x ≡ field img freeField
-    → ((eqb (getD img at 0) active || eqb (getD img at 0) inactive) && leb 1 m && leb (at + 4 + m) x)
-    ≡ messageSound (layoutOf img) img o
-sound-tests img o at m x ea z d h em ex =
-    rw (ea, em, ex) (sym (simp (letter-byte img o h, head-four img) at (sound-read (layoutOf img) img o z d)))
+pub sound-tests : (g : Layout) (img : Bytes) (o at head m x : ℕ) → at ≡ o → head ≡ headSize g → 0 < o → g .D ≤ o
+    → o < length img → m ≡ lengthAt g img o → x ≡ field img freeField
+    → ((eqb (getD img at 0) active || eqb (getD img at 0) inactive) && leb leastLength m && leb (at + head + m) x)
+    ≡ messageSound g img o
+sound-tests g img o at head m x ea eh z d h em ex =
+    rw (ea, eh, em, ex) (sym (simp (letter-byte img o h) at (sound-read g img o z d)))
 
--- ---- active messages, and the length held
+-- ---- active messages
 pub active-none : (img : Bytes) (o : ℕ) → o ≡ 0 → isActive img o ≡ false
 unfolding isActive
 active-none img o e = rw (eq-eqb o 0 e)
@@ -107,6 +94,11 @@ pub active-letter : (img : Bytes) (o : ℕ) → (o ≡ 0 → ⊥) → o < length
 unfolding isActive
 active-letter img o n h = rw (ne-eqb o 0 n, letter-byte img o h)
 
-pub held-none : (g : Layout) (img : Bytes) (o : ℕ) → o ≡ 0 → held g img o ≡ 0
-unfolding held
-held-none g img o e = rw (eq-eqb o 0 e)
+-- ---- how much text an offset shows
+pub length-shown-yes : (g : Layout) (img : Bytes) (o : ℕ) → isActive img o ≡ true → shownLength g img o ≡ lengthAt g img o
+unfolding shownLength
+length-shown-yes g img o h = rw h refl
+
+pub length-shown-no : (g : Layout) (img : Bytes) (o : ℕ) → isActive img o ≡ false → shownLength g img o ≡ 0
+unfolding shownLength
+length-shown-no g img o h = rw h refl

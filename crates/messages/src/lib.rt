@@ -4,26 +4,27 @@ use layout::shape::Shape;
 use words::fields::read_u24;
 use words::fields::read_u32;
 use words::limits::FREE_FIELD;
+use words::limits::LENGTH_WIDTH;
 ghost use mathlib.Core.Path.{_≡_};
-ghost use mathlib.Core.Bool.{true};
 ghost use Prim.Native.Nat.{_+_, _≤_, _<_, _^_};
 ghost use lib.ListN.{length};
 ghost use Rattle.bhtf.specs.Image.{layoutOf};
-ghost use Rattle.bhtf.specs.Messages.{lengthAt, textAt, isActive, held};
-ghost use Rattle.bhtf.specs.Questions.{openNumber, messageSound};
-ghost use Rattle.layout.specs.Shapes.{shapeOf};
+ghost use Rattle.bhtf.specs.Messages.{lengthAt, isActive, held, shownLength};
+ghost use Rattle.bhtf.specs.Questions.{messageSound};
+ghost use Rattle.layout.specs.Shapes.{Open};
 
-// The length that a message's header names.
-pub fn length_at(image: &[u8], o: Offset) -> usize
-    requires { ⌜ o .0 + 4 ≤ length (now image) ⌝ }
+// The length that a message's header names: the bytes that end the header.
+pub fn length_at(image: &[u8], shape: Shape, o: Offset) -> usize
+    requires { ⌜ Open (now image) shape × (o .0 + shape .head ≤ length (now image)) ⌝ }
     ensures { λ r. ⌜ r ≡ lengthAt (layoutOf (now (image .entry))) (now (image .entry)) (o .0) ⌝ }
 {
-    read_u24(image, o.at() + 1) as usize
+    let text = o.at() + shape.head;
+    read_u24(image, text - LENGTH_WIDTH) as usize
 }
 
 // Question 11 of an offset. The header is read only once its end is known to lie below X.
 pub fn message_sound(image: &[u8], shape: Shape, o: Offset) -> bool
-    requires { ⌜ (openNumber (now image) ≡ 0) × (shape ≡ shapeOf (now image)) ⌝ }
+    requires { ⌜ Open (now image) shape ⌝ }
     ensures { λ r. ⌜ r ≡ messageSound (layoutOf (now (image .entry))) (now (image .entry)) (o .0) ⌝ }
 {
     let at = o.at();
@@ -35,12 +36,12 @@ pub fn message_sound(image: &[u8], shape: Shape, o: Offset) -> bool
         return false;
     }
     let free = read_u32(image, FREE_FIELD) as usize;
-    if free - 4 < at {
+    if free - shape.head < at {
         return false;
     }
-    let m = length_at(image, o);
+    let m = length_at(image, shape, o);
     let letter = image[at];
-    ((letter == b'a') | (letter == b'd')) & (1 <= m) & (at + 4 + m <= free)
+    ((letter == b'a') | (letter == b'd')) & (1 <= m) & (at + shape.head + m <= free)
 }
 
 // Whether the offset is that of an active message. Nothing is read at offset 0.
@@ -56,20 +57,31 @@ pub fn is_active(image: &[u8], o: Offset) -> bool
 }
 
 // The length at the offset, 0 for no offset.
-pub fn held_at(image: &[u8], o: Offset) -> usize
-    requires { ⌜ o .0 + 4 ≤ length (now image) ⌝ }
+pub fn held_at(image: &[u8], shape: Shape, o: Offset) -> usize
+    requires { ⌜ Open (now image) shape × (o .0 + shape .head ≤ length (now image)) ⌝ }
     ensures { λ r. ⌜ r ≡ held (layoutOf (now (image .entry))) (now (image .entry)) (o .0) ⌝ }
 {
     if o.at() == 0 {
         return 0;
     }
-    length_at(image, o)
+    length_at(image, shape, o)
+}
+
+// How many bytes of text the offset shows: those of an active message.
+pub fn shown_length(image: &[u8], shape: Shape, o: Offset) -> usize
+    requires { ⌜ Open (now image) shape × (o .0 + shape .head ≤ length (now image)) ⌝ }
+    ensures { λ r. ⌜ r ≡ shownLength (layoutOf (now (image .entry))) (now (image .entry)) (o .0) ⌝ }
+{
+    if is_active(image, o) {
+        return length_at(image, shape, o);
+    }
+    0
 }
 
 // Where a message's text begins.
-pub fn text_start(o: Offset) -> Offset
-    requires { ⌜ o .0 < 2 ^ 32 ⌝ }
-    ensures { λ r. ⌜ r .0 ≡ o .0 + 4 ⌝ }
+pub fn text_start(shape: Shape, o: Offset) -> Offset
+    requires { ⌜ (o .0 < 2 ^ 32) × (shape .head < 2 ^ 32) ⌝ }
+    ensures { λ r. ⌜ r .0 ≡ o .0 + shape .head ⌝ }
 {
-    Offset::new(o.at() + 4)
+    Offset::new(o.at() + shape.head)
 }

@@ -3,9 +3,8 @@ use layout::places::Offset;
 use layout::places::Slot;
 use layout::shape::Shape;
 use messages::held_at;
-use messages::is_active;
-use messages::length_at;
 use messages::message_sound;
+use messages::shown_length;
 use messages::text_start;
 use room::room_number;
 use storing::overwrite;
@@ -22,16 +21,16 @@ ghost use Prim.Native.Nat.{_+_, _≤_, _<_};
 ghost use lib.ListN.{length};
 ghost use Rattle.bhtf.specs.Limits.{freeField};
 ghost use Rattle.bhtf.specs.Bytes.{part};
-ghost use Rattle.bhtf.specs.Calls.{settled, add};
+ghost use Rattle.bhtf.specs.Calls.{settled};
 ghost use Rattle.bhtf.specs.Image.{field, layoutOf};
-ghost use Rattle.bhtf.specs.Messages.{relocated, renewedText, renewedAt};
-ghost use Rattle.bhtf.specs.Questions.{openNumber, nameAllowed, modeKnown, messageSound, placeNumber};
-ghost use Rattle.bhtf.specs.Search.{met, search};
-ghost use Rattle.layout.specs.Shapes.{shapeOf};
-ghost use Rattle.room.specs.Rooms.{roomNumber, shownLength};
+ghost use Rattle.bhtf.specs.Messages.{relocated, renewedText, renewedAt, addedAt};
+ghost use Rattle.bhtf.specs.Questions.{firstNo, pointAsks, modeKnown, messageSound, placeNumber};
+ghost use Rattle.bhtf.specs.Search.{met};
+ghost use Rattle.layout.specs.Shapes.{Open};
+ghost use Rattle.storing.specs.Fits.{Fits};
 
-// The old message, if there is one, becomes inactive; the first `before` bytes of its text, and the bytes, are placed in new
-// space, where the point's entry then points.
+// The old message, if there is one, becomes inactive; the first `before` bytes of its text, and the bytes, are placed
+// in new space, where the point's entry then points.
 fn relocate(
     image: &mut [u8],
     shape: Shape,
@@ -41,41 +40,41 @@ fn relocate(
     key: &[u8],
     bytes: &[u8],
 )
-    requires { ⌜ (openNumber (now image) ≡ 0) × (shape ≡ shapeOf (now image)) × (slot .0 < shape .slots)
-        × (length (now key) ≡ shape .key)
+    requires { ⌜ Open (now image) shape × (slot .0 < shape .slots) × (length (now key) ≡ shape .keylen)
         × (messageSound (layoutOf (now image)) (now image) (o .0) ≡ true)
-        × (o .0 + 4 + before ≤ field (now image) freeField)
-        × (roomNumber (now image) (before + length (now bytes)) ≡ 0) ⌝ }
+        × (o .0 + shape .head + before ≤ field (now image) freeField)
+        × Fits (now image) shape (before + length (now bytes)) ⌝ }
     ensures { λ _. ⌜ now (image .exit)
         ≡ relocated (layoutOf (now (image .entry))) (now (image .entry)) (slot .0) (o .0) (now (key .entry))
-        (part (now (image .entry)) (o .0 + 4) before ++ now (bytes .entry)) ⌝ }
+        (part (now (image .entry)) (o .0 + shape .head) before ++ now (bytes .entry)) ⌝ }
 {
-    let area = shape.area;
     let free = Offset::new(read_u32(image, FREE_FIELD) as usize);
     retire(image, o);
-    take_space(image, area, text_start(o), before, bytes);
+    take_space(image, shape, text_start(shape, o), before, bytes);
     put_entry(image, shape, slot, key, free);
 }
 
-// Mode 2: no bytes make the message inactive; as many as the offset holds are written in place; more are placed in new space.
+// Mode 2: no bytes make the message inactive; as many as the offset holds are written in place; more are placed in new
+// space.
 fn replace(image: &mut [u8], shape: Shape, slot: Slot, o: Offset, key: &[u8], bytes: &[u8]) -> u32
-    requires { ⌜ (openNumber (now image) ≡ 0) × (shape ≡ shapeOf (now image)) × (slot .0 < shape .slots)
-        × (length (now key) ≡ shape .key)
+    requires { ⌜ Open (now image) shape × (slot .0 < shape .slots) × (length (now key) ≡ shape .keylen)
         × (messageSound (layoutOf (now image)) (now image) (o .0) ≡ true) ⌝ }
-    ensures { λ r. ⌜ (r ≡ placeNumber (layoutOf (now (image .entry))) (now (image .entry)) (renewedText (layoutOf (now (image .entry))) (now (image .entry)) (o .0) (now (bytes .entry)) 2))
+    ensures { λ r. ⌜ (r ≡ placeNumber (layoutOf (now (image .entry))) (now (image .entry))
+        (renewedText (layoutOf (now (image .entry))) (now (image .entry)) (o .0) (now (bytes .entry)) 2))
         × (now (image .exit)
         ≡ settled r (now (image .entry))
-        (renewedAt (layoutOf (now (image .entry))) (now (image .entry)) (slot .0) (o .0) (now (key .entry)) (now (bytes .entry)) 2)) ⌝ }
+        (renewedAt (layoutOf (now (image .entry))) (now (image .entry)) (slot .0) (o .0) (now (key .entry))
+        (now (bytes .entry)) 2)) ⌝ }
 {
     if bytes.len() == 0 {
         retire(image, o);
         return 0;
     }
-    if bytes.len() <= held_at(image, o) {
-        overwrite(image, o, bytes);
+    if bytes.len() <= held_at(image, shape, o) {
+        overwrite(image, shape, o, bytes);
         return 0;
     }
-    let number = room_number(image, bytes.len());
+    let number = room_number(image, shape, bytes.len());
     if number != 0 {
         return number;
     }
@@ -83,32 +82,22 @@ fn replace(image: &mut [u8], shape: Shape, slot: Slot, o: Offset, key: &[u8], by
     0
 }
 
-// How many bytes of text the offset shows: those of an active message.
-fn shown_length(image: &[u8], o: Offset) -> usize
-    requires { ⌜ o .0 + 4 ≤ length (now image) ⌝ }
-    ensures { λ r. ⌜ r ≡ shownLength (now (image .entry)) (o .0) ⌝ }
-{
-    if is_active(image, o) {
-        return length_at(image, o);
-    }
-    0
-}
-
 // Mode 3: no bytes change nothing; others are placed in new space, behind the text of an active message.
 fn append(image: &mut [u8], shape: Shape, slot: Slot, o: Offset, key: &[u8], bytes: &[u8]) -> u32
-    requires { ⌜ (openNumber (now image) ≡ 0) × (shape ≡ shapeOf (now image)) × (slot .0 < shape .slots)
-        × (length (now key) ≡ shape .key)
+    requires { ⌜ Open (now image) shape × (slot .0 < shape .slots) × (length (now key) ≡ shape .keylen)
         × (messageSound (layoutOf (now image)) (now image) (o .0) ≡ true) ⌝ }
-    ensures { λ r. ⌜ (r ≡ placeNumber (layoutOf (now (image .entry))) (now (image .entry)) (renewedText (layoutOf (now (image .entry))) (now (image .entry)) (o .0) (now (bytes .entry)) 3))
+    ensures { λ r. ⌜ (r ≡ placeNumber (layoutOf (now (image .entry))) (now (image .entry))
+        (renewedText (layoutOf (now (image .entry))) (now (image .entry)) (o .0) (now (bytes .entry)) 3))
         × (now (image .exit)
         ≡ settled r (now (image .entry))
-        (renewedAt (layoutOf (now (image .entry))) (now (image .entry)) (slot .0) (o .0) (now (key .entry)) (now (bytes .entry)) 3)) ⌝ }
+        (renewedAt (layoutOf (now (image .entry))) (now (image .entry)) (slot .0) (o .0) (now (key .entry))
+        (now (bytes .entry)) 3)) ⌝ }
 {
     if bytes.len() == 0 {
         return 0;
     }
-    let before = shown_length(image, o);
-    let number = room_number(image, before + bytes.len());
+    let before = shown_length(image, shape, o);
+    let number = room_number(image, shape, before + bytes.len());
     if number != 0 {
         return number;
     }
@@ -116,7 +105,7 @@ fn append(image: &mut [u8], shape: Shape, slot: Slot, o: Offset, key: &[u8], byt
     0
 }
 
-// Add of a point that is present: question 9 before its message is looked at, then 11, then 12 and 13.
+// Add of the point in the slot: question 9 before its message is looked at, then 11, then 12 and 13.
 pub fn add_present(
     image: &mut [u8],
     shape: Shape,
@@ -125,11 +114,14 @@ pub fn add_present(
     bytes: &[u8],
     mode: u32,
 ) -> u32
-    requires { ⌜ (openNumber (now image) ≡ 0) × (shape ≡ shapeOf (now image))
-        × (nameAllowed (layoutOf (now image) .K) (now key) ≡ true) × (modeKnown mode ≡ true)
-        × (search (layoutOf (now image)) (now image) (now key) ≡ met (slot .0)) ⌝ }
-    ensures { λ r. ⌜ (r ≡ add (now (image .entry)) (now (key .entry)) (now (bytes .entry)) mode .answer .number)
-        × (now (image .exit) ≡ add (now (image .entry)) (now (key .entry)) (now (bytes .entry)) mode .after) ⌝ }
+    requires { ⌜ Open (now image) shape × (slot .0 < shape .slots) × (length (now key) ≡ shape .keylen)
+        × (modeKnown mode ≡ true) ⌝ }
+    ensures { λ r. ⌜ (r ≡ firstNo (pointAsks (layoutOf (now (image .entry))) (now (image .entry)) (met (slot .0))
+        (now (bytes .entry)) mode))
+        × (now (image .exit)
+        ≡ settled r (now (image .entry))
+        (addedAt (layoutOf (now (image .entry))) (now (image .entry)) (met (slot .0)) (now (key .entry))
+        (now (bytes .entry)) mode)) ⌝ }
 {
     if mode == 1 {
         return 9;

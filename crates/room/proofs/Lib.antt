@@ -1,4 +1,2 @@
-pub mod Numbers
-pub mod Probes
-pub mod Texts
-pub mod Steps
+-- What add's two halves cite.
+pub mod Rooms

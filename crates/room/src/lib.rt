@@ -1,21 +1,26 @@
 // Questions 12 and 13: whether a message has room behind the last one.
+use layout::shape::Shape;
 use words::fields::read_u32;
 use words::limits::FREE_FIELD;
-use words::limits::MOST_LENGTH;
 ghost use mathlib.Core.Path.{_≡_};
-ghost use Rattle.bhtf.specs.Questions.{openNumber};
-ghost use Rattle.room.specs.Rooms.{roomNumber};
+ghost use mathlib.Core.Option.{some};
+ghost use lib.ListN.{length};
+ghost use Rattle.bhtf.specs.Bytes.{Bytes};
+ghost use Rattle.bhtf.specs.Image.{layoutOf};
+ghost use Rattle.bhtf.specs.Questions.{placeNumber};
+ghost use Rattle.layout.specs.Shapes.{Open};
 
-// The number of the first no of questions 12 and 13, of a message of m bytes; 0 where there is none.
-pub fn room_number(image: &[u8], m: usize) -> u32
-    requires { ⌜ openNumber (now image) ≡ 0 ⌝ }
-    ensures { λ r. ⌜ r ≡ roomNumber (now (image .entry)) m ⌝ }
+// The number of the first no of questions 12 and 13, of any text of m bytes; 0 where there is none.
+pub fn room_number(image: &[u8], shape: Shape, m: usize) -> u32
+    requires { ⌜ Open (now image) shape ⌝ }
+    ensures { λ r. ⌜ ((t : Bytes) → length t ≡ m
+        → r ≡ placeNumber (layoutOf (now (image .entry))) (now (image .entry)) (some t)) ⌝ }
 {
-    if MOST_LENGTH < m {
+    if shape.most < m {
         return 12;
     }
     let free = read_u32(image, FREE_FIELD) as usize;
-    if image.len() < free + 4 + m {
+    if image.len() < free + shape.head + m {
         return 13;
     }
     0

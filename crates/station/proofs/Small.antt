@@ -1,9 +1,10 @@
--- What lookup answers fits 32 bits: an accepted image is at most 16,777,216 bytes long, and a refusal answers 0.
+-- What lookup answers fits 32 bits: an accepted image is short, and a refusal answers 0.
 -- Assumes nothing.
 use mathlib.Core.Path.{_≡_, sym, _∙_}
 use Prim.Native.Nat.{_+_, _≤_}
 use native.Mathlib.Omega.{arith}
 use Rattle.bhtf.specs.Bytes.{Bytes}
+use Rattle.bhtf.specs.Limits.{mostImage}
 use Rattle.bhtf.specs.Questions.{openNumber, lookupNumber}
 use Rattle.bhtf.specs.Calls.{lookupStart, lookupLength}
 use Rattle.bhtf.proofs.Tests.{by-eq}
@@ -15,7 +16,7 @@ open-accepted : (img key : Bytes) → lookupNumber img key ≡ 0 → openNumber 
 open-accepted img key h =
     by-eq (openNumber img) 0 (λ z. z) (λ z. absurd (z (sym (lookup-closed img key z) ∙ h)))
 
-pub lookup-small : (img key : Bytes) → lookupStart img key + lookupLength img key ≤ 16777216
+pub lookup-small : (img key : Bytes) → lookupStart img key + lookupLength img key ≤ mostImage
 lookup-small img key =
     by-eq (lookupNumber img key) 0
     (λ z. omega (arith, inside img key, opened-facts img (open-accepted img key z) .size-high))

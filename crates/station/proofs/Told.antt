@@ -9,7 +9,7 @@ use lib.ListN.{length}
 use lib.Dec.{eqb}
 use borrow.Author.Tests.{eqb-true}
 use Rattle.bhtf.specs.Bytes.{Bytes}
-use Rattle.bhtf.specs.Limits.{keyField, slotsField}
+use Rattle.bhtf.specs.Limits.{mostSlots, headerSize, keyField, slotsField}
 use Rattle.bhtf.specs.Image.{field, layoutOf, slotSize, slotStart}
 use Rattle.bhtf.specs.Questions.{openNumber}
 use Rattle.bhtf.specs.Inspect.{Stop, stopped, end, stopNumber, keyStart, keyWalk, lowest, slotFails, countSound, Verdict, sound, slotBad, countBad, verdictOf, verdictNumber, check}
@@ -49,10 +49,10 @@ module _ (img : Bytes) (from j : ℕ) (e : keyWalk img from ≡ stopped j) where
   pub walk-key : field img keyField ≤ 32
   walk-key = opened-facts img (stopped-open img from j e) .key-high
 
-  pub walk-long : 60 ≤ length img
+  pub walk-long : headerSize ≤ length img
   walk-long = omega (arith, opened-facts img (stopped-open img from j e) .size-low)
 
-  pub walk-slot : j < 65536
+  pub walk-slot : j < mostSlots
   unfolding layoutOf
   walk-slot = omega (arith, stopped-below img from j e, opened-facts img (stopped-open img from j e) .slots-high)
 
@@ -96,7 +96,7 @@ bad-open : (b : Bool) (v : Verdict) (n i : ℕ) → cond b v (Verdict.refused n)
 bad-open true v n i e = (refl, e)
 bad-open false v n i e = let z : _≡_ {A = ℕ} 0 1 = cc in absurd (omega arith)
 
-pub check-slot : (img : Bytes) (i : ℕ) → check img ≡ slotBad i → i < 65536
+pub check-slot : (img : Bytes) (i : ℕ) → check img ≡ slotBad i → i < mostSlots
 unfolding check layoutOf
 check-slot img i e =
     let p = bad-open (eqb (openNumber img) 0)

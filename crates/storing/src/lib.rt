@@ -1,5 +1,6 @@
 // A message is written: made inactive, in place, or in new space at X.
 use layout::places::Offset;
+use layout::shape::Shape;
 use messages::is_active;
 use messages::length_at;
 use runs::copy;
@@ -9,6 +10,7 @@ use words::fields::read_u32;
 use words::fields::write_u24;
 use words::fields::write_u32;
 use words::limits::FREE_FIELD;
+use words::limits::LENGTH_WIDTH;
 use words::limits::PAGE;
 use words::limits::PAGE_FIELD;
 ghost use mathlib.Core.Path.{_≡_};
@@ -16,11 +18,13 @@ ghost use mathlib.Core.Bool.{true};
 ghost use mathlib.Core.List.{_++_};
 ghost use Prim.Native.Nat.{_+_, _≤_, _<_, _^_};
 ghost use lib.ListN.{length};
-ghost use Rattle.bhtf.specs.Limits.{freeField, lengthWidth};
+ghost use Rattle.bhtf.specs.Limits.{freeField, headerSize, lengthWidth};
 ghost use Rattle.bhtf.specs.Bytes.{part};
 ghost use Rattle.bhtf.specs.Image.{field, lastPage, layoutOf};
 ghost use Rattle.bhtf.specs.Messages.{held, message, setFree, takeSpace, retire, overwrite};
-ghost use Rattle.bhtf.specs.Questions.{openNumber, messageSound};
+ghost use Rattle.bhtf.specs.Questions.{messageSound};
+ghost use Rattle.layout.specs.Shapes.{Open};
+ghost use Rattle.storing.specs.Fits.{Fits};
 
 // Makes an active message inactive.
 pub fn retire(image: &mut [u8], o: Offset)
@@ -34,20 +38,23 @@ pub fn retire(image: &mut [u8], o: Offset)
 }
 
 // Writes an active message: its header, and the bytes behind the text's first `before` bytes, which stand there.
-pub fn write_message(space: &mut [u8], before: usize, bytes: &[u8])
-    requires { ⌜ (length (now space) ≡ 4 + before + length (now bytes)) × (before + length (now bytes) < 2 ^ 24) ⌝ }
-    ensures { λ _. ⌜ now (space .exit) ≡ message lengthWidth (part (now (space .entry)) 4 before ++ now (bytes .entry)) ⌝ }
+pub fn write_message(space: &mut [u8], head: usize, before: usize, bytes: &[u8])
+    requires { ⌜ (head ≡ lengthWidth + 1)
+        × (length (now space) ≡ head + before + length (now bytes))
+        × (before + length (now bytes) < 256 ^ lengthWidth) ⌝ }
+    ensures { λ _. ⌜ now (space .exit)
+        ≡ message lengthWidth (part (now (space .entry)) head before ++ now (bytes .entry)) ⌝ }
 {
     let m = before + bytes.len();
     space[0] = b'a';
-    write_u24(space, 1, m as u32);
-    let from = 4 + before;
+    write_u24(space, head - LENGTH_WIDTH, m as u32);
+    let from = head + before;
     copy(&mut space[from..], bytes);
 }
 
 // Writes a message over the one at the offset, and zeroes the rest of the old bytes.
-pub fn overwrite(image: &mut [u8], o: Offset, bytes: &[u8])
-    requires { ⌜ (openNumber (now image) ≡ 0)
+pub fn overwrite(image: &mut [u8], shape: Shape, o: Offset, bytes: &[u8])
+    requires { ⌜ Open (now image) shape
         × (messageSound (layoutOf (now image)) (now image) (o .0) ≡ true)
         × (0 < o .0)
         × (length (now bytes) ≤ held (layoutOf (now image)) (now image) (o .0)) ⌝ }
@@ -55,9 +62,10 @@ pub fn overwrite(image: &mut [u8], o: Offset, bytes: &[u8])
         ≡ overwrite (layoutOf (now (image .entry))) (now (image .entry)) (o .0) (now (bytes .entry)) ⌝ }
 {
     let at = o.at();
-    let old = at + 4 + length_at(image, o);
-    let end = at + 4 + bytes.len();
-    write_message(&mut image[at..end], 0, bytes);
+    let head = shape.head;
+    let old = at + head + length_at(image, shape, o);
+    let end = at + head + bytes.len();
+    write_message(&mut image[at..end], head, 0, bytes);
     zero(&mut image[end..old]);
 }
 
@@ -76,7 +84,7 @@ pub fn last_page(area: Offset, free: Offset) -> u32
 
 // Writes the next free offset, X, and the last page, M.
 pub fn set_free(image: &mut [u8], area: Offset, free: Offset)
-    requires { ⌜ (60 ≤ length (now image)) × (area .0 ≤ free .0) × (free .0 < 2 ^ 32) ⌝ }
+    requires { ⌜ (headerSize ≤ length (now image)) × (area .0 ≤ free .0) × (free .0 < 2 ^ 32) ⌝ }
     ensures { λ _. ⌜ now (image .exit) ≡ setFree (area .0) (now (image .entry)) (free .0) ⌝ }
 {
     write_u32(image, FREE_FIELD, free.at() as u32);
@@ -84,19 +92,19 @@ pub fn set_free(image: &mut [u8], area: Offset, free: Offset)
 }
 
 // Places a message at X: its text is the `before` bytes from `from` on, copied, and then the bytes.
-pub fn take_space(image: &mut [u8], area: Offset, from: Offset, before: usize, bytes: &[u8])
-    requires { ⌜ (openNumber (now image) ≡ 0)
-        × (area .0 ≡ layoutOf (now image) .D)
+pub fn take_space(image: &mut [u8], shape: Shape, from: Offset, before: usize, bytes: &[u8])
+    requires { ⌜ Open (now image) shape
         × (from .0 + before ≤ field (now image) freeField)
-        × (before + length (now bytes) < 2 ^ 24)
-        × (field (now image) freeField + 4 + (before + length (now bytes)) ≤ length (now image)) ⌝ }
+        × Fits (now image) shape (before + length (now bytes)) ⌝ }
     ensures { λ _. ⌜ now (image .exit)
         ≡ takeSpace (layoutOf (now (image .entry))) (now (image .entry))
         (part (now (image .entry)) (from .0) before ++ now (bytes .entry)) ⌝ }
 {
+    let head = shape.head;
+    let area = shape.area;
     let free = read_u32(image, FREE_FIELD) as usize;
-    copy_up(image, from.at(), free + 4, before);
-    let end = free + 4 + (before + bytes.len());
-    write_message(&mut image[free..end], before, bytes);
+    copy_up(image, from.at(), free + head, before);
+    let end = free + head + (before + bytes.len());
+    write_message(&mut image[free..end], head, before, bytes);
     set_free(image, area, Offset::new(end));
 }

@@ -13,52 +13,52 @@ use lib.ListN.{length, take, drop}
 use lib.Seq.{drop-drop, take-at, drop-at, drop-length}
 use borrow.Rule.Slice.PartMut.{putMid}
 use Rattle.bhtf.specs.Bytes.{Bytes, part, store, number, digits}
-use Rattle.bhtf.specs.Limits.{slotsField, multiplierField, startField, firstField, lastField}
+use Rattle.bhtf.specs.Limits.{pageSize, mostImage, mostKey, mostSlots, mostCharacter, scrambleStart, tableStart, slotsField, multiplierField, startField, firstField, lastField}
 use Rattle.bhtf.specs.Image.{field, setField, hashFrom, hash, scramble, home, layoutOf, slotSize, slotStart, slot, putSlot, offsetOf, slotBytes}
 use Rattle.bhtf.specs.Questions.{openNumber}
 use Rattle.bhtf.proofs.Bytes.{length-digits}
 use Rattle.bhtf.proofs.Slots.{Room, keyOf-slot}
 use Rattle.bhtf.proofs.Opened.{opened-facts, opened-room}
 use Rattle.bhtf.proofs.Table.{keyAt}
-use Rattle.layout.specs.Shapes.{shapeOf}
+use Rattle.layout.specs.Shapes.{shapeOf, Open}
 use Rattle.layout.specs.declared.shape.Shape.{Shape}
 use Rattle.table.specs.Slots.{Placed}
 
 -- ---- the layout's numbers
 module _ (img : Bytes) (s : Shape) (is : s ≡ shapeOf img) where
-  pub layout-key : layoutOf img .K ≡ s .key
+  pub layout-key : layoutOf img .K ≡ s .keylen
   unfolding layoutOf shapeOf
-  layout-key = ap (λ (t : Shape). t .key) (sym is)
+  layout-key = ap (λ (t : Shape). t .keylen) (sym is)
 
   pub layout-slots : layoutOf img .N ≡ s .slots
   unfolding layoutOf shapeOf
   layout-slots = ap (λ (t : Shape). t .slots) (sym is)
 
-  pub slot-place : (i : ℕ) → slotStart (layoutOf img) i ≡ 2048 + i * (s .key + 4)
+  pub slot-place : (i : ℕ) → slotStart (layoutOf img) i ≡ tableStart + i * (s .keylen + 4)
   unfolding slotStart slotSize
-  slot-place i = ap (λ (k : ℕ). 2048 + i * (k + 4)) layout-key
+  slot-place i = ap (λ (k : ℕ). tableStart + i * (k + 4)) layout-key
 
-  pub slot-room : slotSize (layoutOf img) ≡ s .key + 4
+  pub slot-room : slotSize (layoutOf img) ≡ s .keylen + 4
   unfolding slotSize
   slot-room = ap (λ (k : ℕ). k + 4) layout-key
 
 -- ---- bounds
 pub record Header (img : Bytes) (s : Shape) : Type 0 where
-  pub key-low : 1 ≤ s .key
-  pub key-high : s .key ≤ 32
+  pub key-low : 1 ≤ s .keylen
+  pub key-high : s .keylen ≤ mostKey
   pub slots-low : 1 ≤ s .slots
-  pub slots-high : s .slots ≤ 65536
+  pub slots-high : s .slots ≤ mostSlots
   pub first : s .first ≤ s .last
-  pub last : s .last ≤ 255
+  pub last : s .last ≤ mostCharacter
   pub area : s .area .0 ≤ length img
-  pub size-low : 4096 ≤ length img
-  pub size-high : length img ≤ 16777216
+  pub size-low : pageSize ≤ length img
+  pub size-high : length img ≤ mostImage
 
-pub header : (img : Bytes) (s : Shape) → openNumber img ≡ 0 → s ≡ shapeOf img → Header img s
-unfolding shapeOf
-header img s h is =
-    let o = opened-facts img h in
-    subst (Header img) (sym is)
+pub header : (img : Bytes) (s : Shape) → Open img s → Header img s
+unfolding shapeOf layoutOf
+header img s open₀ =
+    let o = opened-facts img (open₀ .accepted) in
+    subst (Header img) (sym (open₀ .shape))
     (record {
       key-low = o .key-low;
       key-high = o .key-high;
@@ -75,7 +75,7 @@ pub room : (img : Bytes) → openNumber img ≡ 0 → Room (layoutOf img) (lengt
 room img h = opened-room img (opened-facts img h)
 
 -- ---- where slots stand
-pub placed-room : (img : Bytes) (s : Shape) → s ≡ shapeOf img → s .key ≤ 32 → s .slots ≤ 1048576
+pub placed-room : (img : Bytes) (s : Shape) → s ≡ shapeOf img → s .keylen ≤ mostKey → s .slots ≤ mostSlots
     → Room (layoutOf img) (length img) → Placed img s
 unfolding slotSize
 placed-room img s is hk hs r =
@@ -84,33 +84,33 @@ placed-room img s is hk hs r =
       key-high = hk;
       slots-high = hs;
       table =
-          subst (λ (n : ℕ). 2048 + n ≤ length img)
+          subst (λ (n : ℕ). tableStart + n ≤ length img)
           (ap₂ (λ (n k : ℕ). n * (k + 4)) (layout-slots img s is) (layout-key img s is))
           (omega (arith, r .table, r .area));
     }
 
-pub placed-opened : (img : Bytes) (s : Shape) → openNumber img ≡ 0 → s ≡ shapeOf img → Placed img s
-placed-opened img s h is =
-    let b = header img s h is in
-    placed-room img s is (b .key-high) (omega arith) (room img h)
+pub placed-opened : (img : Bytes) (s : Shape) → Open img s → Placed img s
+placed-opened img s o =
+    let b = header img s o in
+    placed-room img s (o .shape) (b .key-high) (b .slots-high) (room img (o .accepted))
 
 -- what a function that goes to slot i needs: bounds for its place, and that the slot ends in the image
 pub record Spot (img : Bytes) (s : Shape) (i : ℕ) : Type 0 where
-  pub slot-high : i < 1048576
-  pub key-high : s .key ≤ 32
-  pub ends : 2048 + i * (s .key + 4) + (s .key + 4) ≤ length img
+  pub slot-high : i < mostSlots
+  pub key-high : s .keylen ≤ mostKey
+  pub ends : tableStart + i * (s .keylen + 4) + (s .keylen + 4) ≤ length img
 
 pub spot-placed : (img : Bytes) (s : Shape) (i : ℕ) → Placed img s → i < s .slots → Spot img s i
 spot-placed img s i p l =
-    let le : suc i * (s .key + 4) ≤ s .slots * (s .key + 4) = mul-le-mul-right (s .key + 4) l in
+    let le : suc i * (s .keylen + 4) ≤ s .slots * (s .keylen + 4) = mul-le-mul-right (s .keylen + 4) l in
     record {
       slot-high = omega (arith, p .slots-high);
       key-high = p .key-high;
-      ends = omega (arith, p .table, suc-mul i (s .key + 4));
+      ends = omega (arith, p .table, suc-mul i (s .keylen + 4));
     }
 
-pub spot : (img : Bytes) (s : Shape) (i : ℕ) → openNumber img ≡ 0 → s ≡ shapeOf img → i < s .slots → Spot img s i
-spot img s i h is l = spot-placed img s i (placed-opened img s h is) l
+pub spot : (img : Bytes) (s : Shape) (i : ℕ) → Open img s → i < s .slots → Spot img s i
+spot img s i o l = spot-placed img s i (placed-opened img s o) l
 
 -- ---- parts
 drop-take : (k m : ℕ) (l : Bytes) → drop k (take (k + m) l) ≡ take m (drop k l)
@@ -119,56 +119,56 @@ drop-take (suc k) zero [] = rw (suc-add k 0)
 drop-take (suc k) (suc m) [] = rw (suc-add k (suc m))
 drop-take (suc k) m (x ∷ l) = rw (suc-add k m) (drop-take k m l)
 
-module _ (img : Bytes) (s : Shape) (is : s ≡ shapeOf img) (i a : ℕ) (at : a ≡ 2048 + i * (s .key + 4)) where
+module _ (img : Bytes) (s : Shape) (is : s ≡ shapeOf img) (i a : ℕ) (at : a ≡ tableStart + i * (s .keylen + 4)) where
   place : a ≡ slotStart (layoutOf img) i
   place = at ∙ sym (slot-place img s is i)
 
-  pub key-part : (e : ℕ) → e ≡ a + s .key → take (e - a) (drop a img) ≡ keyAt (layoutOf img) img i
+  pub key-part : (e : ℕ) → e ≡ a + s .keylen → take (e - a) (drop a img) ≡ keyAt (layoutOf img) img i
   unfolding part
   key-part e h =
       let m : e - a ≡ layoutOf img .K = omega (arith, layout-key img s is) in
       ap₂ (λ (m p : ℕ). take m (drop p img)) m place ∙ sym (keyOf-slot (layoutOf img) img i)
 
   -- bytes put in the slot's place
-  pub put-slot : (e : ℕ) (v : Bytes) → e ≡ a + (s .key + 4) → length v ≡ s .key + 4
+  pub put-slot : (e : ℕ) (v : Bytes) → e ≡ a + (s .keylen + 4) → length v ≡ s .keylen + 4
       → putMid a (e - a) img v ≡ putSlot (layoutOf img) img i v
   unfolding putSlot store
   put-slot e v h l =
       let m : e - a ≡ length v = omega arith in
       ap₂ (λ (m p : ℕ). take p img ++ (v ++ drop m (drop p img))) m place
 
-  pub offset-part : part img (a + s .key) 4 ≡ drop (layoutOf img .K) (slot (layoutOf img) img i)
+  pub offset-part : part img (a + s .keylen) 4 ≡ drop (layoutOf img .K) (slot (layoutOf img) img i)
   unfolding slot slotSize part
   offset-part =
       ap₂ (λ (k p : ℕ). take 4 (drop (p + k) img)) (sym (layout-key img s is)) place
       ∙ ap (take 4) (sym (drop-drop (layoutOf img .K) (slotStart (layoutOf img) i) img))
       ∙ sym (drop-take (layoutOf img .K) 4 (drop (slotStart (layoutOf img) i) img))
 
-  pub offset-is : field img (a + s .key) ≡ offsetOf (layoutOf img) (slot (layoutOf img) img i)
+  pub offset-is : field img (a + s .keylen) ≡ offsetOf (layoutOf img) (slot (layoutOf img) img i)
   unfolding field offsetOf
   offset-is = ap number offset-part
 
 -- ---- the hash of a key
 pub home-is : (img : Bytes) (s : Shape) → s ≡ shapeOf img → (key : Bytes) (h : ℕ)
-    → h ≡ hashFrom (s .multiplier) (s .first) (s .last) (take (512 + 4 * (s .last - s .first + 1) - 512) (drop 512 img)) (s .start) key
+    → h ≡ hashFrom (s .multiplier) (s .first) (s .last) (take (scrambleStart + 4 * (s .last - s .first + 1) - scrambleStart) (drop scrambleStart img)) (s .basis) key
     → h % s .slots ≡ home (layoutOf img) key
 unfolding home layoutOf hash scramble part shapeOf
 home-is img s is key h =
     subst (λ (t : Shape). h ≡ hashFrom (t .multiplier) (t .first) (t .last)
-    (take (512 + 4 * (t .last - t .first + 1) - 512) (drop 512 img)) (t .start) key → h % t .slots ≡ home (layoutOf img) key)
+    (take (scrambleStart + 4 * (t .last - t .first + 1) - scrambleStart) (drop scrambleStart img)) (t .basis) key → h % t .slots ≡ home (layoutOf img) key)
     (sym is) (λ e. ap (λ (n : ℕ). n % field img slotsField) (e ∙ whole))
   where
     count : ℕ
     count = 4 * (field img lastField - field img firstField + 1)
 
     whole : hashFrom (field img multiplierField) (field img firstField) (field img lastField)
-        (take (512 + count - 512) (drop 512 img)) (field img startField) key
+        (take (scrambleStart + count - scrambleStart) (drop scrambleStart img)) (field img startField) key
         ≡ hashFrom (field img multiplierField) (field img firstField) (field img lastField)
-        (take count (drop 512 img)) (field img startField) key
+        (take count (drop scrambleStart img)) (field img startField) key
     whole =
-        let m : 512 + count - 512 ≡ count = omega arith in
+        let m : scrambleStart + count - scrambleStart ≡ count = omega arith in
         ap (λ (n : ℕ). hashFrom (field img multiplierField) (field img firstField) (field img lastField)
-        (take n (drop 512 img)) (field img startField) key) m
+        (take n (drop scrambleStart img)) (field img startField) key) m
 
 -- ---- an entry: the key, and the offset behind it
 pub entry-written : (key rest : Bytes) (o : ℕ) → length rest ≡ 4 → setField (key ++ rest) (length key) o ≡ slotBytes key o

@@ -1,27 +1,30 @@
 -- Writes to slots leave the header as it was.
 --     SameHead img img′      img′ is opened, and its layout, shape and length are those of img
+--     same-open              so the shape that was its shape still is
 --     head-opened            an image that keeps what no call changes, with its header accepted
 --     head-putSlot, head-moved       a write to a slot, and a move, keep them
 --     kept-shape             the shape is among what no call changes
 -- Assumes nothing.
-use mathlib.Core.Path.{_≡_, refl, _∙_}
+use mathlib.Core.Path.{_≡_, refl, sym, _∙_}
 use Prim.Native.Nat.{ℕ, _<_}
 use native.Mathlib.Omega.{arith}
 use lib.ListN.{length}
 use Rattle.bhtf.specs.Bytes.{Bytes}
 use Rattle.bhtf.specs.Limits.{pointsField, freeField}
 use Rattle.bhtf.specs.Image.{field, Layout, layoutOf, slotSize, slotStart, slot, putSlot, blank}
+use Rattle.bhtf.specs.Messages.{headSize}
 use Rattle.bhtf.specs.Delete.{moved}
 use Rattle.bhtf.specs.Questions.{openNumber}
 use Rattle.bhtf.proofs.Slots.{Room, slot-end, slot-above, length-slot, field-putSlot, length-blank}
 use Rattle.bhtf.proofs.Spread.{room-half}
 use Rattle.bhtf.proofs.Opened.{Opened, opened-facts, facts-opened}
 use Rattle.bhtf.proofs.Kept.{Kept, kept-store, kept-layout, opened-kept, kept-key, kept-slots, kept-data, kept-multiplier, kept-start, kept-first, kept-last}
-use Rattle.layout.specs.Shapes.{shapeOf}
+use Rattle.layout.specs.Shapes.{shapeOf, Open}
+use Rattle.layout.specs.declared.shape.Shape.{Shape}
 
 -- ---- the shape
 pub kept-shape : {img img′ : Bytes} → Kept img img′ → shapeOf img′ ≡ shapeOf img
-unfolding shapeOf
+unfolding shapeOf layoutOf headSize
 kept-shape k =
     rw (kept-key k, kept-slots k, kept-data k, kept-multiplier k, kept-start k, kept-first k, kept-last k) refl
 
@@ -40,6 +43,9 @@ head-trans p q =
       shape = q .shape ∙ p .shape;
       size = q .size ∙ p .size;
     }
+
+pub same-open : {img img′ : Bytes} {s : Shape} → SameHead img img′ → Open img s → Open img′ s
+same-open h o = record { accepted = h .opened; shape = o .shape ∙ sym (h .shape) }
 
 -- an image whose header is accepted, with what no call changes
 pub head-opened : (img img′ : Bytes) → Opened img → Kept img img′ → Opened img′ → SameHead img img′

@@ -1,57 +1,86 @@
 -- The search's answer taken apart by `let Found::Met(slot) = found else`, on an image of shape s.
 --     named-yes, named-no      question 7, which comes before
---     met-slot, met-below      where the key was met: the slot is the search's, and is one of the table's
---     not-met                  in the other arm
+--     met-is, met-within, other-met          in the arm of `Found::Met`, and in the other
+--     empty-is, empty-within, other-empty    so of `Found::Empty`
+--     met-slot, not-met        the same of a search's answer
+--     search-within            the slot where a search ended is one of the table's
 -- Assumes nothing.
-use mathlib.Core.Path.{_≡_, refl, sym, ap, _∙_}
+use mathlib.Core.Path.{_≡_, refl, sym, ap, _∙_, subst}
 use Prim.Native.Nat.{ℕ, _<_}
 use native.Mathlib.Omega.{arith}
-use mathlib.Core.Bool.{Bool, true, false, not}
+use mathlib.Core.Bool.{Bool, true, false, not, true≢false}
 use mathlib.Core.List.{[], _∷_}
 use borrow.Author.Tests.{not-true, not-false}
 use denote.Enum.Declared.{tagOf}
 use types.Run.{OneOf}
 use Rattle.bhtf.specs.Bytes.{Bytes}
 use Rattle.bhtf.specs.Image.{layoutOf}
-use Rattle.bhtf.specs.Questions.{openNumber, nameAllowed}
-use Rattle.bhtf.specs.Search.{met, search, isMet}
+use Rattle.bhtf.specs.Questions.{nameAllowed}
+use Rattle.bhtf.specs.Search.{met, empty, exhausted, search, isMet}
 use Rattle.bhtf.proofs.Tests.{by-either}
-use Rattle.bhtf.proofs.Probe.{search-met}
-use Rattle.layout.specs.Shapes.{shapeOf}
+use Rattle.bhtf.proofs.Probe.{by-search, search-met, search-empty}
+use Rattle.layout.specs.Shapes.{shapeOf, Open}
 use Rattle.layout.specs.declared.places.Slot.{Slot}
 use Rattle.layout.specs.declared.shape.Shape.{Shape}
 use Rattle.table.specs.declared.Found.{Found}
 use Rattle.table.specs.declared.Found.the-variants.{Met, Empty, Exhausted}
-use Rattle.table.specs.Probes.{probeOf}
+use Rattle.table.specs.Probes.{probeOf, Within}
 use Rattle.table.proofs.Found.{the-type}
 use Rattle.table.proofs.Headers.{header, layout-key, layout-slots}
 
--- the variants' numbers are 0, 1 and 2
-other-arm : (f : Found) → OneOf (1 ∷ 2 ∷ []) (tagOf the-type f) → isMet (probeOf f) ≡ false
+-- ---- the arms of a pattern: the variants' numbers are 0, 1 and 2
+pub other-met : (f : Found) → OneOf (1 ∷ 2 ∷ []) (tagOf the-type f) → isMet (probeOf f) ≡ false
 unfolding probeOf isMet
-other-arm (Met s) h = absurd (by-either h (λ (z : _≡_ {A = ℕ} 0 1). omega arith) (λ (z : _≡_ {A = ℕ} 0 2). omega arith))
-other-arm (Empty s) h = refl
-other-arm Exhausted h = refl
+other-met (Met s) h = absurd (by-either h (λ (z : _≡_ {A = ℕ} 0 1). omega arith) (λ (z : _≡_ {A = ℕ} 0 2). omega arith))
+other-met (Empty s) h = refl
+other-met Exhausted h = refl
+
+pub other-empty : (f : Found) → OneOf (0 ∷ 2 ∷ []) (tagOf the-type f) → isMet (probeOf f) ≡ false → probeOf f ≡ exhausted
+unfolding probeOf isMet
+other-empty (Met s) h n = absurd (true≢false n)
+other-empty (Empty s) h n =
+    absurd (by-either h (λ (z : _≡_ {A = ℕ} 1 0). omega arith) (λ (z : _≡_ {A = ℕ} 1 2). omega arith))
+other-empty Exhausted h n = refl
+
+pub met-is : {f : Found} {t : Slot} → f ≡ Met t → probeOf f ≡ met (t .0)
+unfolding probeOf
+met-is e = ap probeOf e
+
+pub empty-is : {f : Found} {t : Slot} → f ≡ Empty t → probeOf f ≡ empty (t .0)
+unfolding probeOf
+empty-is e = ap probeOf e
+
+pub met-within : {n : ℕ} {f : Found} {t : Slot} → f ≡ Met t → Within n (probeOf f) → t .0 < n
+unfolding Within
+met-within {n} e w = subst (Within n) (met-is e) w
+
+pub empty-within : {n : ℕ} {f : Found} {t : Slot} → f ≡ Empty t → Within n (probeOf f) → t .0 < n
+unfolding Within
+empty-within {n} e w = subst (Within n) (empty-is e) w
 
 module _ (img key : Bytes) (s : Shape) (is : s ≡ shapeOf img) where
   -- ---- question 7, with r what `name_allowed` answered
-  pub named-no : {r : Bool} → r ≡ nameAllowed (s .key) key → not r ≡ true → nameAllowed (layoutOf img .K) key ≡ false
+  pub named-no : {r : Bool} → r ≡ nameAllowed (s .keylen) key → not r ≡ true → nameAllowed (layoutOf img .K) key ≡ false
   named-no {r} e t = ap (λ (k : ℕ). nameAllowed k key) (layout-key img s is) ∙ sym e ∙ not-true r t
 
-  pub named-yes : {r : Bool} → r ≡ nameAllowed (s .key) key → not r ≡ false → nameAllowed (layoutOf img .K) key ≡ true
+  pub named-yes : {r : Bool} → r ≡ nameAllowed (s .keylen) key → not r ≡ false → nameAllowed (layoutOf img .K) key ≡ true
   named-yes {r} e t = ap (λ (k : ℕ). nameAllowed k key) (layout-key img s is) ∙ sym e ∙ not-false r t
 
   -- ---- the search
   module _ (f : Found) (e : probeOf f ≡ search (layoutOf img) img key) where
     pub not-met : OneOf (1 ∷ 2 ∷ []) (tagOf the-type f) → isMet (search (layoutOf img) img key) ≡ false
-    not-met h = ap isMet (sym e) ∙ other-arm f h
+    not-met h = ap isMet (sym e) ∙ other-met f h
 
     pub met-slot : (t : Slot) → f ≡ Met t → search (layoutOf img) img key ≡ met (t .0)
-    unfolding probeOf
-    met-slot t m = sym e ∙ ap probeOf m
+    met-slot t m = sym e ∙ met-is m
 
-  pub met-below : openNumber img ≡ 0 → (i : ℕ) → search (layoutOf img) img key ≡ met i → i < s .slots
-  met-below h i m =
-      let n = layout-slots img s is in
-      let b = header img s h is in
-      omega (arith, search-met (layoutOf img) img key (omega arith) i m .0)
+-- the slot where a search ended is one of the table's
+pub search-within : (img key : Bytes) (s : Shape) → Open img s → Within (s .slots) (search (layoutOf img) img key)
+unfolding Within
+search-within img key s o =
+    let n = layout-slots img s (o .shape) in
+    let some′ : 0 < layoutOf img .N = omega (arith, header img s o .slots-low) in
+    by-search (layoutOf img) img key some′
+    (λ i m. subst (Within (s .slots)) (sym m) (omega (arith, search-met (layoutOf img) img key some′ i m .0)))
+    (λ i m. subst (Within (s .slots)) (sym m) (omega (arith, search-empty (layoutOf img) img key some′ i m .0)))
+    (λ m. subst (Within (s .slots)) (sym m) tt)

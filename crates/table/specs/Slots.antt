@@ -6,15 +6,16 @@ use Prim.Native.Nat.{ℕ, _+_, _*_, _≤_}
 use lib.ListN.{length}
 use mathlib.Core.Bool.{Bool}
 use Rattle.bhtf.specs.Bytes.{Bytes}
+use Rattle.bhtf.specs.Limits.{mostKey, mostSlots, tableStart}
 use Rattle.bhtf.specs.Image.{layoutOf, slot, keyOf, offsetOf, vacant, home, putSlot, blank}
 use Rattle.layout.specs.Shapes.{shapeOf}
 use Rattle.layout.specs.declared.shape.Shape.{Shape}
 
 pub record Placed (img : Bytes) (s : Shape) : Type 0 where
   pub shape : s ≡ shapeOf img
-  pub key-high : s .key ≤ 32
-  pub slots-high : s .slots ≤ 1048576
-  pub table : 2048 + s .slots * (s .key + 4) ≤ length img
+  pub key-high : s .keylen ≤ mostKey
+  pub slots-high : s .slots ≤ mostSlots
+  pub table : tableStart + s .slots * (s .keylen + 4) ≤ length img
 
 abbrev pub keyIn : Bytes → ℕ → Bytes
 keyIn img i = keyOf (layoutOf img) (slot (layoutOf img) img i)

@@ -13,9 +13,8 @@ ghost use mathlib.Core.Path.{_≡_};
 ghost use Prim.Native.Nat.{_+_, _^_, _<_};
 ghost use lib.ListN.{length};
 ghost use Rattle.bhtf.specs.Image.{layoutOf, home, slotBytes, putSlot};
-ghost use Rattle.bhtf.specs.Questions.{openNumber};
 ghost use Rattle.bhtf.specs.Search.{search};
-ghost use Rattle.layout.specs.Shapes.{shapeOf};
+ghost use Rattle.layout.specs.Shapes.{Open};
 ghost use Rattle.table.specs.Probes.{probeOf};
 ghost use Rattle.table.specs.Slots.{keyIn, offsetIn, Placed, vacantIn};
 
@@ -28,7 +27,7 @@ pub enum Found {
 
 // The key's home slot: its hash modulo the number of slots.
 pub fn home(image: &[u8], shape: Shape, key: &[u8]) -> Slot
-    requires { ⌜ (openNumber (now image) ≡ 0) × (shape ≡ shapeOf (now image)) ⌝ }
+    requires { ⌜ Open (now image) shape ⌝ }
     ensures { λ r. ⌜ r .0 ≡ home (layoutOf (now (image .entry))) (now (key .entry)) ⌝ }
 {
     let first = shape.first;
@@ -38,7 +37,7 @@ pub fn home(image: &[u8], shape: Shape, key: &[u8]) -> Slot
     let h = hash(
         &image[SCRAMBLE_START..end],
         shape.multiplier,
-        shape.start,
+        shape.basis,
         first,
         last,
         key,
@@ -48,10 +47,10 @@ pub fn home(image: &[u8], shape: Shape, key: &[u8]) -> Slot
 
 // The key bytes of slot i, as a part of the image.
 pub fn key_of(image: &[u8], shape: Shape, i: Slot) -> &[u8]
-    requires { ⌜ (openNumber (now image) ≡ 0) × (shape ≡ shapeOf (now image)) × (i .0 < shape .slots) ⌝ }
+    requires { ⌜ Open (now image) shape × (i .0 < shape .slots) ⌝ }
     ensures { λ r. ⌜ now r ≡ keyIn (now (image .entry)) (i .0) ⌝ }
 {
-    let size = shape.key;
+    let size = shape.keylen;
     let a = i.start(size).at();
     let e = a + size;
     &image[a..e]
@@ -59,17 +58,17 @@ pub fn key_of(image: &[u8], shape: Shape, i: Slot) -> &[u8]
 
 // The message offset in slot i.
 pub fn offset_of(image: &[u8], shape: Shape, i: Slot) -> Offset
-    requires { ⌜ (openNumber (now image) ≡ 0) × (shape ≡ shapeOf (now image)) × (i .0 < shape .slots) ⌝ }
+    requires { ⌜ Open (now image) shape × (i .0 < shape .slots) ⌝ }
     ensures { λ r. ⌜ r .0 ≡ offsetIn (now (image .entry)) (i .0) ⌝ }
 {
-    let size = shape.key;
+    let size = shape.keylen;
     let a = i.start(size).at();
     Offset::new(read_u32(image, a + size) as usize)
 }
 
 // Whether slot i is empty.
 pub fn is_vacant(image: &[u8], shape: Shape, i: Slot) -> bool
-    requires { ⌜ (openNumber (now image) ≡ 0) × (shape ≡ shapeOf (now image)) × (i .0 < shape .slots) ⌝ }
+    requires { ⌜ Open (now image) shape × (i .0 < shape .slots) ⌝ }
     ensures { λ r. ⌜ r ≡ vacantIn (now (image .entry)) (i .0) ⌝ }
 {
     all_zero(key_of(image, shape, i))
@@ -77,18 +76,18 @@ pub fn is_vacant(image: &[u8], shape: Shape, i: Slot) -> bool
 
 // From home upwards, wrapping, until the key is met, an empty slot is met, or all slots were read.
 pub fn search(image: &[u8], shape: Shape, key: &[u8]) -> Found
-    requires { ⌜ (openNumber (now image) ≡ 0) × (shape ≡ shapeOf (now image)) ⌝ }
+    requires { ⌜ Open (now image) shape ⌝ }
     ensures { λ r. ⌜ probeOf r ≡ search (layoutOf (now (image .entry))) (now (image .entry)) (now (key .entry)) ⌝ }
 {
     let slots = shape.slots;
     let mut i = home(image, shape, key);
     let mut left = slots;
     while 0 < left {
-        let held = key_of(image, shape, i);
-        if same_bytes(held, key) {
+        let stored = key_of(image, shape, i);
+        if same_bytes(stored, key) {
             return Found::Met(i);
         }
-        if all_zero(held) {
+        if all_zero(stored) {
             return Found::Empty(i);
         }
         i = i.next(slots);
@@ -109,10 +108,10 @@ pub fn write_entry(part: &mut [u8], key: &[u8], offset: Offset)
 
 // Puts an entry into slot i.
 pub fn put_entry(image: &mut [u8], shape: Shape, i: Slot, key: &[u8], offset: Offset)
-    requires { ⌜ Placed (now image) shape × (i .0 < shape .slots) × (length (now key) ≡ shape .key) × (offset .0 < 2 ^ 32) ⌝ }
+    requires { ⌜ Placed (now image) shape × (i .0 < shape .slots) × (length (now key) ≡ shape .keylen) × (offset .0 < 2 ^ 32) ⌝ }
     ensures { λ _. ⌜ now (image .exit) ≡ putSlot (layoutOf (now (image .entry))) (now (image .entry)) (i .0) (slotBytes (now (key .entry)) (offset .0)) ⌝ }
 {
-    let size = shape.key;
+    let size = shape.keylen;
     let a = i.start(size).at();
     let e = a + (size + 4);
     write_entry(&mut image[a..e], key, offset);

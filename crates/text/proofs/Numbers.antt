@@ -56,7 +56,8 @@ pub length-high : (n : ℕ) → 10 ≤ n → length (decimal n) ≡ length (deci
 length-high n l =
     ap length (decimal-high n l) ∙ length-append (decimal (n / 10)) (digit (n % 10) ∷ [])
 
-more-digits : (w m : ℕ) → 1 ≤ w → ((k : ℕ) → k < m → length (decimal k) ≤ w) → (n : ℕ) → n < 10 * m → length (decimal n) ≤ w + 1
+more-digits : (w m : ℕ) → 1 ≤ w → ((k : ℕ) → k < m → length (decimal k) ≤ w) → (n : ℕ) → n < 10 * m
+    → length (decimal n) ≤ w + 1
 more-digits w m p f n l =
     by-le 10 n
     (λ h.
@@ -73,7 +74,8 @@ decimal-5 =
     (more-digits 3 1000 (omega arith) (more-digits 2 100 (omega arith) (more-digits 1 10 (omega arith) decimal-1)))
 
 -- ---- a key
-pub hexes-step : (key : Bytes) (i : ℕ) → i < length key → hexes (drop i key) ≡ hexByte (getD key i 0) ++ hexes (drop (i + 1) key)
+pub hexes-step : (key : Bytes) (i : ℕ) → i < length key
+    → hexes (drop i key) ≡ hexByte (getD key i 0) ++ hexes (drop (i + 1) key)
 unfolding hexes
 hexes-step key i l =
     ap hexes (drop-cons key i 0 l) ∙ ap (λ (n : ℕ). hexByte (getD key i 0) ++ hexes (drop n key)) (sym (add-one i))

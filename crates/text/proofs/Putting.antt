@@ -38,13 +38,15 @@ front-room : (b : Bytes) (p : ℕ) (v w : Bytes) → p + length (v ++ w) ≤ len
 front-room b p v w room = omega (arith, length-append v w)
 
 -- three texts, and six
-pub put-three : {b c₁ c₂ c₃ v₁ v₂ v₃ : Bytes} {p q₁ q₂ q₃ : ℕ} → Put b p c₁ q₁ v₁ → Put c₁ q₁ c₂ q₂ v₂ → Put c₂ q₂ c₃ q₃ v₃
+pub put-three : {b c₁ c₂ c₃ v₁ v₂ v₃ : Bytes} {p q₁ q₂ q₃ : ℕ}
+    → Put b p c₁ q₁ v₁ → Put c₁ q₁ c₂ q₂ v₂ → Put c₂ q₂ c₃ q₃ v₃
     → p + length (v₁ ++ v₂ ++ v₃) ≤ length b → Put b p c₃ q₃ (v₁ ++ v₂ ++ v₃)
 put-three {b} {c₁} {c₂} {c₃} {v₁} {v₂} {v₃} {p} h₁ h₂ h₃ room =
     put-on (put-on h₁ h₂ (front-room b p (v₁ ++ v₂) v₃ room)) h₃ room
 
 pub put-six : {b c₁ c₂ c₃ c₄ c₅ c₆ v₁ v₂ v₃ v₄ v₅ v₆ : Bytes} {p q₁ q₂ q₃ q₄ q₅ q₆ : ℕ}
-    → Put b p c₁ q₁ v₁ → Put c₁ q₁ c₂ q₂ v₂ → Put c₂ q₂ c₃ q₃ v₃ → Put c₃ q₃ c₄ q₄ v₄ → Put c₄ q₄ c₅ q₅ v₅ → Put c₅ q₅ c₆ q₆ v₆
+    → Put b p c₁ q₁ v₁ → Put c₁ q₁ c₂ q₂ v₂ → Put c₂ q₂ c₃ q₃ v₃
+    → Put c₃ q₃ c₄ q₄ v₄ → Put c₄ q₄ c₅ q₅ v₅ → Put c₅ q₅ c₆ q₆ v₆
     → p + length (v₁ ++ v₂ ++ v₃ ++ v₄ ++ v₅ ++ v₆) ≤ length b → Put b p c₆ q₆ (v₁ ++ v₂ ++ v₃ ++ v₄ ++ v₅ ++ v₆)
 put-six {b} {c₁} {c₂} {c₃} {c₄} {c₅} {c₆} {v₁} {v₂} {v₃} {v₄} {v₅} {v₆} {p} h₁ h₂ h₃ h₄ h₅ h₆ room =
     let room₅ = front-room b p (v₁ ++ v₂ ++ v₃ ++ v₄ ++ v₅) v₆ room in
@@ -52,7 +54,8 @@ put-six {b} {c₁} {c₂} {c₃} {c₄} {c₅} {c₆} {v₁} {v₂} {v₃} {v₄
     let room₃ = front-room b p (v₁ ++ v₂ ++ v₃) v₄ room₄ in
     put-on (put-on (put-on (put-three h₁ h₂ h₃ room₃) h₄ room₄) h₅ room₅) h₆ room
 
-pub put-length : {b : Bytes} {p : ℕ} {c : Bytes} {q : ℕ} {v : Bytes} → Put b p c q v → p + length v ≤ length b → length c ≡ length b
+pub put-length : {b : Bytes} {p : ℕ} {c : Bytes} {q : ℕ} {v : Bytes}
+    → Put b p c q v → p + length v ≤ length b → length c ≡ length b
 put-length {b} {p} {c} {q} {v} h room = ap length (h .bytes) ∙ length-store b p v room
 
 pub record Rest (b : Bytes) (p : ℕ) (w : Bytes) (n : Bytes) (a : ℕ) (r : Bytes) : Type 0 where

@@ -9,7 +9,8 @@ use Rattle.bhtf.specs.Bytes.{Bytes}
 unfoldable pub digit : ℕ → ℕ
 digit d = 48 + d
 
--- the tens, if there are any, then the last digit; the first number bounds the digits, and n is never too small for n's own
+-- the tens, if there are any, then the last digit; the first number bounds the digits, and n is never too small for
+-- n's own
 unfoldable pub decimalFrom : ℕ → ℕ → Bytes
 decimalFrom zero n = digit n ∷ []
 decimalFrom (suc more) n = cond (ltb n 10) (digit n ∷ []) (decimalFrom more (n / 10) ++ (digit (n % 10) ∷ []))

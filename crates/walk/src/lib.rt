@@ -9,8 +9,7 @@ ghost use mathlib.Core.Path.{_≡_};
 ghost use Prim.Native.Nat.{_<_};
 ghost use Rattle.bhtf.specs.Image.{layoutOf};
 ghost use Rattle.bhtf.specs.Inspect.{taken, nextTaken, stopAt, keyWalk, stopNumber, keyShown};
-ghost use Rattle.bhtf.specs.Questions.{openNumber};
-ghost use Rattle.layout.specs.Shapes.{shapeOf};
+ghost use Rattle.layout.specs.Shapes.{Open};
 ghost use Rattle.walk.specs.Stops.{stopOf, stopSlot};
 
 // How the walk ended: refused with a number, at a taken slot, or past the last one.
@@ -22,7 +21,7 @@ pub enum Stop {
 
 // Whether slot i is taken.
 pub fn is_taken(image: &[u8], shape: Shape, i: Slot) -> bool
-    requires { ⌜ (openNumber (now image) ≡ 0) × (shape ≡ shapeOf (now image)) × (i .0 < shape .slots) ⌝ }
+    requires { ⌜ Open (now image) shape × (i .0 < shape .slots) ⌝ }
     ensures { λ r. ⌜ r ≡ taken (layoutOf (now (image .entry))) (now (image .entry)) (i .0) ⌝ }
 {
     !is_vacant(image, shape, i)
@@ -30,7 +29,7 @@ pub fn is_taken(image: &[u8], shape: Shape, i: Slot) -> bool
 
 // The lowest taken slot at or above a number.
 fn lowest_taken(image: &[u8], shape: Shape, from: usize) -> Stop
-    requires { ⌜ (openNumber (now image) ≡ 0) × (shape ≡ shapeOf (now image)) ⌝ }
+    requires { ⌜ Open (now image) shape ⌝ }
     ensures { λ r. ⌜ stopOf r ≡ stopAt (nextTaken (layoutOf (now (image .entry))) (now (image .entry)) from) ⌝ }
 {
     let slots = shape.slots;

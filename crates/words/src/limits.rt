@@ -61,4 +61,9 @@ pub const MOST_SLOTS: u32 = 65536;
 
 pub const MOST_CHARACTER: u32 = 255;
 
+// A message's header is its letter and so many bytes of length; its size, and the largest length.
+pub const LENGTH_WIDTH: usize = 3;
+
+pub const HEAD: usize = 4;
+
 pub const MOST_LENGTH: usize = 16777215;

@@ -1,21 +1,26 @@
 -- The bytes are placed at X, which the entry then names. Assumes nothing.
+use Prim.Native.Nat.{ℕ, _+_, _≤_}
 use native.Mathlib.Omega.{arith}
 use mathlib.Core.Path.{_≡_, sym, ap, _∙_}
+use mathlib.Core.List.{_++_}
 use lib.ListN.{length}
-use Rattle.bhtf.specs.Image.{layoutOf}
+use borrow.Author.Needs.{needs}
+use Rattle.bhtf.specs.Bytes.{Bytes, part}
+use Rattle.bhtf.specs.Limits.{freeField}
+use Rattle.bhtf.specs.Image.{field, layoutOf}
 use Rattle.bhtf.specs.Messages.{takeSpace}
 use Rattle.bhtf.proofs.Opened.{opened-facts}
-use Rattle.messages.proofs.Sound.{shape-area}
-use Rattle.room.proofs.Numbers.{room-fits}
-use Rattle.room.proofs.Texts.{text-none}
-use Rattle.room.proofs.Steps.{head-space, inserted-steps}
-use borrow.Author.Needs.{needs}
+use Rattle.words.proofs.Numbers.{part-zero}
+use Rattle.table.proofs.Heads.{SameHead, same-open}
+use Rattle.storing.proofs.Steps.{head-space, inserted-steps}
 use Rattle.absent.proofs.insert.Statement.{statement}
 use Rattle.absent.proofs.insert.Tie as tie
 
+abbrev start-at-read-u32-arg : tie.After-read-u32-arg → tie.Start
+start-at-read-u32-arg c = c .before .before .before .before
+
 read-u32-requires : tie.Need-read-u32-requires
-read-u32-requires c κs =
-    omega (arith, opened-facts _ (c .before .before .before .before .before .pre .0) .size-low)
+read-u32-requires c κs = omega (arith, opened-facts _ ((start-at-read-u32-arg c) .pre .0 .accepted) .size-low)
 
 cast-new : tie.Need-cast-new
 cast-new c = search needs
@@ -27,51 +32,80 @@ new-requires-2 : tie.Need-new-requires-2
 new-requires-2 c κs = search needs
 
 take-space-requires : tie.Need-take-space-requires
-take-space-requires c κs =
-    let S = c .before .before .before .before .before .before .before .before .before in
-    let img = S .args .image .now in
-    let fits = room-fits img (length (S .args .bytes .now)) (S .pre .4) in (
-      S .pre .0,
-      shape-area img (S .args .shape) (S .pre .1),
-      omega (arith, c .new2 .ensures),
-      omega (arith, fits .0),
-      omega (arith, fits .1),
-    )
+take-space-requires c κs = search needs
+
+abbrev shared-slice-known-at-take-space : tie.After-take-space → tie.After-shared-slice-known
+shared-slice-known-at-take-space c = c .before .before .before .before .before .before .before
+
+abbrev start-at-take-space : tie.After-take-space → tie.Start
+start-at-take-space c = (shared-slice-known-at-take-space c) .before .before
+
+-- ---- with the bytes placed
+placed : (c : tie.After-take-space)
+    → c .take-space .last .0 ≡ takeSpace (layoutOf ((start-at-take-space c) .args .image .now)) ((start-at-take-space c) .args .image .now) ((start-at-take-space c) .args .bytes .now)
+placed c =
+    let A = (start-at-take-space c) .args in
+    c .take-space .ensures
+    ∙ ap (λ (t : Bytes). takeSpace (layoutOf (A .image .now)) (A .image .now) (t ++ A .bytes .now)) (part-zero (A .image .now) _)
+
+head : (c : tie.After-take-space) → SameHead ((start-at-take-space c) .args .image .now) (c .take-space .last .0)
+head c = head-space ((start-at-take-space c) .pre .0) (c .take-space .last .0) ((start-at-take-space c) .args .bytes .now) ((start-at-take-space c) .pre .3 .room) (placed c)
+
+abbrev start-at-new : tie.After-new → tie.Start
+start-at-new c = c .before .before .before .before .before .before
+
+free : (c : tie.After-new) → c .new .result .0 ≡ field ((start-at-new c) .args .image .now) freeField
+free c = c .new .ensures ∙ c .before .read-u32 .ensures
+
+abbrev read-u32-at-enter-arg : tie.After-enter-arg → tie.After-read-u32
+read-u32-at-enter-arg c = c .before .before .before .before .before .before .before
+
+abbrev start-at-read-u32 : tie.After-read-u32 → tie.Start
+start-at-read-u32 c = c .before .before .before .before .before
+
+abbrev start-at-enter-arg : tie.After-enter-arg → tie.Start
+start-at-enter-arg c = start-at-read-u32 (read-u32-at-enter-arg c)
+
+abbrev new-at-enter-arg : tie.After-enter-arg → tie.After-new
+new-at-enter-arg c = c .before .before .before .before .before .before
 
 enter-requires : tie.Need-enter-requires
 enter-requires c κs =
-    let S = c .before .before .before .before .before .before .before .before .before .before .before .before .before in
-    let img = S .args .image .now in
-    let bytes = S .args .bytes .now in
-    let space = c .before .before .before .take-space in
-    let fits = room-fits img (length bytes) (S .pre .4) in
-    let placed : space .last .0 ≡ takeSpace (layoutOf img) img bytes =
-    space .ensures ∙ ap (takeSpace (layoutOf img) img) (text-none img (c .before .before .before .before .new2 .result .0) bytes) in
-    let head = head-space img (space .last .0) (S .pre .0) bytes (fits .1) placed in
-    let f = opened-facts img (S .pre .0) in (
-      head .opened,
-      S .pre .1 ∙ sym (head .shape),
+    let S = (start-at-enter-arg c) in
+    let f = opened-facts (S .args .image .now) (S .pre .0 .accepted) in (
+      same-open (head (c .before .before .before)) (S .pre .0),
+      S .pre .1,
       S .pre .2,
-      S .pre .3,
-      omega (arith, c .before .before .before .before .before .before .new .ensures, c .before .before .before .before .before .before .before .read-u32 .ensures, f .free-high, f .size-high),
+      omega (arith, free (new-at-enter-arg c), f .free-high, f .size-high),
     )
 
 same-length : tie.Need-same-length
-same-length c =
-    c .before .before .enter .kept .0 ∙ c .before .before .before .before .before .before .take-space .kept .0
+same-length c = search needs
+
+abbrev new2-at-slice-known3 : tie.After-slice-known3 → tie.After-new2
+new2-at-slice-known3 c = c .before .before .before .before .before .before .before
+
+abbrev slice-known-at-new2 : tie.After-new2 → tie.After-slice-known
+slice-known-at-new2 c = c .before .before .before .before .before .before .before
+
+abbrev start-at-new2 : tie.After-new2 → tie.Start
+start-at-new2 c = (slice-known-at-new2 c) .before
+
+abbrev start-at-slice-known3 : tie.After-slice-known3 → tie.Start
+start-at-slice-known3 c = start-at-new2 (new2-at-slice-known3 c)
+
+abbrev take-space-at-slice-known3 : tie.After-slice-known3 → tie.After-take-space
+take-space-at-slice-known3 c = c .before .before .before .before .before .before
+
+abbrev new-at-slice-known3 : tie.After-slice-known3 → tie.After-new
+new-at-slice-known3 c = (new2-at-slice-known3 c) .before .before
 
 returns : tie.Need-returns
 returns c =
-    let S = c .before .before .before .before .before .before .before .before .before .before .before .before .before .before .before .before in
-    let img = S .args .image .now in
-    let bytes = S .args .bytes .now in
-    let space = c .before .before .before .before .before .before .take-space in
-    let fits = room-fits img (length bytes) (S .pre .4) in
-    let placed : space .last .0 ≡ takeSpace (layoutOf img) img bytes =
-    space .ensures ∙ ap (takeSpace (layoutOf img) img) (text-none img (c .before .before .before .before .before .before .before .new2 .result .0) bytes) in
-    let head = head-space img (space .last .0) (S .pre .0) bytes (fits .1) placed in
-    inserted-steps img (space .last .0) (c .before .before .enter .last .0) (S .args .key .now) bytes (S .args .slot .0) (c .before .before .before .before .before .before .before .before .before .new .result .0) placed
-    (head .layout) (c .before .before .before .before .before .before .before .before .before .new .ensures ∙ c .before .before .before .before .before .before .before .before .before .before .read-u32 .ensures) (c .before .before .enter .ensures)
+    let A = (start-at-slice-known3 c) .args in
+    let T = (take-space-at-slice-known3 c) in
+    inserted-steps (A .image .now) (T .take-space .last .0) (c .before .before .enter .last .0) (A .key .now) (A .bytes .now) (A .slot .0) _
+    (placed T) (head T .layout) (free (new-at-slice-known3 c)) (c .before .before .enter .ensures)
 
 pub insert-spec : {M : Type 1} → statement M
 insert-spec =

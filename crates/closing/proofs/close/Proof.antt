@@ -22,30 +22,29 @@ clear-slot-requires c κs =
     let S = c .before .before in
     let img = S .args .image .now in
     let s = S .args .shape in
-    (placed-opened img s (S .pre .0) (S .pre .1), S .pre .2)
+    (placed-opened img s (S .pre .0), S .pre .1)
 
 next-requires : tie.Need-next-requires Inv-loop μ-loop
-next-requires c κs = c .before .before .before .before .before .pre .2
+next-requires c κs = c .before .before .before .before .before .pre .1
 
 loop-holds : tie.Need-loop-holds Inv-loop μ-loop
 loop-holds c =
     let S = c .before .before .before .before .before .before in
     let img = S .args .image .now in
     let s = S .args .shape in
-    walking-start img s (S .pre .0) (S .pre .1) (S .args .hole .0) (S .pre .2) _ _
+    walking-start img s (S .pre .0) (S .args .hole .0) (S .pre .1) _ _
     (c .before .before .before .clear-slot .ensures) (c .next .ensures)
 
 is-vacant-requires : tie.Need-is-vacant-requires Inv-loop μ-loop
 is-vacant-requires c κs =
     let w = c .before .loop .inv in
-    (w .head .opened, w .shape, omega (arith, walking-slots w, w .going .slot-lt))
+    (w .opened, omega (arith, walking-slots w, w .going .slot-lt))
 
 look-requires : tie.Need-look-requires Inv-loop μ-loop
 look-requires c κs =
     let w = c .before .before .before .before .loop .inv in
     let n = walking-slots w in (
-      w .head .opened,
-      w .shape,
+      w .opened,
       record {
         hole-lt = omega (arith, w .going .hole-lt);
         slot-lt = omega (arith, w .going .slot-lt);
@@ -86,7 +85,7 @@ returns c =
     let img = S .args .image .now in
     let s = S .args .shape in
     walking-end (L .loop .inv) (was-yes (c .before .is-vacant .ensures) (c .if1 .left))
-    ∙ walking-closed img s (S .pre .0) (S .pre .1) (S .args .hole .0) (S .pre .2) _ _
+    ∙ walking-closed img s (S .pre .0) (S .args .hole .0) (S .pre .1) _ _
     (L .before .before .before .before .clear-slot .ensures) (L .before .next .ensures)
 
 pub close-spec : {M : Type 1} → statement M

@@ -19,8 +19,8 @@ stays-requires c κs =
     let S = c .before .before .before in
     let s = S .args .shape in
     let img = S .args .image .now in
-    let b = header img s (S .pre .0) (S .pre .1) in
-    let n = layout-slots img s (S .pre .1) in
+    let b = header img s (S .pre .0) in
+    let n = layout-slots img s (S .pre .0 .shape) in
     omega (arith, c .home-of .ensures, home-lt (layoutOf img) (keyIn img (S .args .j .0)) (omega arith))
 
 same-length : tie.Need-same-length
@@ -32,7 +32,7 @@ returns c =
     let img = S .args .image .now in
     let s = S .args .shape in
     let e = looked-stays (layoutOf img) img (S .args .hole .0) (S .args .j .0)
-    (sym (stays-code img s (S .pre .1) (S .args .hole .0) (S .args .j .0) _ (c .before .before .home-of .ensures))
+    (sym (stays-code img s (S .pre .0 .shape) (S .args .hole .0) (S .args .j .0) _ (c .before .before .home-of .ensures))
     ∙ sym (c .before .stays .ensures) ∙ c .if1 .taken) in
     record { hole-is = sym (e .0); image-is = sym (e .1) }
 
@@ -48,7 +48,7 @@ returns-2 c =
     let img = S .args .image .now in
     let s = S .args .shape in
     let e = looked-moves (layoutOf img) img (S .args .hole .0) (S .args .j .0)
-    (sym (stays-code img s (S .pre .1) (S .args .hole .0) (S .args .j .0) _ (c .before .before .before .before .before .before .home-of .ensures))
+    (sym (stays-code img s (S .pre .0 .shape) (S .args .hole .0) (S .args .j .0) _ (c .before .before .before .before .before .before .home-of .ensures))
     ∙ sym (c .before .before .before .before .before .stays .ensures) ∙ c .before .before .before .before .if1 .left) in
     record { hole-is = sym (e .0); image-is = c .before .before .move-slot .ensures ∙ sym (e .1) }
 

@@ -14,7 +14,7 @@ start-requires c κs =
     let S = c .before in
     let img = S .args .image .now in
     let s = S .args .shape in
-    omega (arith, spot img s (S .args .j .0) (S .pre .0) (S .pre .1) (S .pre .2 .slot-lt))
+    omega (arith, spot img s (S .args .j .0) (S .pre .0) (S .pre .1 .slot-lt))
 
 at-requires : tie.Need-at-requires
 at-requires c κs = search needs
@@ -24,7 +24,7 @@ start-requires-2 c κs =
     let S = c .before .before .before in
     let img = S .args .image .now in
     let s = S .args .shape in
-    omega (arith, spot img s (S .args .hole .0) (S .pre .0) (S .pre .1) (S .pre .2 .hole-lt))
+    omega (arith, spot img s (S .args .hole .0) (S .pre .0) (S .pre .1 .hole-lt))
 
 at-requires-2 : tie.Need-at-requires-2
 at-requires-2 c κs = search needs
@@ -34,7 +34,7 @@ add-copy-apart c =
     let S = c .before .before .before .before .before .before in
     let img = S .args .image .now in
     let s = S .args .shape in
-    omega (arith, spot img s (S .args .hole .0) (S .pre .0) (S .pre .1) (S .pre .2 .hole-lt))
+    omega (arith, spot img s (S .args .hole .0) (S .pre .0) (S .pre .1 .hole-lt))
 
 copy-apart-requires : tie.Need-copy-apart-requires
 copy-apart-requires c κs =
@@ -43,9 +43,9 @@ copy-apart-requires c κs =
     let s = S .args .shape in
     let ej = c .before .before .before .at .ensures ∙ c .before .before .before .before .start .ensures in
     let eh = c .before .at2 .ensures ∙ c .before .before .start2 .ensures in (
-      code-apart img s (S .pre .1) (S .args .hole .0) (S .args .j .0) _ _ ej eh (S .pre .2 .other),
-      omega (arith, spot img s (S .args .j .0) (S .pre .0) (S .pre .1) (S .pre .2 .slot-lt)),
-      omega (arith, spot img s (S .args .hole .0) (S .pre .0) (S .pre .1) (S .pre .2 .hole-lt)),
+      code-apart img s (S .pre .0 .shape) (S .args .hole .0) (S .args .j .0) _ _ ej eh (S .pre .1 .other),
+      omega (arith, spot img s (S .args .j .0) (S .pre .0) (S .pre .1 .slot-lt)),
+      omega (arith, spot img s (S .args .hole .0) (S .pre .0) (S .pre .1 .hole-lt)),
     )
 
 -- the image half way: the entry stands in the hole too
@@ -62,14 +62,14 @@ half c =
     let ej = c .before .before .before .before .at .ensures ∙ c .before .before .before .before .before .start .ensures in
     let eh = c .before .before .at2 .ensures ∙ c .before .before .before .start2 .ensures in
     c .copy-apart .ensures
-    ∙ copied-slot (S .args .image .now) (S .args .shape) (S .pre .1) (S .args .hole .0) (S .args .j .0) _ _ ej eh
+    ∙ copied-slot (S .args .image .now) (S .args .shape) (S .pre .0 .shape) (S .args .hole .0) (S .args .j .0) _ _ ej eh
 
 clear-slot-requires : tie.Need-clear-slot-requires
 clear-slot-requires c κs =
     let C = c .before .before .before in
     let S = C .before .before .before .before .before .before .before in (
-      placed-code (S .args .image .now) _ (S .args .shape) (S .args .hole .0) (S .args .j .0) (S .pre .0) (S .pre .1) (S .pre .2) (half C),
-      S .pre .2 .slot-lt,
+      placed-code (S .args .image .now) _ (S .args .shape) (S .args .hole .0) (S .args .j .0) (S .pre .0) (S .pre .1) (half C),
+      S .pre .1 .slot-lt,
     )
 
 same-length : tie.Need-same-length
@@ -80,7 +80,7 @@ returns c =
     let C = c .before .before .before .before .before .before in
     let S = C .before .before .before .before .before .before .before in
     c .before .before .clear-slot .ensures
-    ∙ moved-code (S .args .image .now) _ (S .args .shape) (S .args .hole .0) (S .args .j .0) (S .pre .0) (S .pre .1) (S .pre .2) (half C)
+    ∙ moved-code (S .args .image .now) _ (S .args .shape) (S .args .hole .0) (S .args .j .0) (S .pre .0) (S .pre .1) (half C)
 
 pub move-slot-spec : {M : Type 1} → statement M
 move-slot-spec =

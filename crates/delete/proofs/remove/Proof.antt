@@ -10,7 +10,7 @@ use Rattle.bhtf.specs.Image.{setField}
 use Rattle.bhtf.specs.Messages.{retire}
 use Rattle.bhtf.proofs.Opened.{opened-facts}
 use Rattle.bhtf.proofs.Effects.{message-head, retire-opened}
-use Rattle.table.proofs.Heads.{SameHead}
+use Rattle.table.proofs.Heads.{SameHead, same-open}
 use Rattle.delete.proofs.Removed.{head-counted, removed}
 use Rattle.delete.proofs.remove.Statement.{statement}
 use Rattle.delete.proofs.remove.Tie as tie
@@ -31,16 +31,16 @@ head c =
     let S = c .before .before .before .before .before .before .before in
     let A = S .args in
     let p = S .pre in
-    let f = opened-facts (A .image .now) (p .0) in
+    let f = opened-facts (A .image .now) (p .0 .accepted) in
     subst (SameHead (A .image .now)) (sym (counted c))
-    (head-counted (A .image .now) (p .0) (A .o .0) (p .4) (A .points - 1) (omega (arith, f .points, p .5)))
+    (head-counted (A .image .now) (p .0 .accepted) (A .o .0) (p .3) (A .points - 1) (omega (arith, f .points, p .4)))
 
 retire-requires : tie.Need-retire-requires
 retire-requires c κs =
     let S = c .before .before in
     let A = S .args in
     let e : A .o .0 < length (A .image .now) =
-    omega (arith, message-head (A .image .now) (opened-facts (A .image .now) (S .pre .0)) (A .o .0) (S .pre .4)) in
+    omega (arith, message-head (A .image .now) (opened-facts (A .image .now) (S .pre .0 .accepted)) (A .o .0) (S .pre .3)) in
     e
 
 sub-write-u32 : tie.Need-sub-write-u32
@@ -51,7 +51,7 @@ write-u32-requires c κs =
     let R = c .before .before .before in
     let S = R .before .before .before in
     let A = S .args in
-    let f = retire-opened (A .image .now) (opened-facts (A .image .now) (S .pre .0)) (A .o .0) (S .pre .4) in
+    let f = retire-opened (A .image .now) (opened-facts (A .image .now) (S .pre .0 .accepted)) (A .o .0) (S .pre .3) in
     let e : 24 ≤ length (R .retire .last .0) = omega (arith, f .size-low, ap length (R .retire .ensures)) in
     e
 
@@ -59,7 +59,7 @@ close-requires : tie.Need-close-requires
 close-requires c κs =
     let W = c .before .before .before in
     let S = W .before .before .before .before .before .before .before in
-    (head W .opened, S .pre .1 ∙ sym (head W .shape), S .pre .2)
+    (same-open (head W) (S .pre .0), S .pre .1)
 
 same-length : tie.Need-same-length
 same-length c = search needs
@@ -70,7 +70,7 @@ returns c =
     let W = C .before .before .before .before in
     let S = W .before .before .before .before .before .before .before in
     let A = S .args in
-    removed (A .image .now) (A .i .0) (A .o .0) (A .points) (W .write-u32 .last .0) (C .close .last .0) (S .pre .3) (S .pre .5)
+    removed (A .image .now) (A .i .0) (A .o .0) (A .points) (W .write-u32 .last .0) (C .close .last .0) (S .pre .2) (S .pre .4)
     (counted W) (head W .layout) (C .close .ensures)
 
 pub remove-spec : {M : Type 1} → statement M

@@ -1,11 +1,11 @@
--- `inspect::check` meets its contract: questions 1, 5 and 6, then the table.
--- Assumes nothing.
+-- Questions 1, 5 and 6, then the table. Assumes nothing.
 use native.Mathlib.Omega.{arith}
-use mathlib.Core.Path.{sym, _∙_}
+use mathlib.Core.Path.{_≡_, sym, _∙_}
+use borrow.Author.Needs.{needs}
+use Rattle.bhtf.specs.Questions.{openNumber}
 use Rattle.bhtf.proofs.Opened.{opened-facts}
 use Rattle.inspect.specs.Verdicts.{verdictIn}
 use Rattle.inspect.proofs.Turns.{check-closed, check-open}
-use borrow.Author.Needs.{needs}
 use Rattle.inspect.proofs.check.Statement.{statement}
 use Rattle.inspect.proofs.check.Tie as tie
 
@@ -15,21 +15,23 @@ open-number-requires c κs = search needs
 returns : tie.Need-returns
 unfolding verdictIn
 returns c =
-    check-closed (c .before .before .before .args .image .now) (c .before .open-number .result) (c .before .open-number .ensures)
-    (c .if1 .taken)
+    let O = c .before .open-number in
+    check-closed (c .before .before .before .args .image .now) (O .result) (O .ensures) (c .if1 .taken)
+
+-- behind the questions
+opened : (c : tie.Else1) → openNumber (c .before .before .before .args .image .now) ≡ 0
+opened c = sym (c .before .open-number .ensures) ∙ c .if1 .left
 
 read-shape-requires : tie.Need-read-shape-requires
-read-shape-requires c κs = omega (arith, opened-facts _ (sym (c .before .open-number .ensures) ∙ c .if1 .left) .size-low)
+read-shape-requires c κs = omega (arith, opened-facts _ (opened c) .size-low)
 
 check-table-requires : tie.Need-check-table-requires
-check-table-requires c κs =
-    (sym (c .before .before .open-number .ensures) ∙ c .before .if1 .left, c .read-shape .ensures)
+check-table-requires c κs = record { accepted = opened (c .before); shape = c .read-shape .ensures }
 
 returns-2 : tie.Need-returns-2
 returns-2 c =
-    c .check-table .ensures
-    ∙ check-open (c .before .before .before .before .before .args .image .now)
-    (sym (c .before .before .before .open-number .ensures) ∙ c .before .before .if1 .left)
+    let E = c .before .before in
+    c .check-table .ensures ∙ check-open (E .before .before .before .args .image .now) (opened E)
 
 pub check-spec : {M : Type 1} → statement M
 check-spec =

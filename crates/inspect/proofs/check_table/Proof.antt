@@ -1,5 +1,4 @@
--- `inspect::check_table` meets its contract: no slot below i fails, and `count` of them are taken.
--- Assumes nothing.
+-- No slot below i fails, and `count` of them are taken. Assumes nothing.
 use Prim.Native.Nat.{ℕ, _+_, _-_}
 use native.Mathlib.Omega.{arith}
 use mathlib.Core.Path.{sym, _∙_, subst}
@@ -22,8 +21,8 @@ abbrev μ-loop : tie.MeasureT-loop
 loop-holds : tie.Need-loop-holds Inv-loop μ-loop
 loop-holds c =
     let S = c .before in
-    passed-start (layoutOf (S .args .image .now)) (S .args .image .now) (S .args .shape .slots)
-    (layout-slots (S .args .image .now) (S .args .shape) (S .pre .1))
+    let img = S .args .image .now in
+    passed-start (layoutOf img) img (S .args .shape .slots) (layout-slots img (S .args .shape) (S .pre .shape))
 
 new-requires : tie.Need-new-requires Inv-loop μ-loop
 new-requires c κs = tt
@@ -31,12 +30,12 @@ new-requires c κs = tt
 is-taken-requires : tie.Need-is-taken-requires Inv-loop μ-loop
 is-taken-requires c κs =
     let S = c .before .before .before .before in
-    (S .pre .0, S .pre .1, omega (arith, c .new .ensures, c .before .loop-test .taken))
+    (S .pre, omega (arith, c .new .ensures, c .before .loop-test .taken))
 
 slot-sound-requires : tie.Need-slot-sound-requires Inv-loop μ-loop
 slot-sound-requires c κs =
     let S = c .before .before .before .before .before .before in
-    (S .pre .0, S .pre .1, omega (arith, c .before .before .new .ensures, c .before .before .before .loop-test .taken))
+    (S .pre, omega (arith, c .before .before .new .ensures, c .before .before .before .loop-test .taken))
 
 returns : tie.Need-returns Inv-loop μ-loop
 unfolding verdictIn
@@ -54,7 +53,7 @@ add-count c =
     let L = c .before .before .before .before .before .before in
     let w = L .loop .inv in
     let S = L .before .before in
-    let b = header (S .args .image .now) (S .args .shape) (S .pre .0) (S .pre .1) in
+    let b = header (S .args .image .now) (S .args .shape) (S .pre) in
     omega (arith, w .low, w .few, b .slots-high)
 
 add-i : tie.Need-add-i Inv-loop μ-loop
@@ -62,7 +61,7 @@ add-i c =
     let L = c .before .before .before .before in
     let w = L .loop .inv in
     let S = L .before .before in
-    let b = header (S .args .image .now) (S .args .shape) (S .pre .0) (S .pre .1) in
+    let b = header (S .args .image .now) (S .args .shape) (S .pre) in
     omega (arith, w .low, b .slots-high)
 
 loop-less : tie.Need-loop-less Inv-loop μ-loop
@@ -88,7 +87,7 @@ loop-again c =
 read-u32-requires : tie.Need-read-u32-requires Inv-loop μ-loop
 read-u32-requires c κs =
     let S = c .before .before .before in
-    omega (arith, header (S .args .image .now) (S .args .shape) (S .pre .0) (S .pre .1) .size-low)
+    omega (arith, header (S .args .image .now) (S .args .shape) (S .pre) .size-low)
 
 cast-if3 : tie.Need-cast-if3 Inv-loop μ-loop
 cast-if3 c = search needs

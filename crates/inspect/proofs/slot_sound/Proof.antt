@@ -1,9 +1,13 @@
--- `inspect::slot_sound` meets its contract.
--- Assumes nothing.
-use mathlib.Core.Path.{sym, _∙_}
-use Rattle.bhtf.specs.Image.{layoutOf}
-use Rattle.inspect.proofs.Turns.{ends-false, ends-true, not-met, met-other, met-here}
+-- The key's search ends at the slot, and its message passes. Assumes nothing.
+use Prim.Native.Nat.{ℕ}
+use mathlib.Core.Path.{_≡_, sym, _∙_}
+use mathlib.Core.Bool.{false}
 use borrow.Author.Needs.{needs}
+use Rattle.bhtf.specs.Bytes.{Bytes}
+use Rattle.bhtf.specs.Image.{layoutOf}
+use Rattle.bhtf.specs.Inspect.{endsAt, slotSound}
+use Rattle.table.specs.Probes.{probeOf}
+use Rattle.inspect.proofs.Turns.{ends-false, ends-true, not-met, met-other, met-here}
 use Rattle.inspect.proofs.slot_sound.Statement.{statement}
 use Rattle.inspect.proofs.slot_sound.Tie as tie
 
@@ -16,14 +20,22 @@ search-requires c κs = search needs
 enum-known-j : tie.Need-enum-known-j
 enum-known-j c = search needs
 
+-- a search that does not end at the slot
+ends-elsewhere : (c : tie.After-search)
+    → let img : Bytes = c .before .before .before .args .image .now in
+    let i : ℕ = c .before .before .before .args .i .0 in
+    endsAt (probeOf (c .search .result)) i ≡ false → false ≡ slotSound (layoutOf img) img i
+ends-elsewhere c n =
+    let A = c .before .before .before .args in
+    let img = A .image .now in
+    let K = c .before .key-of in
+    let f = c .search in
+    ends-false (layoutOf img) img (A .i .0) (K .result .now) (K .ensures) (f .result) (f .ensures) n
+
 returns : tie.Need-returns
 returns c =
-    let S = c .before .before .before .before in
-    let img = S .args .image .now in
-    let K = c .before .before .key-of in
-    let f = c .before .search in
-    ends-false (layoutOf img) img (S .args .i .0) (K .result .now) (K .ensures) (f .result) (f .ensures)
-    (not-met (f .result) (c .match .keys2) (S .args .i .0))
+    let F = c .before in
+    ends-elsewhere F (not-met (F .search .result) (c .match .keys2) (F .before .before .before .args .i .0))
 
 number-requires : tie.Need-number-requires
 number-requires c κs = search needs
@@ -33,14 +45,12 @@ number-requires-2 c κs = search needs
 
 returns-2 : tie.Need-returns-2
 returns-2 c =
-    let F = c .before .before .before .before .before .before in
-    let S = F .before .before .before in
-    let img = S .args .image .now in
-    let K = F .before .key-of in
-    let f = F .search in
-    ends-false (layoutOf img) img (S .args .i .0) (K .result .now) (K .ensures) (f .result) (f .ensures)
-    (met-other (f .result) (c .before .before .before .before .j .given .1) (S .args .i .0)
-    (λ q. c .if1 .taken (c .before .before .number .ensures ∙ q ∙ sym (c .before .number2 .ensures))))
+    let N = c .before .before in
+    let J = N .before .before in
+    let F = J .before .before in
+    ends-elsewhere F
+    (met-other (F .search .result) (J .j .given .1) (F .before .before .before .args .i .0)
+    (λ q. c .if1 .taken (N .number .ensures ∙ q ∙ sym (c .before .number2 .ensures))))
 
 offset-of-requires : tie.Need-offset-of-requires
 offset-of-requires c κs = search needs
@@ -50,16 +60,20 @@ message-sound-requires c κs = search needs
 
 returns-3 : tie.Need-returns-3
 returns-3 c =
-    let F = c .before .before .before .before .before .before .before .before in
-    let S = F .before .before .before in
-    let img = S .args .image .now in
-    let K = F .before .key-of in
-    let f = F .search in
+    let o = c .before .offset-of in
     let E = c .before .before in
-    ends-true (layoutOf img) img (S .args .i .0) (K .result .now) (K .ensures) (f .result) (f .ensures)
-    (met-here (f .result) (E .before .before .before .before .j .given .1) (S .args .i .0)
-    (sym (E .before .before .number .ensures) ∙ E .if1 .left ∙ E .before .number2 .ensures))
-    (c .message-sound .result) (c .before .offset-of .result .0) (c .before .offset-of .ensures) (c .message-sound .ensures)
+    let N = E .before .before in
+    let J = N .before .before in
+    let F = J .before .before in
+    let K = F .before .key-of in
+    let A = F .before .before .before .args in
+    let img = A .image .now in
+    let f = F .search in
+    let m = c .message-sound in
+    ends-true (layoutOf img) img (A .i .0) (K .result .now) (K .ensures) (f .result) (f .ensures)
+    (met-here (f .result) (J .j .given .1) (A .i .0)
+    (sym (N .number .ensures) ∙ E .if1 .left ∙ E .before .number2 .ensures))
+    (m .result) (o .result .0) (o .ensures) (m .ensures)
 
 pub slot-sound-spec : {M : Type 1} → statement M
 slot-sound-spec =

@@ -1,5 +1,4 @@
--- `listing::list` meets its contract: refused, or the heading and the lines.
--- Assumes nothing.
+-- Refused, or the heading and the lines. Assumes nothing.
 use native.Mathlib.Omega.{arith}
 use mathlib.Core.Path.{refl, sym, ap, _∙_}
 use lib.ListN.{length, length-append}
@@ -72,7 +71,10 @@ put-lines-requires c κs =
     let shape = R .read-shape .result in
     let text = listed-open img (shape .slots) open₀ (layout-slots img shape (R .read-shape .ensures)) in
     let room = length-append heading (lines (layoutOf img) img (shape .slots) 0) in
-    (open₀, R .read-shape .ensures, omega (arith, S .pre, ap length text, room, P .put-bytes .ensures .ends, P .put-bytes .kept .0))
+    let H = P .put-bytes in (
+      record { accepted = open₀; shape = R .read-shape .ensures },
+      omega (arith, S .pre, ap length text, room, H .ensures .ends, H .kept .0),
+    )
 
 same-length-2 : tie.Need-same-length-2
 same-length-2 c = search needs

@@ -1,5 +1,4 @@
--- `listing::print` meets its contract.
--- Assumes nothing.
+-- An input that is too long, or the text of the image. Assumes nothing.
 use native.Mathlib.Omega.{arith}
 use mathlib.Core.Path.{sym}
 use Rattle.listing.proofs.Bounds.{listed-bound, printed-bound, printed-listed, printed-long}
@@ -19,9 +18,11 @@ same-length c = search needs
 
 returns : tie.Need-returns
 returns c =
-    let S = c .before .before .before .before .before .before .before .before in
+    let P = c .before .before in
+    let T = P .before .before .before in
+    let S = T .before .before .before in
     let bytes = S .args .input .now in
-    let text = put-same (sym (printed-long bytes (c .before .before .before .before .before .if1 .taken))) (c .before .before .put-bytes .ensures) in
+    let text = put-same (sym (printed-long bytes (T .if1 .taken))) (P .put-bytes .ensures) in
     (text, put-within text (omega (arith, S .pre, printed-bound bytes)))
 
 list-requires : tie.Need-list-requires
@@ -35,9 +36,11 @@ same-length-2 c = search needs
 
 returns-2 : tie.Need-returns-2
 returns-2 c =
-    let S = c .before .before .before .before .before .before .before in
+    let P = c .before .before in
+    let E = P .before .before in
+    let S = E .before .before .before in
     let bytes = S .args .input .now in
-    let text = put-same (sym (printed-listed bytes (c .before .before .before .before .if1 .left))) (c .before .before .list .ensures) in
+    let text = put-same (sym (printed-listed bytes (E .if1 .left))) (P .list .ensures) in
     (text, put-within text (omega (arith, S .pre, printed-bound bytes)))
 
 pub print-spec : {M : Type 1} → statement M

@@ -1,5 +1,4 @@
--- `listing::put_lines` meets its contract: the lines from slot i on are left to be put.
--- Assumes nothing.
+-- The lines from slot i on are left to be put. Assumes nothing.
 use Prim.Native.Nat.{ℕ, _+_, _-_, _≤_}
 use native.Mathlib.Omega.{arith}
 use mathlib.Core.Path.{ap}
@@ -14,7 +13,8 @@ use Rattle.listing.proofs.put_lines.Tie as tie
 
 abbrev Inv-loop : tie.InvT-loop
 Inv-loop image shape out₀ at slots end₀ i₀ out end i =
-    (i ≤ slots) × Rest out₀ at (lines (layoutOf image) image slots 0) out end (lines (layoutOf image) image (slots - i) i)
+    (i ≤ slots)
+    × Rest out₀ at (lines (layoutOf image) image slots 0) out end (lines (layoutOf image) image (slots - i) i)
 
 abbrev μ-loop : tie.MeasureT-loop
 μ-loop image shape out₀ at slots end₀ i₀ out end i = slots - i
@@ -23,8 +23,11 @@ loop-holds : tie.Need-loop-holds Inv-loop μ-loop
 loop-holds c =
     let A = c .before .before .args in
     let img = A .image .now in
-    let n = A .shape .slots in
-    (omega arith, rest-start (A .out .now) (A .at) (lines (layoutOf img) img n 0) (lines (layoutOf img) img (n - 0) 0) (lines-start (layoutOf img) img n))
+    let g = layoutOf img in
+    let n = A .shape .slots in (
+      omega arith,
+      rest-start (A .out .now) (A .at) (lines g img n 0) (lines g img (n - 0) 0) (lines-start g img n),
+    )
 
 new-requires : tie.Need-new-requires Inv-loop μ-loop
 new-requires c κs = tt
@@ -34,20 +37,25 @@ put-row-requires c κs =
     let L = c .before .before .before in
     let S = L .before .before .before in
     let img = S .args .image .now in
+    let g = layoutOf img in
     let n = S .args .shape .slots in
     let i = L .loop .i in
     let N = c .before .new in
     let l = c .before .before .loop-test .taken in
-    let room : L .loop .end + length (row (layoutOf img) img i) ≤ length (L .loop .out) =
-    rest-room (row (layoutOf img) img i) (lines (layoutOf img) img (n - (i + 1)) (i + 1)) (L .loop .inv .1) (lines-step (layoutOf img) img n i l) (S .pre .2) in
-    (S .pre .0, S .pre .1, omega (arith, N .ensures, l), omega (arith, room, ap (λ (k : ℕ). length (row (layoutOf img) img k)) (N .ensures)))
+    let room : L .loop .end + length (row g img i) ≤ length (L .loop .out) =
+    rest-room (row g img i) (lines g img (n - (i + 1)) (i + 1)) (L .loop .inv .1) (lines-step g img n i l) (S .pre .1)
+    in (
+      S .pre .0,
+      omega (arith, N .ensures, l),
+      omega (arith, room, ap (λ (k : ℕ). length (row g img k)) (N .ensures)),
+    )
 
 add-i : tie.Need-add-i Inv-loop μ-loop
 add-i c =
     let L = c .before .before .before .before .before .before in
     let S = L .before .before .before in
-    let img = S .args .image .now in
-    omega (arith, c .before .before .before .before .before .loop-test .taken, header img (S .args .shape) (S .pre .0) (S .pre .1) .slots-high)
+    let h = header (S .args .image .now) (S .args .shape) (S .pre .0) in
+    omega (arith, c .before .before .before .before .before .loop-test .taken, h .slots-high)
 
 loop-less : tie.Need-loop-less Inv-loop μ-loop
 loop-less c = omega (arith, c .before .before .before .before .before .loop-test .taken)
@@ -63,7 +71,7 @@ loop-again c =
     let l = c .before .before .before .before .before .loop-test .taken in (
       omega (arith, l),
       rest-put (L .loop .inv .1) (lines-step (layoutOf img) img n i l)
-          (put-same (ap (row (layoutOf img) img) (N .ensures)) (c .before .before .put-row .ensures)) (S .pre .2),
+          (put-same (ap (row (layoutOf img) img) (N .ensures)) (c .before .before .put-row .ensures)) (S .pre .1),
     )
 
 same-length : tie.Need-same-length Inv-loop μ-loop

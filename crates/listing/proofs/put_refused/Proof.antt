@@ -1,5 +1,4 @@
--- `listing::put_refused` meets its contract.
--- Assumes nothing.
+-- The word, the number and the line feed. Assumes nothing.
 use native.Mathlib.Omega.{arith}
 use Rattle.listing.specs.Listed.{refusedText}
 use Rattle.text.proofs.Putting.{put-three}

@@ -1,5 +1,4 @@
--- `listing::put_row` meets its contract.
--- Assumes nothing.
+-- A vacant slot has no line. Assumes nothing.
 use native.Mathlib.Omega.{arith}
 use mathlib.Core.Path.{sym, ap}
 use lib.ListN.{length}
@@ -31,7 +30,7 @@ put-line-requires c κs =
     let img = S .args .image .now in
     let i = S .args .i .0 in
     let text = row-taken (layoutOf img) img i (was-yes (T .is-taken .ensures) (E .if1 .left)) in
-    (S .pre .0, S .pre .1, S .pre .2, omega (arith, S .pre .3, ap length text))
+    (S .pre .0, S .pre .1, omega (arith, S .pre .2, ap length text))
 
 same-length : tie.Need-same-length
 same-length c = search needs

@@ -1,8 +1,7 @@
 -- No offset holds 0; another holds its header's length. Assumes nothing.
-use Rattle.bhtf.proofs.Stretch.{held-some}
+use Rattle.bhtf.proofs.Stretch.{held-none, held-some}
 use mathlib.Core.Path.{sym, _∙_}
 use borrow.Author.Needs.{needs}
-use Rattle.messages.proofs.Sound.{held-none}
 use Rattle.messages.proofs.held_at.Statement.{statement}
 use Rattle.messages.proofs.held_at.Tie as tie
 

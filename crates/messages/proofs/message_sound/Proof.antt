@@ -1,14 +1,16 @@
 -- Question 11, test by test: the header is read only where it ends below X. Assumes nothing.
-use Prim.Native.Nat.{_+_, _≤_, _<_}
+use Prim.Native.Nat.{_+_, _≤_, _<_, _^_}
 use native.Mathlib.Omega.{arith}
-use mathlib.Core.Path.{sym, _∙_}
+use mathlib.Core.Path.{_≡_, sym, _∙_}
 use lib.ListN.{length}
 use borrow.Author.Needs.{needs}
 use Rattle.bhtf.specs.Bytes.{Bytes}
 use Rattle.bhtf.specs.Image.{field, layoutOf}
 use Rattle.bhtf.proofs.Opened.{opened-facts}
 use Rattle.bhtf.proofs.Effects.{area-above}
-use Rattle.messages.proofs.Sound.{head-four, length-bound, shape-area}
+use Rattle.bhtf.specs.Limits.{mostImage, lengthWidth, freeField}
+use Rattle.layout.proofs.Shaped.{shape-area, shape-head, head-width}
+use Rattle.messages.proofs.Sound.{length-bound}
 use Rattle.messages.proofs.Sound.{sound-none, sound-low, sound-high, sound-tests}
 use Rattle.messages.proofs.message_sound.Statement.{statement}
 use Rattle.messages.proofs.message_sound.Tie as tie
@@ -31,82 +33,92 @@ returns-2 c =
     let E = c .before .before .before in
     let S = E .before .before .before in
     let img = S .args .image .now in
-    let d = shape-area img (S .args .shape) (S .pre .1) in
+    let d = shape-area (S .pre) in
     sym (sound-low (layoutOf img) img (S .args .o .0) (some-offset E)
     (omega (arith, E .before .at .ensures, c .before .at2 .ensures, c .if2 .taken, d)))
 
 read-u32-requires : tie.Need-read-u32-requires
 read-u32-requires c κs =
     let S = c .before .before .before .before .before .before in
-    omega (arith, opened-facts _ (S .pre .0) .size-low)
+    omega (arith, opened-facts _ (S .pre .accepted) .size-low)
 
 cast-free : tie.Need-cast-free
 cast-free c = search needs
 
 sub-if3 : tie.Need-sub-if3
 sub-if3 c =
-    let f = opened-facts _ (c .before .before .before .before .before .before .before .pre .0) in
-    omega (arith, c .read-u32 .ensures, area-above _ f, f .free-low)
+    let S = c .before .before .before .before .before .before .before .before in
+    let f = opened-facts _ (S .pre .accepted) in
+    omega (arith, head-width (S .pre), c .before .read-u32 .ensures, area-above _ f, f .free-low)
+
+-- ---- the third test, and what is known behind it
+abbrev start : tie.Else3 → tie.Start
+start c = c .before .before .before .before .before .before .before .before .before
+
+at-is : (c : tie.Else3) → c .before .before .before .before .before .before .before .at .result ≡ start c .args .o .0
+at-is c = c .before .before .before .before .before .before .before .at .ensures
 
 returns-3 : tie.Need-returns-3
 returns-3 c =
-    let E = c .before .before .before .before .before in
+    let E = c .before .before .before .before .before .before in
     let S = E .before .before .before in
     let img = S .args .image .now in
     sym (sound-high (layoutOf img) img (S .args .o .0) (some-offset E)
-    (omega (arith, E .before .at .ensures, c .before .read-u32 .ensures, c .if3 .taken, head-four img)))
+    (omega (arith, E .before .at .ensures, c .before .before .read-u32 .ensures, c .if3 .taken, shape-head (S .pre))))
 
--- after the third test the header ends at or below X
+-- the header ends at or below X
 header-in : (c : tie.Else3)
-    → let S : tie.Start = c .before .before .before .before .before .before .before .before in
-    let img : Bytes = S .args .image .now in
-    (S .args .o .0 + 4 ≤ field img 52) × (field img 52 ≤ length img) × (length img ≤ 16777216)
+    → let img : Bytes = start c .args .image .now in
+    (start c .args .o .0 + start c .args .shape .head ≤ field img freeField) × (field img freeField ≤ length img)
+    × (length img ≤ mostImage) × (start c .args .shape .head ≡ lengthWidth + 1)
 header-in c =
-    let A = c .before .before .before .before .before .before in
-    let f = opened-facts _ (A .before .before .pre .0) in (
-      omega (arith, A .at .ensures, c .before .read-u32 .ensures, c .if3 .left, area-above _ f, f .free-low),
+    let S = start c in
+    let f = opened-facts _ (S .pre .accepted) in
+    let w = head-width (S .pre) in (
+      omega (arith, at-is c, c .before .before .read-u32 .ensures, c .if3 .left, w, area-above _ f, f .free-low),
       f .free-high,
       f .size-high,
+      w,
     )
 
 length-at-requires : tie.Need-length-at-requires
-length-at-requires c κs = omega (arith, header-in c)
+length-at-requires c κs = (start c .pre, omega (arith, header-in c))
 
 shared-slice-read-letter : tie.Need-shared-slice-read-letter
-shared-slice-read-letter c =
-    let at = c .before .before .before .before .before .before .before .before .at in
-    omega (arith, at .ensures, header-in (c .before .before))
+shared-slice-read-letter c = omega (arith, at-is (c .before .before), header-in (c .before .before))
+
+-- ---- the tests of the header
+small : (c : tie.After-struct-known2) → c .before .before .length-at .result < 256 ^ lengthWidth
+small c =
+    let E = c .before .before .before in
+    let A = start E .args in
+    omega (
+      arith,
+      c .before .before .length-at .ensures,
+      length-bound (A .image .now) (A .o .0) (λ i. omega (arith, c .before .shared-slice-known2 .given i))
+          (omega (arith, header-in E)),
+    )
 
 add-result : tie.Need-add-result
-add-result c = search needs
+add-result c =
+    let E = c .before .before .before in
+    omega (arith, at-is E, header-in E)
 
 add-result-2 : tie.Need-add-result-2
 add-result-2 c =
-    let A = c .before .before .before .before .before .before .before .before .before .before .args in
-    let h = header-in (c .before .before) in
-    omega (
-      arith,
-      h,
-      c .before .before .before .before .before .before .before .before .at .ensures,
-      c .before .length-at .ensures,
-      length-bound (A .image .now) (A .o .0) (λ i. omega (arith, c .shared-slice-known2 .given i)) (omega (arith, h)),
-    )
+    let E = c .before .before .before in
+    omega (arith, small c, at-is E, header-in E)
 
 returns-4 : tie.Need-returns-4
 returns-4 c =
-    let m = c .before .length-at in
-    let x = c .before .before .before .read-u32 in
-    let T = c .before .before .before .before in
-    let E = T .before .before .before in
-    let at = E .before .at in
-    let S = E .before .before .before in
+    let E = c .before .before .before in
+    let T = E .before .before .before in
+    let S = start E in
     let img = S .args .image .now in
-    let d = shape-area img (S .args .shape) (S .pre .1) in
-    sound-tests img (S .args .o .0) (at .result) (m .result) (x .result) (at .ensures) (some-offset E)
-    (omega (arith, at .ensures, T .before .at2 .ensures, T .if2 .left, d))
-    (omega (arith, header-in (c .before .before)))
-    (m .ensures)
-    (x .ensures)
+    sound-tests (layoutOf img) img (S .args .o .0) _ (S .args .shape .head) _ _ (at-is E) (shape-head (S .pre))
+    (some-offset (T .before .before .before))
+    (omega (arith, at-is E, T .before .at2 .ensures, T .if2 .left, shape-area (S .pre)))
+    (omega (arith, header-in E)) (c .before .before .length-at .ensures) (E .before .before .read-u32 .ensures)
 
 pub message-sound-spec : {M : Type 1} → statement M
 message-sound-spec =

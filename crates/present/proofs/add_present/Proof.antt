@@ -1,116 +1,172 @@
 -- Question 9, then 11; then the mode decides. Assumes nothing.
 use native.Mathlib.Omega.{arith}
-use mathlib.Core.Path.{sym, ap, _∙_}
+use mathlib.Core.Path.{_≡_, sym, ap, ap₂, _∙_}
+use mathlib.Core.Bool.{true}
+use Prim.Native.Nat.{ℕ}
 use borrow.Author.Tests.{eq-eqb, ne-eqb}
-use Rattle.bhtf.specs.Image.{layoutOf}
-use Rattle.bhtf.specs.Questions.{messageSound}
-use Rattle.bhtf.proofs.Outcomes.{add-9, add-11}
-use Rattle.bhtf.proofs.Tests.{was-no, was-yes}
-use Rattle.room.proofs.Numbers.{add-unchanged, present-done, mode-three}
-use Rattle.table.proofs.Taken.{met-below}
-use Rattle.room.proofs.Probes.{key-fits}
 use borrow.Author.Needs.{needs}
+use Rattle.bhtf.specs.Bytes.{Bytes}
+use Rattle.bhtf.specs.Image.{layoutOf}
+use Rattle.bhtf.specs.Search.{met}
+use Rattle.bhtf.specs.Messages.{renewedText, renewedAt, addedAt}
+use Rattle.bhtf.specs.Questions.{firstNo, pointAsks, messageSound, placeNumber}
+use Rattle.bhtf.specs.Calls.{settled}
+use Rattle.bhtf.proofs.Tests.{was-no, was-yes}
+use Rattle.bhtf.proofs.Outcomes.{settled-no, point-9, point-11, point-renewed}
+use Rattle.bhtf.proofs.Texts.{mode-three}
 use Rattle.present.proofs.add_present.Statement.{statement}
 use Rattle.present.proofs.add_present.Tie as tie
 
+abbrev start-at-then1 : tie.Then1 → tie.Start
+start-at-then1 c = c .before .before .before .before
+
 returns : tie.Need-returns
 returns c =
-    let S = c .before .before .before .before in
-    let A = S .args in
-    let img = A .image .now in
-    let key = A .key .now in
-    let bytes = A .bytes .now in
-    add-unchanged img key bytes (A .mode) 9
-    (sym (add-9 img key (S .pre .0) bytes (A .mode) (S .pre .2) (S .pre .3) (A .slot .0) (S .pre .4) (eq-eqb (A .mode) 1 (c .if1 .taken))))
-    (λ z. omega arith)
+    let A = start-at-then1 c .args in
+    let img = A .image .now in (
+      sym (point-9 (layoutOf img) img (A .bytes .now) (A .mode) (A .slot .0) (eq-eqb (A .mode) 1 (c .if1 .taken))),
+      sym (settled-no 9 img _ (λ z. omega arith)),
+    )
 
 offset-of-requires : tie.Need-offset-of-requires
-offset-of-requires c κs =
-    let S = c .before .before .before .before .before in
-    let A = S .args in
-    let img = A .image .now in
-    let key = A .key .now in
-    (S .pre .0, S .pre .1, met-below img key (A .shape) (S .pre .1) (S .pre .0) (A .slot .0) (S .pre .4))
+offset-of-requires c κs = search needs
 
 message-sound-requires : tie.Need-message-sound-requires
-message-sound-requires c κs =
-    (c .before .before .before .before .before .before .before .pre .0, c .before .before .before .before .before .before .before .pre .1)
+message-sound-requires c κs = search needs
 
 same-length : tie.Need-same-length
 same-length c = search needs
 
+abbrev shared-slice-known-at-then2 : tie.Then2 → tie.After-shared-slice-known
+shared-slice-known-at-then2 c = c .before .before .before .before .before .before .before
+
+abbrev start-at-then2 : tie.Then2 → tie.Start
+start-at-then2 c = shared-slice-known-at-then2 c .before .before
+
+abbrev else1-at-then2 : tie.Then2 → tie.Else1
+else1-at-then2 c = c .before .before .before .before .before
+
 returns-2 : tie.Need-returns-2
 returns-2 c =
-    let S = c .before .before .before .before .before .before .before .before .before in
-    let A = S .args in
+    let A = start-at-then2 c .args in
     let img = A .image .now in
-    let key = A .key .now in
-    let bytes = A .bytes .now in
-    add-unchanged img key bytes (A .mode) 11
-    (sym
-    (add-11 img key (S .pre .0) bytes (A .mode) (S .pre .2) (S .pre .3) (A .slot .0) (S .pre .4) (ne-eqb (A .mode) 1 (c .before .before .before .before .before .if1 .left))
-    (ap (messageSound (layoutOf img) img) (sym (c .before .before .before .offset-of .ensures)) ∙ was-no (c .before .message-sound .ensures) (c .if2 .taken))))
-    (λ z. omega arith)
+    let g = layoutOf img in
+    let unsound = was-no (c .before .message-sound .ensures) (c .if2 .taken) in (
+      sym
+          (point-11 g img (A .bytes .now) (A .mode) (A .slot .0) (ne-eqb (A .mode) 1 (else1-at-then2 c .if1 .left))
+          (ap (messageSound g img) (sym (c .before .before .before .offset-of .ensures)) ∙ unsound)),
+      sym (settled-no 11 img _ (λ z. omega arith)),
+    )
+
+abbrev shared-slice-known-at-else2 : tie.Else2 → tie.After-shared-slice-known
+shared-slice-known-at-else2 c = c .before .before .before .before .before .before .before
+
+abbrev start-at-else2 : tie.Else2 → tie.Start
+start-at-else2 c = shared-slice-known-at-else2 c .before .before
+
+-- the message passed question 11
+sound : (c : tie.Else2)
+    → let img : Bytes = start-at-else2 c .args .image .now in
+    messageSound (layoutOf img) img (c .before .before .before .offset-of .result .0) ≡ true
+sound c = was-yes (c .before .message-sound .ensures) (c .if2 .left)
+
+abbrev else1-at-else2 : tie.Else2 → tie.Else1
+else1-at-else2 c = c .before .before .before .before .before
+
+-- the answer r and the image x of the mode k are the call's
+renewed : (c : tie.Else2) (k r : ℕ) (x : Bytes) → start-at-else2 c .args .mode ≡ k
+    → let S : tie.Start = start-at-else2 c in
+    let img : Bytes = S .args .image .now in
+    let key : Bytes = S .args .key .now in
+    let bytes : Bytes = S .args .bytes .now in
+    let i : ℕ = S .args .slot .0 in
+    let o : ℕ = c .before .before .before .offset-of .result .0 in
+    r ≡ placeNumber (layoutOf img) img (renewedText (layoutOf img) img o bytes k)
+    → x ≡ settled r img (renewedAt (layoutOf img) img i o key bytes k)
+    → (r ≡ firstNo (pointAsks (layoutOf img) img (met i) bytes (S .args .mode)))
+    × (x ≡ settled r img (addedAt (layoutOf img) img (met i) key bytes (S .args .mode)))
+unfolding addedAt
+renewed c k r x em is h =
+    let A = start-at-else2 c .args in
+    let img = A .image .now in
+    let g = layoutOf img in
+    let eo = c .before .before .before .offset-of .ensures in (
+      is
+          ∙ ap₂ (λ (p q : ℕ). placeNumber g img (renewedText g img p (A .bytes .now) q)) eo (sym em)
+          ∙ sym
+          (point-renewed g img (A .bytes .now) (A .mode) (A .slot .0) (ne-eqb (A .mode) 1 (else1-at-else2 c .if1 .left))
+          (ap (messageSound g img) (sym eo) ∙ sound c)),
+      h ∙ ap₂ (λ (p q : ℕ). settled r img (renewedAt g img (A .slot .0) p (A .key .now) (A .bytes .now) q)) eo (sym em),
+    )
+
+abbrev else1-at-replace-arg : tie.After-replace-arg → tie.Else1
+else1-at-replace-arg c = c .before .before .before .before .before .before .before
+
+abbrev start-at-else1 : tie.Else1 → tie.Start
+start-at-else1 c = c .before .before .before .before
+
+abbrev start-at-replace-arg : tie.After-replace-arg → tie.Start
+start-at-replace-arg c = start-at-else1 (else1-at-replace-arg c)
 
 replace-requires : tie.Need-replace-requires
 replace-requires c κs =
-    let S = c .before .before .before .before .before .before .before .before .before .before .before in
-    let A = S .args in
-    let img = A .image .now in
-    let key = A .key .now in
-    let bytes = A .bytes .now in (
-      S .pre .0,
-      S .pre .1,
-      met-below img key (A .shape) (S .pre .1) (S .pre .0) (A .slot .0) (S .pre .4),
-      key-fits img key (A .shape) (S .pre .0) (S .pre .1) (S .pre .2),
-      was-yes (c .before .before .before .message-sound .ensures) (c .before .before .if2 .left),
-    )
+    let S = start-at-replace-arg c in
+    (S .pre .0, S .pre .1, S .pre .2, sound (c .before .before))
 
 same-length-2 : tie.Need-same-length-2
-same-length-2 c = c .before .before .replace .kept .0
+same-length-2 c = search needs
+
+abbrev else2-at-slice-known2 : tie.After-slice-known2 → tie.Else2
+else2-at-slice-known2 c = c .before .before .before .before .before
+
+abbrev then3-at-slice-known2 : tie.After-slice-known2 → tie.Then3
+then3-at-slice-known2 c = c .before .before .before .before
 
 returns-3 : tie.Need-returns-3
 returns-3 c =
-    let S = c .before .before .before .before .before .before .before .before .before .before .before .before .before .before in
-    let A = S .args in
-    let img = A .image .now in
-    let key = A .key .now in
-    let bytes = A .bytes .now in
     let done′ = c .before .before .replace in
-    present-done img key bytes (A .mode) (S .pre .0) (S .pre .2) (S .pre .3) (A .slot .0) (done′ .result) (done′ .last .0)
-    (c .before .before .before .before .before .before .before .before .offset-of .result .0) (c .before .before .before .before .before .before .before .before .offset-of .ensures) (S .pre .4) (c .before .before .before .before .before .before .before .before .before .before .if1 .left)
-    (was-yes (c .before .before .before .before .before .before .message-sound .ensures) (c .before .before .before .before .before .if2 .left))
-    2 (c .before .before .before .before .if3 .taken) (done′ .ensures .0) (done′ .ensures .1)
+    renewed (else2-at-slice-known2 c) 2 (done′ .result) (done′ .last .0) (then3-at-slice-known2 c .if3 .taken)
+    (done′ .ensures .0) (done′ .ensures .1)
+
+abbrev else1-at-append-arg : tie.After-append-arg → tie.Else1
+else1-at-append-arg c = c .before .before .before .before .before .before .before
+
+abbrev start-at-append-arg : tie.After-append-arg → tie.Start
+start-at-append-arg c = start-at-else1 (else1-at-append-arg c)
 
 append-requires : tie.Need-append-requires
 append-requires c κs =
-    let S = c .before .before .before .before .before .before .before .before .before .before .before in
-    let A = S .args in
-    let img = A .image .now in
-    let key = A .key .now in
-    let bytes = A .bytes .now in (
-      S .pre .0,
-      S .pre .1,
-      met-below img key (A .shape) (S .pre .1) (S .pre .0) (A .slot .0) (S .pre .4),
-      key-fits img key (A .shape) (S .pre .0) (S .pre .1) (S .pre .2),
-      was-yes (c .before .before .before .message-sound .ensures) (c .before .before .if2 .left),
-    )
+    let S = start-at-append-arg c in
+    (S .pre .0, S .pre .1, S .pre .2, sound (c .before .before))
 
 same-length-3 : tie.Need-same-length-3
-same-length-3 c = c .before .before .append .kept .0
+same-length-3 c = search needs
+
+abbrev message-sound-arg-at-slice-known3 : tie.After-slice-known3 → tie.After-message-sound-arg
+message-sound-arg-at-slice-known3 c = c .before .before .before .before .before .before .before
+
+abbrev start-at-message-sound-arg : tie.After-message-sound-arg → tie.Start
+start-at-message-sound-arg c = c .before .before .before .before .before .before .before
+
+abbrev start-at-slice-known3 : tie.After-slice-known3 → tie.Start
+start-at-slice-known3 c = start-at-message-sound-arg (message-sound-arg-at-slice-known3 c)
+
+abbrev else2-at-slice-known3 : tie.After-slice-known3 → tie.Else2
+else2-at-slice-known3 c = c .before .before .before .before .before
+
+abbrev else1-at-slice-known3 : tie.After-slice-known3 → tie.Else1
+else1-at-slice-known3 c = message-sound-arg-at-slice-known3 c .before .before .before
+
+abbrev else3-at-slice-known3 : tie.After-slice-known3 → tie.Else3
+else3-at-slice-known3 c = c .before .before .before .before
 
 returns-4 : tie.Need-returns-4
 returns-4 c =
-    let S = c .before .before .before .before .before .before .before .before .before .before .before .before .before .before in
-    let A = S .args in
-    let img = A .image .now in
-    let key = A .key .now in
-    let bytes = A .bytes .now in
+    let S = start-at-slice-known3 c in
     let done′ = c .before .before .append in
-    present-done img key bytes (A .mode) (S .pre .0) (S .pre .2) (S .pre .3) (A .slot .0) (done′ .result) (done′ .last .0)
-    (c .before .before .before .before .before .before .before .before .offset-of .result .0) (c .before .before .before .before .before .before .before .before .offset-of .ensures) (S .pre .4) (c .before .before .before .before .before .before .before .before .before .before .if1 .left)
-    (was-yes (c .before .before .before .before .before .before .message-sound .ensures) (c .before .before .before .before .before .if2 .left))
-    3 (mode-three (A .mode) (S .pre .3) (c .before .before .before .before .before .before .before .before .before .before .if1 .left) (c .before .before .before .before .if3 .left)) (done′ .ensures .0) (done′ .ensures .1)
+    renewed (else2-at-slice-known3 c) 3 (done′ .result) (done′ .last .0)
+    (mode-three (S .args .mode) (S .pre .3) (else1-at-slice-known3 c .if1 .left) (else3-at-slice-known3 c .if3 .left))
+    (done′ .ensures .0) (done′ .ensures .1)
 
 pub add-present-spec : {M : Type 1} → statement M
 add-present-spec =

@@ -1,22 +1,21 @@
 -- The old message is retired, the new text placed, and the entry put over the old one. Assumes nothing.
 use native.Mathlib.Omega.{arith}
-use mathlib.Core.Path.{sym, ap, _∙_}
-use Prim.Native.Nat.{_+_}
-use lib.ListN.{length}
-use Rattle.bhtf.specs.Image.{Layout}
-use Rattle.bhtf.proofs.Opened.{opened-facts}
-use Rattle.bhtf.proofs.Effects.{message-head}
-use Rattle.messages.proofs.Sound.{shape-area}
-use Rattle.table.proofs.Headers.{placed-opened}
-use Rattle.room.proofs.Numbers.{room-fits}
-use Rattle.room.proofs.Steps.{head-retire, retired-free, head-relocated, relocated-steps}
+use mathlib.Core.Path.{_∙_}
 use borrow.Author.Needs.{needs}
+use Rattle.bhtf.proofs.Opened.{opened-facts}
+use Rattle.layout.proofs.Shaped.{head-width}
+use Rattle.table.proofs.Headers.{placed-opened}
+use Rattle.table.proofs.Heads.{same-open}
+use Rattle.storing.proofs.Steps.{head-retire, retired-free, head-relocated, relocated-steps}
+use Rattle.present.proofs.Shown.{head-fits}
 use Rattle.present.proofs.relocate.Statement.{statement}
 use Rattle.present.proofs.relocate.Tie as tie
 
+abbrev start-at-read-u32-arg : tie.After-read-u32-arg → tie.Start
+start-at-read-u32-arg c = c .before .before .before .before
+
 read-u32-requires : tie.Need-read-u32-requires
-read-u32-requires c κs =
-    omega (arith, opened-facts _ (c .before .before .before .before .before .pre .0) .size-low)
+read-u32-requires c κs = omega (arith, opened-facts _ (start-at-read-u32-arg c .pre .0 .accepted) .size-low)
 
 cast-new : tie.Need-cast-new
 cast-new c = search needs
@@ -24,74 +23,116 @@ cast-new c = search needs
 new-requires : tie.Need-new-requires
 new-requires c κs = search needs
 
+abbrev start-at-retire-arg : tie.After-retire-arg → tie.Start
+start-at-retire-arg c = c .before .before .before .before .before .before .before
+
 retire-requires : tie.Need-retire-requires
 retire-requires c κs =
-    let S = c .before .before .before .before .before .before .before .before in
-    omega (arith, message-head (S .args .image .now) (opened-facts _ (S .pre .0)) (S .args .o .0) (S .pre .4))
+    let S = start-at-retire-arg c in
+    omega (arith, head-width (S .pre .0), head-fits (S .pre .0) (S .args .o .0) (S .pre .3))
 
 text-start-requires : tie.Need-text-start-requires
-text-start-requires c κs =
-    let S = c .before .before .before .before .before .before .before .before .before .before .before .before in
-    let f = opened-facts (S .args .image .now) (S .pre .0) in
-    omega (arith, message-head (S .args .image .now) f (S .args .o .0) (S .pre .4), f .size-high)
+text-start-requires c κs = search needs
+
+abbrev read-u32-at-text-start : tie.After-text-start → tie.After-read-u32
+read-u32-at-text-start c = c .before .before .before .before .before .before .before
+
+abbrev start-at-read-u32 : tie.After-read-u32 → tie.Start
+start-at-read-u32 c = c .before .before .before .before .before
+
+abbrev start-at-text-start : tie.After-text-start → tie.Start
+start-at-text-start c = start-at-read-u32 (read-u32-at-text-start c)
+
+abbrev retire-at-text-start : tie.After-text-start → tie.After-retire
+retire-at-text-start c = c .before .before .before .before
 
 take-space-requires : tie.Need-take-space-requires
 take-space-requires c κs =
-    let S = c .before .before .before .before .before .before .before .before .before .before .before .before .before in
-    let img = S .args .image .now in
-    let bytes = S .args .bytes .now in
+    let S = start-at-text-start c in
+    let old = retire-at-text-start c .retire in
+    let open₀ = S .pre .0 in
     let o = S .args .o .0 in
-    let n = S .args .before in
-    let old = c .before .before .before .before .retire in
-    let start = c .text-start in
-    let f = opened-facts img (S .pre .0) in
-    let fits = room-fits img (n + length bytes) (S .pre .6) in
-    let head = head-retire img (old .last .0) (S .pre .0) o (S .pre .4) (old .ensures) in
-    let free = retired-free img (old .last .0) (S .pre .0) o (S .pre .4) (old .ensures) in (
-      head .opened,
-      shape-area img (S .args .shape) (S .pre .1) ∙ sym (ap (λ (g : Layout). g .D) (head .layout)),
-      omega (arith, start .ensures, free, S .pre .5),
-      omega (arith, fits .0),
-      omega (arith, free, head .size, fits .1),
+    let same = head-retire open₀ (old .last .0) o (S .pre .3) (old .ensures) in
+    let free = retired-free open₀ (old .last .0) o (S .pre .3) (old .ensures) in (
+      same-open same open₀,
+      omega (arith, c .text-start .ensures, free, S .pre .4),
+      record { small = S .pre .5 .small; room = omega (arith, free, same .size, S .pre .5 .room) },
     )
+
+abbrev image-at-put-entry-arg : tie.After-put-entry-arg → tie.After-image
+image-at-put-entry-arg c = c .before .before .before .before .before .before .before
+
+abbrev shared-slice-known-at-image : tie.After-image → tie.After-shared-slice-known
+shared-slice-known-at-image c = c .before .before .before .before .before .before .before
+
+abbrev start-at-image : tie.After-image → tie.Start
+start-at-image c = shared-slice-known-at-image c .before .before
+
+abbrev start-at-put-entry-arg : tie.After-put-entry-arg → tie.Start
+start-at-put-entry-arg c = start-at-image (image-at-put-entry-arg c)
+
+abbrev retire-at-put-entry-arg : tie.After-put-entry-arg → tie.After-retire
+retire-at-put-entry-arg c = image-at-put-entry-arg c .before
+
+abbrev text-start-at-put-entry-arg : tie.After-put-entry-arg → tie.After-text-start
+text-start-at-put-entry-arg c = c .before .before .before .before
+
+abbrev new-at-put-entry-arg : tie.After-put-entry-arg → tie.After-new
+new-at-put-entry-arg c = image-at-put-entry-arg c .before .before .before
 
 put-entry-requires : tie.Need-put-entry-requires
 put-entry-requires c κs =
-    let S = c .before .before .before .before .before .before .before .before .before .before .before .before .before .before .before .before .before in
-    let img = S .args .image .now in
-    let bytes = S .args .bytes .now in
-    let o = S .args .o .0 in
-    let n = S .args .before in
-    let old = c .before .before .before .before .before .before .before .before .retire in
-    let start = c .before .before .before .before .text-start in
-    let f = opened-facts img (S .pre .0) in
-    let fits = room-fits img (n + length bytes) (S .pre .6) in
+    let S = start-at-put-entry-arg c in
+    let old = retire-at-put-entry-arg c .retire in
+    let start = text-start-at-put-entry-arg c .text-start in
     let space = c .before .before .before .take-space in
-    let head = head-relocated img (old .last .0) (S .pre .0) o (S .pre .4) (old .ensures) (space .last .0) bytes (start .result .0) n
-    (start .ensures) (S .pre .5) (S .pre .6) (space .ensures) in (
-      placed-opened (space .last .0) (S .args .shape) (head .opened) (S .pre .1 ∙ sym (head .shape)),
+    let x = new-at-put-entry-arg c in
+    let open₀ = S .pre .0 in
+    let f = opened-facts _ (open₀ .accepted) in
+    let same =
+    head-relocated open₀ (old .last .0) (S .args .o .0) (S .pre .3) (old .ensures)
+    (space .last .0) (S .args .bytes .now) (start .result .0) (S .args .before) (start .ensures)
+    (S .pre .4) (S .pre .5) (space .ensures) in (
+      placed-opened (space .last .0) (S .args .shape) (same-open same open₀),
+      S .pre .1,
       S .pre .2,
-      S .pre .3,
-      omega (arith, c .before .before .before .before .before .before .before .before .before .before .new .ensures, c .before .before .before .before .before .before .before .before .before .before .before .read-u32 .ensures, f .free-high, f .size-high),
+      omega (arith, x .new .ensures, x .before .read-u32 .ensures, f .free-high, f .size-high),
     )
 
 same-length : tie.Need-same-length
-same-length c =
-    c .before .before .put-entry .kept .0 ∙ c .before .before .before .before .before .before .take-space .kept .0 ∙ c .before .before .before .before .before .before .before .before .before .before .before .retire .kept .0
+same-length c = search needs
+
+abbrev text-start-at-slice-known4 : tie.After-slice-known4 → tie.After-text-start
+text-start-at-slice-known4 c = c .before .before .before .before .before .before .before
+
+abbrev start-at-slice-known4 : tie.After-slice-known4 → tie.Start
+start-at-slice-known4 c = start-at-text-start (text-start-at-slice-known4 c)
+
+abbrev retire-at-slice-known4 : tie.After-slice-known4 → tie.After-retire
+retire-at-slice-known4 c = retire-at-text-start (text-start-at-slice-known4 c)
+
+abbrev take-space-at-slice-known4 : tie.After-slice-known4 → tie.After-take-space
+take-space-at-slice-known4 c = c .before .before .before .before .before .before
+
+abbrev new-at-text-start : tie.After-text-start → tie.After-new
+new-at-text-start c = c .before .before .before .before .before .before
+
+abbrev new-at-slice-known4 : tie.After-slice-known4 → tie.After-new
+new-at-slice-known4 c = new-at-text-start (text-start-at-slice-known4 c)
 
 returns : tie.Need-returns
 returns c =
-    let S = c .before .before .before .before .before .before .before .before .before .before .before .before .before .before .before .before .before .before .before .before in
-    let img = S .args .image .now in
-    let bytes = S .args .bytes .now in
-    let o = S .args .o .0 in
-    let n = S .args .before in
-    let old = c .before .before .before .before .before .before .before .before .before .before .before .retire in
-    let start = c .before .before .before .before .before .before .before .text-start in
-    let space = c .before .before .before .before .before .before .take-space in
-    relocated-steps img (old .last .0) (S .pre .0) o (S .pre .4) (old .ensures) (space .last .0) bytes (start .result .0) n
-    (start .ensures) (S .pre .5) (S .pre .6) (space .ensures) (c .before .before .put-entry .last .0) (S .args .key .now) (S .args .slot .0) (c .before .before .before .before .before .before .before .before .before .before .before .before .before .new .result .0)
-    (c .before .before .before .before .before .before .before .before .before .before .before .before .before .new .ensures ∙ c .before .before .before .before .before .before .before .before .before .before .before .before .before .before .read-u32 .ensures) (c .before .before .put-entry .ensures)
+    let S = start-at-slice-known4 c in
+    let A = S .args in
+    let old = retire-at-slice-known4 c .retire in
+    let start = text-start-at-slice-known4 c .text-start in
+    let space = take-space-at-slice-known4 c .take-space in
+    let x = new-at-slice-known4 c in
+    let entry = c .before .before .put-entry in
+    relocated-steps (S .pre .0) (old .last .0) (A .o .0) (S .pre .3) (old .ensures) (space .last .0) (A .bytes .now)
+    (start .result .0) (A .before) (start .ensures) (S .pre .4) (S .pre .5) (space .ensures)
+    (entry .last .0) (A .key .now) (A .slot .0) (x .new .result .0) (x .new .ensures ∙ x .before .read-u32 .ensures)
+    (entry .ensures)
 
 pub relocate-spec : {M : Type 1} → statement M
 relocate-spec =

@@ -1,50 +1,65 @@
--- Questions 12 and 13 in turn: the sum is worked out only where 12 is passed. Assumes nothing.
+-- The two tests, by the shape's numbers. Assumes nothing.
 use native.Mathlib.Omega.{arith}
-use mathlib.Core.Path.{sym}
-use Rattle.bhtf.proofs.Opened.{opened-facts}
-use Rattle.room.proofs.Numbers.{room-12, room-13, room-0}
+use Prim.Native.Nat.{_+_}
+use mathlib.Core.Path.{_≡_, sym, _∙_}
 use borrow.Author.Needs.{needs}
+use lib.ListN.{length}
+use Rattle.bhtf.specs.Image.{layoutOf}
+use Rattle.bhtf.proofs.Opened.{opened-facts}
+use Rattle.layout.proofs.Shaped.{shape-head, shape-most, head-width, most-width}
+use Rattle.room.proofs.Rooms.{place-12, place-13, place-0}
 use Rattle.room.proofs.room_number.Statement.{statement}
 use Rattle.room.proofs.room_number.Tie as tie
 
 returns : tie.Need-returns
 returns c =
-    sym (room-12 (c .before .before .args .image .now) (c .before .before .args .m) (c .if1 .taken))
+    let S = (c .before .before .before) in
+    let img = S .args .image .now in
+    λ t l. sym (place-12 (layoutOf img) img t (omega (arith, c .if1 .taken, l, shape-most (S .pre))))
 
 read-u32-requires : tie.Need-read-u32-requires
-read-u32-requires c κs = omega (arith, opened-facts _ (c .before .before .pre) .size-low)
+read-u32-requires c κs = omega (arith, opened-facts _ (c .before .before .before .pre .accepted) .size-low)
 
 cast-free : tie.Need-cast-free
 cast-free c = search needs
 
+abbrev start-at-struct-known2 : tie.After-struct-known2 → tie.Start
+start-at-struct-known2 c = c .before .before .before .before .before
+
 add-if2 : tie.Need-add-if2
-add-if2 c = search needs
+add-if2 c =
+    let S = (start-at-struct-known2 c) in
+    let f = opened-facts _ (S .pre .accepted) in
+    omega (arith, head-width (S .pre), c .before .read-u32 .ensures, f .free-high, f .size-high)
 
 add-if2-2 : tie.Need-add-if2-2
-add-if2-2 c = search needs
+add-if2-2 c =
+    let S = (start-at-struct-known2 c) in
+    let f = opened-facts _ (S .pre .accepted) in
+    omega (arith, head-width (S .pre), most-width (S .pre), c .before .before .if1 .left, c .before .read-u32 .ensures, f .free-high, f .size-high)
+
+abbrev start-at-then2 : tie.Then2 → tie.Start
+start-at-then2 c = c .before .before .before .before .before .before
 
 returns-2 : tie.Need-returns-2
 returns-2 c =
-    let S = c .before .before .before .before in
-    sym
-    (room-13 (S .args .image .now) (S .args .m) (omega (arith, c .before .before .if1 .left))
-    (omega (arith, c .if2 .taken, c .before .read-u32 .ensures)))
+    let S = (start-at-then2 c) in
+    let img = S .args .image .now in
+    λ t l.
+    sym (place-13 (layoutOf img) img t (omega (arith, c .before .before .before .if1 .left, l, shape-most (S .pre)))
+    (omega (arith, c .if2 .taken, c .before .before .read-u32 .ensures, l, shape-head (S .pre))))
+
+abbrev start-at-else2 : tie.Else2 → tie.Start
+start-at-else2 c = c .before .before .before .before .before .before
 
 returns-3 : tie.Need-returns-3
 returns-3 c =
-    let S = c .before .before .before .before in
-    sym
-    (room-0 (S .args .image .now) (S .args .m) (omega (arith, c .before .before .if1 .left))
-    (omega (arith, c .if2 .left, c .before .read-u32 .ensures)))
+    let S = (start-at-else2 c) in
+    let img = S .args .image .now in
+    λ t l.
+    sym (place-0 (layoutOf img) img t (omega (arith, c .before .before .before .if1 .left, l, shape-most (S .pre)))
+    (omega (arith, c .if2 .left, c .before .before .read-u32 .ensures, l, shape-head (S .pre))))
 
 pub room-number-spec : {M : Type 1} → statement M
 room-number-spec =
-    tie.close
-    (tie.spec
-    returns
-    read-u32-requires
-    cast-free
-    add-if2
-    add-if2-2
-    returns-2
-    returns-3)
+    tie.close (tie.spec returns read-u32-requires cast-free add-if2 add-if2-2 returns-2 returns-3)

@@ -7,7 +7,7 @@ use borrow.Author.Needs.{needs}
 use borrow.Rule.Slice.PartMut.{mid-len, same-len-mid}
 use Rattle.bhtf.specs.Bytes.{Bytes, store}
 use Rattle.bhtf.proofs.Stores.{store-lent}
-use Rattle.storing.proofs.Placed.{written-steps}
+use Rattle.storing.proofs.Placed.{written-at}
 use Rattle.storing.proofs.write_message.Statement.{statement}
 use Rattle.storing.proofs.write_message.Tie as tie
 
@@ -17,21 +17,25 @@ add-m c = search needs
 slice-write-space : tie.Need-slice-write-space
 slice-write-space c = search needs
 
+sub-write-u24 : tie.Need-sub-write-u24
+sub-write-u24 c = search needs
+
 cast-write-u24 : tie.Need-cast-write-u24
 cast-write-u24 c = search needs
 
 write-u24-requires : tie.Need-write-u24-requires
 write-u24-requires c κs = (simp length-set (omega arith), omega arith)
 
+abbrev start-at-write-u24 : tie.After-write-u24 → tie.Start
+start-at-write-u24 c = c .before .before .before .before
+
 -- with the header written, the space is as long as before
-kept : (c : tie.After-write-u24)
-    → length (c .write-u24 .last .0) ≡ length (c .before .before .before .before .args .space .now)
-kept c = c .write-u24 .kept .0 ∙ length-set (c .before .before .before .before .args .space .now) 0 97
+kept : (c : tie.After-write-u24) → length (c .write-u24 .last .0) ≡ length ((start-at-write-u24 c) .args .space .now)
+kept c = c .write-u24 .kept .0 ∙ length-set ((start-at-write-u24 c) .args .space .now) 0 97
 
 long : (c : tie.After-write-u24)
-    → let A = c .before .before .before .before .args in
-    length (c .write-u24 .last .0) ≡ 4 + A .before + length (A .bytes .now)
-long c = kept c ∙ c .before .before .before .before .pre .0
+    → length (c .write-u24 .last .0) ≡ (start-at-write-u24 c) .args .head + (start-at-write-u24 c) .args .before + length ((start-at-write-u24 c) .args .bytes .now)
+long c = kept c ∙ (start-at-write-u24 c) .pre .1
 
 add-from : tie.Need-add-from
 add-from c = search needs
@@ -45,30 +49,44 @@ part-copy-start c = omega (arith, long (c .before .before))
 part-copy-end : tie.Need-part-copy-end
 part-copy-end c = search needs
 
+abbrev start-at-copy-arg : tie.After-copy-arg → tie.Start
+start-at-copy-arg c = c .before .before .before .before .before .before .before
+
 copy-requires : tie.Need-copy-requires
 copy-requires c κs =
-    let w = c .before .before .before in
-    let t = w .write-u24 .last .0 in
-    mid-len (4 + w .before .before .before .before .args .before) (length t) t (omega arith) ∙ omega (arith, long w)
+    let W = (c .before .before .before) in
+    let A = (start-at-copy-arg c) .args in
+    let t = W .write-u24 .last .0 in
+    mid-len (A .head + A .before) (length t) t (omega arith) ∙ omega (arith, long W)
+
+abbrev write-u24-at-slice-known3 : tie.After-slice-known3 → tie.After-write-u24
+write-u24-at-slice-known3 c = c .before .before .before .before .before .before
+
+abbrev write-u24-arg-at-slice-known3 : tie.After-slice-known3 → tie.After-write-u24-arg
+write-u24-arg-at-slice-known3 c = c .before .before .before .before .before .before .before
+
+abbrev start-at-slice-known3 : tie.After-slice-known3 → tie.Start
+start-at-slice-known3 c = (write-u24-arg-at-slice-known3 c) .before .before .before
 
 same-length : tie.Need-same-length
 same-length c =
     let v = c .before .before .copy in
-    let w = c .before .before .before .before .before .before in
-    let n = w .before .before .before .before .args .before in
-    let t = w .write-u24 .last .0 in
-    same-len-mid (4 + n) (length t - (4 + n)) t (v .last .0) (v .kept .0) ∙ kept w
+    let W = (write-u24-at-slice-known3 c) in
+    let A = (start-at-slice-known3 c) .args in
+    let t = W .write-u24 .last .0 in
+    same-len-mid (A .head + A .before) (length t - (A .head + A .before)) t (v .last .0) (v .kept .0) ∙ kept W
 
 returns : tie.Need-returns
 returns c =
     let v = c .before .before .copy in
-    let w = c .before .before .before .before .before .before in
-    let S = w .before .before .before .before in
+    let W = (write-u24-at-slice-known3 c) in
+    let S = (start-at-slice-known3 c) in
     let n = S .args .before in
-    let t = w .write-u24 .last .0 in
-    store-lent t (4 + n) (length t) (v .last .0) (ap length (v .ensures) ∙ omega (arith, long w))
-    ∙ ap₂ (λ (b y : Bytes). store b (4 + n) y) (w .write-u24 .ensures) (v .ensures)
-    ∙ written-steps (S .args .space .now) (S .args .bytes .now) n (S .pre .0)
+    let head = S .args .head in
+    let t = W .write-u24 .last .0 in
+    store-lent t (head + n) (length t) (v .last .0) (ap length (v .ensures) ∙ omega (arith, long W))
+    ∙ ap₂ (λ (b y : Bytes). store b (head + n) y) (W .write-u24 .ensures) (v .ensures)
+    ∙ written-at (S .args .space .now) (S .args .bytes .now) n head (S .pre .0) (S .pre .1)
 
 pub write-message-spec : {M : Type 1} → statement M
 write-message-spec =
@@ -76,6 +94,7 @@ write-message-spec =
     (tie.spec
     add-m
     slice-write-space
+    sub-write-u24
     cast-write-u24
     write-u24-requires
     add-from

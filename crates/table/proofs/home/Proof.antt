@@ -12,14 +12,14 @@ sub-end c =
     let S = c .before .before in
     let img = S .args .image .now in
     let s = S .args .shape in
-    omega (arith, header img s (S .pre .0) (S .pre .1))
+    omega (arith, header img s (S .pre))
 
 add-end : tie.Need-add-end
 add-end c =
     let S = c .before .before in
     let img = S .args .image .now in
     let s = S .args .shape in
-    omega (arith, header img s (S .pre .0) (S .pre .1))
+    omega (arith, header img s (S .pre))
 
 cast-end : tie.Need-cast-end
 cast-end c = search needs
@@ -41,7 +41,7 @@ part-hash-end c =
     let S = c .before .before in
     let img = S .args .image .now in
     let s = S .args .shape in
-    omega (arith, header img s (S .pre .0) (S .pre .1))
+    omega (arith, header img s (S .pre))
 
 hash-requires : tie.Need-hash-requires
 hash-requires c κs = search needs
@@ -54,7 +54,7 @@ rem-new c =
     let S = c .before .before .before .before in
     let img = S .args .image .now in
     let s = S .args .shape in
-    omega (arith, header img s (S .pre .0) (S .pre .1))
+    omega (arith, header img s (S .pre))
 
 new-requires : tie.Need-new-requires
 new-requires c κs = search needs
@@ -65,7 +65,7 @@ returns c =
     let img = S .args .image .now in
     let s = S .args .shape in
     let key = S .args .key .now in
-    c .new .ensures ∙ home-is img s (S .pre .1) key (c .before .hash .result) (c .before .hash .ensures)
+    c .new .ensures ∙ home-is img s (S .pre .shape) key (c .before .hash .result) (c .before .hash .ensures)
 
 pub home-spec : {M : Type 1} → statement M
 home-spec =

@@ -13,7 +13,7 @@ start-requires c κs =
     let S = c .before in
     let img = S .args .image .now in
     let s = S .args .shape in
-    omega (arith, spot img s (S .args .i .0) (S .pre .0) (S .pre .1) (S .pre .2))
+    omega (arith, spot img s (S .args .i .0) (S .pre .0) (S .pre .1))
 
 at-requires : tie.Need-at-requires
 at-requires c κs = search needs
@@ -23,7 +23,7 @@ add-e c =
     let S = c .before .before .before in
     let img = S .args .image .now in
     let s = S .args .shape in
-    omega (arith, spot img s (S .args .i .0) (S .pre .0) (S .pre .1) (S .pre .2), c .at .ensures, c .before .start .ensures)
+    omega (arith, spot img s (S .args .i .0) (S .pre .0) (S .pre .1), c .at .ensures, c .before .start .ensures)
 
 sub-result : tie.Need-sub-result
 sub-result c = search needs
@@ -36,15 +36,15 @@ part-result-end c =
     let S = c .before .before .before in
     let img = S .args .image .now in
     let s = S .args .shape in
-    omega (arith, spot img s (S .args .i .0) (S .pre .0) (S .pre .1) (S .pre .2), c .at .ensures, c .before .start .ensures)
+    omega (arith, spot img s (S .args .i .0) (S .pre .0) (S .pre .1), c .at .ensures, c .before .start .ensures)
 
 returns : tie.Need-returns
 returns c =
     let S = c .before .before .before .before in
     let img = S .args .image .now in
     let s = S .args .shape in
-    key-part img s (S .pre .1) (S .args .i .0) (c .before .at .result)
-    (c .before .at .ensures ∙ c .before .before .start .ensures) (c .before .at .result + s .key) refl
+    key-part img s (S .pre .0 .shape) (S .args .i .0) (c .before .at .result)
+    (c .before .at .ensures ∙ c .before .before .start .ensures) (c .before .at .result + s .keylen) refl
 
 pub key-of-spec : {M : Type 1} → statement M
 key-of-spec =

@@ -12,7 +12,7 @@ start-requires c κs =
     let S = c .before in
     let img = S .args .image .now in
     let s = S .args .shape in
-    omega (arith, spot img s (S .args .i .0) (S .pre .0) (S .pre .1) (S .pre .2))
+    omega (arith, spot img s (S .args .i .0) (S .pre .0) (S .pre .1))
 
 at-requires : tie.Need-at-requires
 at-requires c κs = search needs
@@ -22,14 +22,14 @@ add-read-u32 c =
     let S = c .before .before .before in
     let img = S .args .image .now in
     let s = S .args .shape in
-    omega (arith, spot img s (S .args .i .0) (S .pre .0) (S .pre .1) (S .pre .2), c .at .ensures, c .before .start .ensures)
+    omega (arith, spot img s (S .args .i .0) (S .pre .0) (S .pre .1), c .at .ensures, c .before .start .ensures)
 
 read-u32-requires : tie.Need-read-u32-requires
 read-u32-requires c κs =
     let S = c .before .before .before in
     let img = S .args .image .now in
     let s = S .args .shape in
-    omega (arith, spot img s (S .args .i .0) (S .pre .0) (S .pre .1) (S .pre .2), c .at .ensures, c .before .start .ensures)
+    omega (arith, spot img s (S .args .i .0) (S .pre .0) (S .pre .1), c .at .ensures, c .before .start .ensures)
 
 cast-new : tie.Need-cast-new
 cast-new c = search needs
@@ -43,7 +43,7 @@ returns c =
     let img = S .args .image .now in
     let s = S .args .shape in
     c .new .ensures ∙ c .before .read-u32 .ensures
-    ∙ offset-is img s (S .pre .1) (S .args .i .0) (c .before .before .at .result)
+    ∙ offset-is img s (S .pre .0 .shape) (S .args .i .0) (c .before .before .at .result)
     (c .before .before .at .ensures ∙ c .before .before .before .start .ensures)
 
 pub offset-of-spec : {M : Type 1} → statement M

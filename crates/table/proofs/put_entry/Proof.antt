@@ -62,7 +62,7 @@ write-entry-requires c κs =
     let p = spot-placed img s (S .args .i .0) (S .pre .0) (S .pre .1) in
     let a = c .before .at .result in
     let at = c .before .at .ensures ∙ c .before .before .start .ensures in
-    (mid-len a (a + (s .key + 4)) img (omega arith) ∙ omega arith, S .pre .3)
+    (mid-len a (a + (s .keylen + 4)) img (omega arith) ∙ omega arith, S .pre .3)
 
 same-length : tie.Need-same-length
 same-length c = search needs
@@ -74,11 +74,11 @@ returns c =
     let s = S .args .shape in
     let key = S .args .key .now in
     let a = c .before .before .before .before .at .result in
-    ap (λ (v : Bytes). putMid a (a + (s .key + 4) - a) img v) (c .before .before .write-entry .ensures)
+    ap (λ (v : Bytes). putMid a (a + (s .keylen + 4) - a) img v) (c .before .before .write-entry .ensures)
     ∙ put-slot img s (S .pre .0 .shape) (S .args .i .0) a
-    (c .before .before .before .before .at .ensures ∙ c .before .before .before .before .before .start .ensures) (a + (s .key + 4))
+    (c .before .before .before .before .at .ensures ∙ c .before .before .before .before .before .start .ensures) (a + (s .keylen + 4))
     (slotBytes key (S .args .offset .0)) refl
-    (length-entry′ key (S .args .offset .0) (s .key) (S .pre .2))
+    (length-entry′ key (S .args .offset .0) (s .keylen) (S .pre .2))
 
 pub put-entry-spec : {M : Type 1} → statement M
 put-entry-spec =

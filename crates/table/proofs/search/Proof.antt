@@ -29,8 +29,8 @@ loop-holds c =
     let img = S .args .image .now in
     let s = S .args .shape in
     let key = S .args .key .now in
-    let n = layout-slots img s (S .pre .1) in
-    let b = header img s (S .pre .0) (S .pre .1) in
+    let n = layout-slots img s (S .pre .shape) in
+    let b = header img s (S .pre) in
     let at = c .home .ensures in (
       omega (arith, home-lt (layoutOf img) key (omega arith)),
       search-start (layoutOf img) img key
@@ -40,7 +40,7 @@ loop-holds c =
 key-of-requires : tie.Need-key-of-requires Inv-loop μ-loop
 key-of-requires c κs =
     let S = c .before .before .before .before .before in
-    (S .pre .0, S .pre .1, c .before .loop .inv .0)
+    (S .pre, c .before .loop .inv .0)
 
 same-bytes-requires : tie.Need-same-bytes-requires Inv-loop μ-loop
 same-bytes-requires c κs = tt
@@ -90,7 +90,7 @@ loop-again c =
     let key = S .args .key .now in
     let K = c .before .before .before .before .before .key-of in
     let some′ = c .before .before .before .before .before .before .loop-test .taken in
-    let n = layout-slots img s (S .pre .1) in
+    let n = layout-slots img s (S .pre .shape) in
     let at = c .next .ensures in (
       omega (arith, next-lt (s .slots) (L .loop .i .0) (L .loop .inv .0)),
       L .loop .inv .1

@@ -1,5 +1,4 @@
--- `text::put_bytes` meets its contract.
--- Assumes nothing.
+-- The part that is lent comes back as the bytes. Assumes nothing.
 use Prim.Native.Nat.{_+_, _-_}
 use native.Mathlib.Omega.{arith}
 use mathlib.Core.Path.{_≡_, refl, ap, _∙_}
@@ -34,7 +33,8 @@ returns c =
     let end = A .at + length (A .bytes .now) in
     let C = c .before .before .copy in
     let l : length (C .last .0) ≡ end - A .at = omega (arith, ap length (C .ensures)) in
-    record { bytes = store-lent (A .out .now) (A .at) end (C .last .0) l ∙ ap (store (A .out .now) (A .at)) (C .ensures); ends = refl }
+    let out = A .out .now in
+    record { bytes = store-lent out (A .at) end (C .last .0) l ∙ ap (store out (A .at)) (C .ensures); ends = refl }
 
 pub put-bytes-spec : {M : Type 1} → statement M
 put-bytes-spec =

@@ -1,5 +1,4 @@
--- `text::put_hex` meets its contract: two digits, one behind the other.
--- Assumes nothing.
+-- Two digits, one behind the other. Assumes nothing.
 use Prim.Native.Nat.{ℕ}
 use native.Mathlib.Omega.{arith}
 use mathlib.Core.Path.{ap₂}
@@ -32,7 +31,8 @@ returns c =
     let P1 = H2 .before .before .before .before in
     let H1 = P1 .before in
     put-same (ap₂ (λ (x y : ℕ). x ∷ y ∷ []) (H1 .hex-digit .ensures) (H2 .hex-digit2 .ensures))
-    (put-then (P1 .put-byte .ensures) (c .before .before .put-byte2 .ensures) (omega (arith, H1 .before .before .before .pre)))
+    (put-then (P1 .put-byte .ensures) (c .before .before .put-byte2 .ensures)
+    (omega (arith, H1 .before .before .before .pre)))
 
 pub put-hex-spec : {M : Type 1} → statement M
 put-hex-spec =

@@ -1,5 +1,4 @@
--- `text::put_key` meets its contract: the key's bytes from i on are left to be put.
--- Assumes nothing.
+-- The key's bytes from i on are left to be put. Assumes nothing.
 use Prim.Native.Nat.{_+_, _-_, _≤_}
 use native.Mathlib.Omega.{arith}
 use mathlib.Core.Path.{refl}
@@ -31,8 +30,9 @@ put-hex-requires c κs =
     let S = L .before .before .before in
     let key = S .args .key .now in
     let i = L .loop .i in
+    let step = hexes-step key i (c .before .before .loop-test .taken) in
     let room : L .loop .end + length (hexByte (getD key i 0)) ≤ length (L .loop .out) =
-    rest-room (hexByte (getD key i 0)) (hexes (drop (i + 1) key)) (L .loop .inv .1) (hexes-step key i (c .before .before .loop-test .taken)) (S .pre) in
+    rest-room (hexByte (getD key i 0)) (hexes (drop (i + 1) key)) (L .loop .inv .1) step (S .pre) in
     omega (arith, room, length-hexByte (getD key i 0))
 
 add-i : tie.Need-add-i Inv-loop μ-loop

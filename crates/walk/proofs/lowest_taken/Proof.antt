@@ -24,7 +24,7 @@ loop-holds : tie.Need-loop-holds Inv-loop μ-loop
 loop-holds c =
     let S = c .before in
     walk-start (layoutOf (S .args .image .now)) (S .args .image .now) (S .args .from) (S .args .shape .slots)
-    (layout-slots (S .args .image .now) (S .args .shape) (S .pre .1))
+    (layout-slots (S .args .image .now) (S .args .shape) (S .pre .shape))
 
 new-requires : tie.Need-new-requires Inv-loop μ-loop
 new-requires c κs = tt
@@ -32,7 +32,7 @@ new-requires c κs = tt
 is-taken-requires : tie.Need-is-taken-requires Inv-loop μ-loop
 is-taken-requires c κs =
     let S = c .before .before .before .before in
-    (S .pre .0, S .pre .1, omega (arith, c .new .ensures, c .before .loop-test .taken))
+    (S .pre, omega (arith, c .new .ensures, c .before .loop-test .taken))
 
 returns : tie.Need-returns Inv-loop μ-loop
 unfolding stopOf

@@ -23,7 +23,7 @@ read-shape-requires c κs = omega (arith, opened-facts _ (sym (c .before .open-n
 
 lowest-taken-requires : tie.Need-lowest-taken-requires
 lowest-taken-requires c κs =
-    (sym (c .before .before .open-number .ensures) ∙ c .before .if1 .left, c .read-shape .ensures)
+    record { accepted = sym (c .before .before .open-number .ensures) ∙ c .before .if1 .left; shape = c .read-shape .ensures }
 
 returns-2 : tie.Need-returns-2
 returns-2 c =

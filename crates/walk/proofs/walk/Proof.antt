@@ -49,8 +49,7 @@ key-of-requires c κs =
     let F = c .before .before .before .before .before in
     let A = F .before .before .args in
     let w = stopped-is (A .image .now) (A .from) (F .next-taken .result) (F .next-taken .ensures) (c .before .before .before .stop2 .given .1) in (
-      stopped-open (A .image .now) (A .from) _ w,
-      c .read-shape .ensures,
+      record { accepted = stopped-open (A .image .now) (A .from) _ w; shape = c .read-shape .ensures },
       subst (λ (n : ℕ). c .before .before .before .stop2 .given .0 .0 .0 < n)
           (layout-slots (A .image .now) (c .read-shape .result) (c .read-shape .ensures)) (stopped-below (A .image .now) (A .from) _ w),
     )

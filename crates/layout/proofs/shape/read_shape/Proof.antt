@@ -3,7 +3,9 @@ use borrow.Author.Needs.{needs}
 use mathlib.Core.Path.{_≡_, _∙_}
 use Prim.Native.Nat.{ℕ}
 use Rattle.bhtf.specs.Bytes.{Bytes}
-use Rattle.bhtf.specs.Image.{field}
+use Rattle.bhtf.specs.Limits.{keyField, slotsField, multiplierField, startField, firstField, lastField, dataField}
+use Rattle.bhtf.specs.Image.{field, layoutOf}
+use Rattle.bhtf.specs.Messages.{headSize}
 use Rattle.layout.specs.Shapes.{shapeOf}
 use Rattle.layout.specs.declared.shape.Shape.{Shape}
 use Rattle.layout.proofs.shape.read_shape.Statement.{statement}
@@ -13,19 +15,30 @@ use Rattle.layout.proofs.shape.read_shape.Lts as lts
 use Rattle.layout.proofs.places.Offset.new.Reads as new-reads
 use Rattle.words.proofs.fields.read_u32.Reads as read-u32-reads
 
-shape-is : (img : Bytes) {k s m b f l a : ℕ} → k ≡ field img 12 → s ≡ field img 16 → m ≡ field img 24 → b ≡ field img 28
-    → f ≡ field img 32 → l ≡ field img 36 → a ≡ field img 48
+shape-is : (img : Bytes) {k s m b f l a : ℕ} → k ≡ field img keyField → s ≡ field img slotsField
+    → m ≡ field img multiplierField → b ≡ field img startField → f ≡ field img firstField → l ≡ field img lastField
+    → a ≡ field img dataField
     → _≡_ {A = Shape}
-    (record { key = k; slots = s; area = record { 0 = a }; multiplier = m; start = b; first = f; last = l })
+    (record {
+      keylen = k;
+      slots = s;
+      area = record { 0 = a };
+      head = 4;
+      most = 16777215;
+      multiplier = m;
+      basis = b;
+      first = f;
+      last = l;
+    })
     (shapeOf img)
-unfolding shapeOf
+unfolding shapeOf layoutOf headSize
 shape-is img ek es em eb ef el ea = rw (ek, es, em, eb, ef, el, ea)
 
 read-u32-requires : tie.Need-read-u32-requires
 read-u32-requires c κs = search needs
 
-cast-key : tie.Need-cast-key
-cast-key c = search needs
+cast-keylen : tie.Need-cast-keylen
+cast-keylen c = search needs
 
 read-u32-requires-2 : tie.Need-read-u32-requires-2
 read-u32-requires-2 c κs = search needs
@@ -70,7 +83,7 @@ read-shape-spec =
     tie.close
     (tie.spec
     read-u32-requires
-    cast-key
+    cast-keylen
     read-u32-requires-2
     cast-slots
     read-u32-requires-3

@@ -1,0 +1,2 @@
+-- Laws of an image's shape, for the crates above.
+pub mod Shaped

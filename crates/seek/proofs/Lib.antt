@@ -1,0 +1,2 @@
+-- What the calls above cite.
+pub mod Reaching

@@ -1,0 +1,38 @@
+-- `seek`'s answer in the arms of a match.
+--     refused-is, refused-some      the number of the first no, which is not 0
+--     reached-is                    the shape, and how the search ended
+--     reached-key                   the key is as long as the file's keys
+-- Assumes nothing.
+use mathlib.Core.Path.{_≡_, sym, _∙_, subst}
+use Prim.Native.Nat.{ℕ}
+use mathlib.Core.Bool.{Bool, not}
+use lib.ListN.{length}
+use lib.Dec.{eqb}
+use borrow.Author.Tests.{eqb-true}
+use Rattle.bhtf.specs.Bytes.{Bytes, allZero}
+use Rattle.bhtf.specs.Image.{layoutOf}
+use Rattle.bhtf.specs.Questions.{nameAllowed, seekNumber}
+use Rattle.bhtf.proofs.Tests.{and-left}
+use Rattle.bhtf.proofs.Sought.{seek-allowed}
+use Rattle.layout.specs.declared.shape.Shape.{Shape}
+use Rattle.table.specs.declared.Found.{Found}
+use Rattle.table.proofs.Headers.{layout-key}
+use Rattle.seek.specs.declared.Sought.{Sought}
+use Rattle.seek.specs.declared.Sought.the-variants.{Refused, At}
+use Rattle.seek.specs.Seeks.{Reached, SoughtIs}
+
+module _ (img key : Bytes) (known : Bool) {r : Sought} (is : SoughtIs img key known r) where
+  pub refused-is : {n : ℕ} → r ≡ Refused n → (n ≡ seekNumber img key known) × (n ≡ 0 → ⊥)
+  unfolding SoughtIs
+  refused-is e = subst (SoughtIs img key known) e is
+
+  pub reached-is : {s : Shape} {f : Found} → r ≡ At s f → Reached img key known s f
+  unfolding SoughtIs
+  reached-is e = subst (SoughtIs img key known) e is
+
+pub reached-key : {img key : Bytes} {known : Bool} {s : Shape} {f : Found} → Reached img key known s f → length key ≡ s .keylen
+unfolding nameAllowed
+reached-key {img} {key} {known} {s} r =
+    eqb-true (length key) (layoutOf img .K)
+    (and-left (eqb (length key) (layoutOf img .K)) (not (allZero key)) (seek-allowed img key known (r .asked)))
+    ∙ layout-key img s (r .opened .shape)

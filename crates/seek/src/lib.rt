@@ -1,0 +1,33 @@
+// What every call on a named point does first: questions 1, 5, 6 and 7, add's 8, and the search for the key.
+use layout::shape::Shape;
+use layout::shape::read_shape;
+use questions::name_allowed;
+use questions::open_number;
+use table::Found;
+use table::search;
+ghost use Rattle.seek.specs.Seeks.{SoughtIs};
+
+// Refused with the number of the first no; or the image's shape, and how the search ended.
+pub enum Sought {
+    Refused(u32),
+    At(Shape, Found),
+}
+
+// Asks, then searches; `known` is the answer to question 8, yes where the call has no mode.
+pub fn seek(image: &[u8], key: &[u8], known: bool) -> Sought
+    ensures { λ r. ⌜ SoughtIs (now (image .entry)) (now (key .entry)) known r ⌝ }
+{
+    let number = open_number(image);
+    if number != 0 {
+        return Sought::Refused(number);
+    }
+    let shape = read_shape(image);
+    if !name_allowed(key, shape.keylen) {
+        return Sought::Refused(7);
+    }
+    if !known {
+        return Sought::Refused(8);
+    }
+    let found = search(image, shape, key);
+    Sought::At(shape, found)
+}

@@ -1,0 +1,110 @@
+-- The steps of an accepted add: each keeps the header, and together they are the specification's effect.
+--     place-fits                   questions 12 and 13 as facts
+--     head-retire, head-space      the image after each step is opened, with the same layout, shape and length
+--     inserted-steps, relocated-steps      the steps together
+-- Assumes nothing.
+use mathlib.Core.Path.{_≡_, refl, sym, ap, ap₂, _∙_, subst}
+use Prim.Native.Nat.{ℕ, _+_, _≤_}
+use native.Mathlib.Omega.{arith}
+use mathlib.Core.Bool.{true}
+use mathlib.Core.List.{[], _++_}
+use mathlib.Core.Option.{some}
+use lib.ListN.{length}
+use lib.Dec.{leb}
+use borrow.Author.Tests.{leb-true}
+use Rattle.bhtf.specs.Bytes.{Bytes, part}
+use Rattle.bhtf.specs.Limits.{freeField}
+use Rattle.bhtf.specs.Image.{field, layoutOf, putSlot, slotBytes}
+use Rattle.bhtf.specs.Messages.{headSize, takeSpace, retire, enter, inserted, relocated}
+use Rattle.bhtf.specs.Questions.{messageSound, lengthAllowed, spaceLeft, placeNumber}
+use Rattle.bhtf.proofs.Bytes.{length-part-append}
+use Rattle.bhtf.proofs.Opened.{firstNo-head, firstNo-tail, opened-facts}
+use Rattle.bhtf.proofs.Effects.{retire-kept, retire-opened, retire-field, retire-behind, space-kept, space-opened}
+use Rattle.layout.specs.Shapes.{Open}
+use Rattle.layout.specs.declared.shape.Shape.{Shape}
+use Rattle.layout.proofs.Shaped.{shape-head, shape-most, head-width}
+use Rattle.table.proofs.Heads.{SameHead, same-open, head-trans, head-opened}
+use Rattle.storing.specs.Fits.{Fits}
+
+-- ---- 12 and 13 as facts
+pub place-fits : {img : Bytes} {s : Shape} → Open img s → (t : Bytes) → placeNumber (layoutOf img) img (some t) ≡ 0
+    → Fits img s (length t)
+unfolding lengthAllowed spaceLeft
+place-fits {img} {s} o t z =
+    let g = layoutOf img in
+    let long = leb (length t) (g .most) in
+    let room = leb (field img freeField + headSize g + length t) (length img) in
+    let z₁₃ = firstNo-tail 12 long _ (λ e. omega arith) z in
+    record {
+      small = omega (arith, leb-true (length t) (g .most) (firstNo-head 12 long _ (λ e. omega arith) z), shape-most o);
+      room =
+          omega (
+            arith,
+            leb-true (field img freeField + headSize g + length t) (length img)
+                (firstNo-head 13 room [] (λ e. omega arith) z₁₃),
+            shape-head o,
+          );
+    }
+
+-- ---- the image after a step, as code holds it
+module _ {img : Bytes} {s : Shape} (open₀ : Open img s) (img₁ : Bytes) where
+  pub head-retire : (o : ℕ) → messageSound (layoutOf img) img o ≡ true → img₁ ≡ retire img o → SameHead img img₁
+  head-retire o m e =
+      let f = opened-facts img (open₀ .accepted) in
+      subst (SameHead img) (sym e) (head-opened img (retire img o) f (retire-kept img f o m) (retire-opened img f o m))
+
+  pub head-space : (t : Bytes) → field img freeField + s .head + length t ≤ length img → img₁ ≡ takeSpace (layoutOf img) img t
+      → SameHead img img₁
+  head-space t l e =
+      let f = opened-facts img (open₀ .accepted) in
+      let fits : field img freeField + headSize (layoutOf img) + length t ≤ length img = omega (arith, shape-head open₀) in
+      subst (SameHead img) (sym e)
+      (head-opened img (takeSpace (layoutOf img) img t) f (space-kept img f t fits) (space-opened img f t fits))
+
+-- ---- a point that is absent
+pub inserted-steps : (img img₁ after key bytes : Bytes) (i x : ℕ) → img₁ ≡ takeSpace (layoutOf img) img bytes
+    → layoutOf img₁ ≡ layoutOf img → x ≡ field img freeField → after ≡ enter (layoutOf img₁) img₁ i key x
+    → after ≡ inserted (layoutOf img) img i key (some bytes)
+unfolding inserted
+inserted-steps img img₁ after key bytes i x e g ex h = h ∙ rw (g, e, ex) refl
+
+-- ---- a point that is present: retired, placed, and its entry put
+module _ {img : Bytes} {s : Shape} (open₀ : Open img s) (img₁ : Bytes) (o : ℕ) (m : messageSound (layoutOf img) img o ≡ true)
+    (e₁ : img₁ ≡ retire img o) where
+  pub retired-free : field img₁ freeField ≡ field img freeField
+  retired-free =
+      ap (λ (b : Bytes). field b freeField) e₁
+      ∙ retire-field img (opened-facts img (open₀ .accepted)) o m freeField (omega arith)
+
+  retired-text : (from n : ℕ) → from ≡ o + s .head → part img₁ from n ≡ part img (o + s .head) n
+  retired-text from n e =
+      ap₂ (λ (b : Bytes) (p : ℕ). part b p n) e₁ e
+      ∙ retire-behind img (opened-facts img (open₀ .accepted)) o m (o + s .head) n (omega (arith, head-width open₀))
+
+  module _ (img₂ bytes : Bytes) (from n : ℕ) (ef : from ≡ o + s .head) (below : o + s .head + n ≤ field img freeField)
+      (fits : Fits img s (n + length bytes)) (e₂ : img₂ ≡ takeSpace (layoutOf img₁) img₁ (part img₁ from n ++ bytes)) where
+    abbrev text : Bytes
+    text = part img (o + s .head) n ++ bytes
+
+    length-text : length text ≡ n + length bytes
+    length-text =
+        length-part-append img (o + s .head) n bytes
+        (omega (arith, below, opened-facts img (open₀ .accepted) .free-high))
+
+    placed : img₂ ≡ takeSpace (layoutOf img₁) img₁ text
+    placed = e₂ ∙ ap (λ (t : Bytes). takeSpace (layoutOf img₁) img₁ (t ++ bytes)) (retired-text from n ef)
+
+    first : SameHead img img₁
+    first = head-retire open₀ img₁ o m e₁
+
+    pub head-relocated : SameHead img img₂
+    head-relocated =
+        head-trans first
+        (head-space (same-open first open₀) img₂ text
+        (omega (arith, retired-free, first .size, length-text, fits .room)) placed)
+
+    pub relocated-steps : (after key : Bytes) (i x : ℕ) → x ≡ field img freeField
+        → after ≡ putSlot (layoutOf img₂) img₂ i (slotBytes key x)
+        → after ≡ relocated (layoutOf img) img i o key text
+    unfolding relocated
+    relocated-steps after key i x ex e = e ∙ rw (head-relocated .layout, placed, first .layout, e₁, ex) refl

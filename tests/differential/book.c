@@ -1,0 +1,73 @@
+/* The library's answers against the control book's. */
+#include "parts.h"
+
+#include <string.h>
+
+void same_as_book(const char *what, uint32_t library, uint32_t book)
+{
+    if (library != book)
+        fail_number(what, "library", library, "book", book);
+}
+
+static void compare_lookup(const struct call *c, const struct answer *a)
+{
+    const uint8_t *text;
+    uint32_t length;
+    uint32_t number =
+        book_lookup(&list.book, c->key, c->key_len, &text, &length);
+
+    same_as_book("answer", a->number, number);
+    same_as_book("text length", a->second, length);
+    if (length > 0 && memcmp(lent.library + a->first, text, length) != 0)
+        fail("the message is not the book's text");
+}
+
+/* A walk shows points of the book only. */
+static void compare_walk(const struct answer *a)
+{
+    const uint8_t *text;
+    uint32_t length;
+
+    same_as_book("answer", a->number, 0);
+    if (a->second != 0 &&
+        book_lookup(&list.book, lent.library + a->second, list.key_size,
+                    &text, &length) != 0)
+        fail("the walk shows a key that is not in the book");
+}
+
+void compare_book(const struct call *c, const struct answer *a)
+{
+    struct book *b = &list.book;
+
+    if (c->image_len != lent.length) {
+        same_as_book("answer", a->number, 1);
+        return;
+    }
+    switch (c->kind) {
+    case ADD:
+        same_as_book("answer", a->number,
+                     book_add(b, c->key, c->key_len, c->data, c->data_len,
+                              c->mode));
+        break;
+    case DELETE:
+        same_as_book("answer", a->number,
+                     book_delete(b, c->key, c->key_len));
+        break;
+    case LOOKUP:
+        compare_lookup(c, a);
+        break;
+    case COUNT:
+        same_as_book("answer", a->number, 0);
+        same_as_book("count", a->first, book_count(b));
+        break;
+    case WALK:
+        compare_walk(a);
+        break;
+    case CHECK:
+        same_as_book("answer", a->number, 0);
+        same_as_book("verdict", a->first, 0);
+        break;
+    default:
+        break;
+    }
+}

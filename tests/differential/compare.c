@@ -1,0 +1,149 @@
+/* One call on the library and on the plain reference: answers, bytes, and the
+ * bytes around them. */
+#include "parts.h"
+
+#include "../reference/plain.h"
+
+#include <stdio.h>
+#include <stdlib.h>
+#include <string.h>
+
+#define UNSET 0xA5A5A5A5u
+
+static const struct calls plain = {
+    plain_create, plain_add,  plain_delete, plain_lookup,
+    plain_count,  plain_walk, plain_check,
+};
+
+/* A longer slice than the image starts in the bytes before it. */
+static uint8_t *slice(uint8_t *image, size_t length)
+{
+    return length > lent.length ? image + lent.length - length : image;
+}
+
+static struct answer perform(const struct calls *f, uint8_t *image,
+                             const struct call *c)
+{
+    struct answer a = { 0, UNSET, UNSET };
+    uint8_t *s = slice(image, c->image_len);
+    size_t n = c->image_len;
+
+    switch (c->kind) {
+    case CREATE:
+        a.number = f->create(s, n, c->key_size, c->slots, c->seed);
+        break;
+    case ADD:
+        a.number = f->add(s, n, c->key, c->key_len, c->data, c->data_len,
+                          c->mode);
+        break;
+    case DELETE:
+        a.number = f->remove(s, n, c->key, c->key_len);
+        break;
+    case LOOKUP:
+        a.number = f->lookup(s, n, c->key, c->key_len, &a.first, &a.second);
+        break;
+    case COUNT:
+        a.number = f->count(s, n, &a.first);
+        break;
+    case WALK:
+        a.number = f->walk(s, n, c->from, &a.first, &a.second);
+        break;
+    default:
+        a.number = f->check(s, n, &a.first, &a.second);
+        break;
+    }
+    return a;
+}
+
+static void same(const char *what, uint32_t library, uint32_t reference)
+{
+    if (library != reference)
+        fail_number(what, "library", library, "plain", reference);
+}
+
+static void compare_answers(const struct call *c, const struct answer *a,
+                            const struct answer *b)
+{
+    same("answer", a->number, b->number);
+    if (c->kind == LOOKUP) {
+        same("message offset", a->first, b->first);
+        same("message length", a->second, b->second);
+    }
+    if (c->kind == COUNT)
+        same("count", a->first, b->first);
+    if (c->kind == WALK) {
+        same("key offset", a->second, b->second);
+        if (run.strict || b->second != 0)
+            same("slot", a->first, b->first);
+    }
+    if (c->kind == CHECK) {
+        if (run.strict || b->number == 0)
+            same("verdict", a->first, b->first);
+        if (run.strict || (b->number == 0 && b->first == 1))
+            same("failing slot", a->second, b->second);
+    }
+}
+
+static void same_bytes(const char *what, const uint8_t *a, const char *one,
+                       const uint8_t *b, const char *other)
+{
+    size_t i = 0;
+
+    if (memcmp(a, b, lent.length) == 0)
+        return;
+    while (a[i] == b[i])
+        i++;
+    print_failure();
+    printf("%s, byte %zu: %s %u, %s %u\n", what, i, one, a[i], other, b[i]);
+    exit(1);
+}
+
+static int all_guard(const uint8_t *at, uint32_t size)
+{
+    for (uint32_t i = 0; i < size; i++)
+        if (at[i] != GUARD_BYTE)
+            return 0;
+    return 1;
+}
+
+static void compare_bytes(const struct call *c, uint32_t number)
+{
+    same_bytes("image", lent.library, "library", lent.plain, "plain");
+    if (c->kind > DELETE || number != 0)
+        same_bytes("a refused or reading call changed the image",
+                   lent.library, "after", lent.before, "before");
+    if (!all_guard(lent.library - GUARD, GUARD) ||
+        !all_guard(lent.library + lent.length, lent.shift))
+        fail("bytes outside the image changed");
+}
+
+struct answer run_call(void)
+{
+    const struct call *c = &list.now;
+    struct answer a, b;
+    uint8_t key[33];
+    size_t kept = c->key_len < sizeof key ? c->key_len : sizeof key;
+
+    run.calls++;
+    if (c->key != NULL)
+        memcpy(key, c->key, kept);
+    a = perform(&subject, lent.library, c);
+    if (c->key != NULL && memcmp(key, c->key, kept) != 0)
+        fail("the lent key changed");
+    b = perform(&plain, lent.plain, c);
+    compare_answers(c, &a, &b);
+    compare_bytes(c, a.number);
+    if (list.with_book)
+        compare_book(c, &a);
+    if (c->kind <= DELETE && a.number == 0)
+        memcpy(lent.before, lent.library, lent.length);
+    seen[c->kind][a.number < 15 ? a.number : 0]++;
+    return a;
+}
+
+void new_call(enum kind kind)
+{
+    memset(&list.now, 0, sizeof list.now);
+    list.now.kind = kind;
+    list.now.image_len = lent.length;
+}

@@ -1,0 +1,126 @@
+/* Images, keys and data that end where an unreadable page begins. */
+#define _DEFAULT_SOURCE
+
+#include "parts.h"
+
+#include <stdio.h>
+#include <stdlib.h>
+#include <string.h>
+#include <sys/mman.h>
+
+#define ROOM (MIB16 + 16 * PAGE) /* bytes kept for one image */
+
+struct lent lent;
+uint8_t *data_start;
+size_t data_size;
+uint8_t *key_end;
+
+static void *map(size_t size, int flags)
+{
+    void *at = mmap(NULL, size, PROT_READ | PROT_WRITE,
+                    MAP_PRIVATE | MAP_ANONYMOUS | flags, -1, 0);
+
+    return at == MAP_FAILED ? NULL : at;
+}
+
+/* The end of size writable bytes, with an unreadable page behind. */
+static uint8_t *map_before_wall(size_t size)
+{
+    uint8_t *at = map(size + PAGE, 0);
+
+    if (at == NULL || mprotect(at + size, PAGE, PROT_NONE) != 0) {
+        fprintf(stderr, "no memory\n");
+        exit(2);
+    }
+    return at + size;
+}
+
+static void fill_random(uint8_t *at, size_t size)
+{
+    static const uint8_t usual[] = "ad\0\0\1\2 ~";
+
+    for (size_t i = 0; i < size; i++) {
+        uint32_t r = random32();
+
+        at[i] = r & 256 ? usual[r & 7] : (uint8_t)r;
+    }
+}
+
+/* Data is lent from one read-only mapping, over 4 GiB long where the machine
+ * allows, so that lengths that do not fit 32 bits can be lent too. */
+static void map_data(void)
+{
+    data_size = (size_t)((uint64_t)POOL + TAIL + (UINT64_C(1) << 32));
+    data_start = data_size > POOL ? map(data_size + PAGE, MAP_NORESERVE)
+                                  : NULL;
+    if (data_start == NULL) {
+        data_size = POOL;
+        data_start = map(data_size + PAGE, 0);
+    }
+    if (data_start == NULL)
+        exit(2);
+    fill_random(data_start, POOL);
+    fill_random(data_start + data_size - TAIL, TAIL);
+    mprotect(data_start, data_size, PROT_READ);
+    mprotect(data_start + data_size, PAGE, PROT_NONE);
+}
+
+void map_all(void)
+{
+    lent.library_end = map_before_wall(ROOM);
+    lent.plain_end = map_before_wall(ROOM);
+    lent.before = map(ROOM, 0);
+    key_end = map_before_wall(PAGE);
+    map_data();
+}
+
+void set_length(uint32_t length)
+{
+    static const uint32_t shifts[] = { 0, 0, 0, 1, 2, 7 };
+
+    lent.length = length;
+    lent.shift = PICK(shifts);
+    lent.library = lent.library_end - lent.shift - length;
+    lent.plain = lent.plain_end - lent.shift - length;
+    memset(lent.library - GUARD, GUARD_BYTE, GUARD);
+    memset(lent.library + length, GUARD_BYTE, lent.shift);
+}
+
+void share_image(void)
+{
+    memcpy(lent.plain, lent.library, lent.length);
+    memcpy(lent.before, lent.library, lent.length);
+}
+
+void old_content(void)
+{
+    memcpy(lent.library, data_start + below(POOL - lent.length + 1),
+           lent.length);
+    share_image();
+}
+
+void poke(size_t offset, uint8_t value)
+{
+    if (offset >= lent.length)
+        return;
+    lent.library[offset] = value;
+    lent.plain[offset] = value;
+    lent.before[offset] = value;
+}
+
+void poke32(size_t offset, uint32_t value)
+{
+    for (int i = 0; i < 4; i++)
+        poke(offset + (size_t)i, (uint8_t)(value >> (24 - 8 * i)));
+}
+
+uint32_t get32(const uint8_t *at)
+{
+    return (uint32_t)at[0] << 24 | (uint32_t)at[1] << 16 |
+           (uint32_t)at[2] << 8 | (uint32_t)at[3];
+}
+
+uint32_t field(uint32_t offset)
+{
+    return get32(lent.library + offset);
+}

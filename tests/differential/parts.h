@@ -1,0 +1,220 @@
+/* What the parts of the differential test share. */
+#ifndef PARTS_H
+#define PARTS_H
+
+#include "../calls.h"
+#include "../reference/book.h"
+
+#define PAGE 4096u
+#define MIB16 16777216u
+#define POOL (MIB16 + 64 * PAGE) /* random bytes for data and old content */
+#define TAIL (64 * PAGE)         /* the same at the end of the data */
+#define GUARD 64u
+#define GUARD_BYTE 0xA7
+#define NAMES 64u
+
+enum kind { CREATE, ADD, DELETE, LOOKUP, COUNT, WALK, CHECK, KINDS };
+
+extern const char *const kind_name[KINDS];
+
+struct call {
+    enum kind kind;
+    size_t image_len;
+    const uint8_t *key;
+    size_t key_len;
+    const uint8_t *data;
+    size_t data_len;
+    uint32_t mode;
+    uint32_t key_size; /* create */
+    uint32_t slots;
+    uint32_t seed;
+    uint32_t from; /* walk */
+};
+
+/* first and second: the call's outputs in the order of its arguments. */
+struct answer {
+    uint32_t number;
+    uint32_t first;
+    uint32_t second;
+};
+
+/* ---- the state of a run (differential.c) ---- */
+
+struct run {
+    uint64_t seed;
+    uint64_t calls;
+    uint64_t call_limit;
+    unsigned long seconds;
+    int quiet;
+    int strict;
+};
+extern struct run run;
+
+/* Seen answers, call by call. */
+extern uint64_t seen[KINDS][15];
+
+/* The list being run. */
+struct list {
+    uint64_t number;
+    const char *what;
+    uint32_t key_size;
+    uint32_t slots;
+    int with_book;
+    struct book book;
+    uint32_t names;
+    uint8_t name[NAMES][32];
+    uint32_t last_length[NAMES]; /* of the name's last data */
+    uint8_t letters[6];          /* the bytes its names are made of */
+    struct call now;
+};
+extern struct list list;
+
+/* ---- random numbers (random.c) ---- */
+
+void random_start(uint64_t seed);
+uint32_t random32(void);
+uint32_t below(uint32_t n); /* 0 to n - 1 */
+int one_in(uint32_t n);
+uint32_t pick(const uint32_t *from, uint32_t n);
+
+#define PICK(array) pick(array, (uint32_t)(sizeof(array) / sizeof *(array)))
+
+/* ---- lent memory (memory.c) ---- */
+
+/* The lent images and what they were before the call. */
+struct lent {
+    uint8_t *library_end;
+    uint8_t *plain_end;
+    uint8_t *library;
+    uint8_t *plain;
+    uint8_t *before;
+    uint32_t shift; /* guard bytes behind the image */
+    uint32_t length;
+};
+extern struct lent lent;
+
+extern uint8_t *data_start;
+extern size_t data_size;
+extern uint8_t *key_end;
+
+void map_all(void);
+
+/* An image of the given length; its content is free. */
+void set_length(uint32_t length);
+
+/* The library's image holds what both shall start from. */
+void share_image(void);
+
+/* Both start from random bytes. */
+void old_content(void);
+
+/* Write to both images. */
+void poke(size_t offset, uint8_t value);
+void poke32(size_t offset, uint32_t value);
+
+uint32_t get32(const uint8_t *at);
+
+/* The four bytes at that offset of the image. */
+uint32_t field(uint32_t offset);
+
+/* ---- differences (report.c) ---- */
+
+/* Where the run is; the caller says what differs, and ends it. */
+void print_failure(void);
+
+void fail(const char *what);
+void fail_number(const char *what, const char *one, uint64_t a,
+                 const char *other, uint64_t b);
+
+/* A crash and a call that does not end are reported like a difference. */
+void watch_signals(void);
+
+/* ---- one call on all sides (compare.c, book.c) ---- */
+
+/* Begins list.now, a call on the whole image. */
+void new_call(enum kind kind);
+
+/* Runs list.now on all sides and compares. */
+struct answer run_call(void);
+
+void same_as_book(const char *what, uint32_t library, uint32_t book);
+void compare_book(const struct call *c, const struct answer *a);
+
+/* ---- arguments (choose.c) ---- */
+
+/* A few more names than slots, so that tables fill up. */
+void choose_names(void);
+
+/* The call's key: size bytes, ending at the wall. */
+uint8_t *lend_key(size_t size);
+
+/* Gives the call a key; answers which name it is, or NAMES for another. */
+uint32_t choose_key(void);
+
+/* Data from the pool, or ending at the wall. */
+void choose_data(uint32_t name);
+
+uint32_t choose_mode(void);
+uint32_t choose_key_size(void);
+uint32_t choose_slots(void);
+
+/* K and N; now and then the table ends where a page does. */
+void choose_shape(uint32_t *key_size, uint32_t *slots);
+
+uint32_t data_offset(uint32_t key_size, uint32_t slots);
+
+/* Pages behind the table. */
+uint32_t choose_image_length(uint32_t data);
+
+size_t wrong_image_length(void);
+
+/* ---- calls with chosen arguments (steps.c) ---- */
+
+uint32_t create(uint32_t key_size, uint32_t slots);
+void step_add(void);
+void step_plain(enum kind kind);
+
+/* A create that may be refused with 2, 3 or 4, or several at once. */
+void step_create(void);
+
+/* Any call on a slice of an unlawful length. */
+void step_wrong_length(void);
+
+/* Every name once, in mode 1: a full table early on. */
+void add_all_names(void);
+
+void look_up(const uint8_t *name);
+
+/* One call; weights say of a hundred how many are of a kind or one before. */
+void step(const uint8_t *weights);
+
+/* ---- made-up images (images.c) ---- */
+
+#define HEADERS 12u
+
+/* Where made-up messages stand; one may begin below D. */
+struct messages {
+    uint32_t count;
+    uint32_t at[HEADERS + 1];
+};
+extern struct messages messages;
+
+/* A length for a message header at an offset with so much space behind. */
+uint32_t make_length(uint32_t space);
+
+uint32_t make_offset(void);
+void make_slot(uint32_t slot, const uint8_t *name);
+
+void made_up_image(void);
+void ring_image(void);
+void grown_image(void);
+void random_image(void);
+
+/* ---- damage.c, lists.c ---- */
+
+void damage(void);
+
+void list_from_create(void);
+void list_on_damage(void);
+
+#endif
