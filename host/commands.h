@@ -65,6 +65,7 @@ int run_check(const struct options *o);
 int run_stat(const struct options *o);
 int run_import(const struct options *o);
 int run_export(const struct options *o);
+int run_scramble(const struct options *o);
 
 /* ---- shared by them ---- */
 

@@ -38,6 +38,11 @@ uint32_t slot_message(const uint8_t *image, const struct header *h,
     return read_u32(image + slot_offset(h, slot) + h->key_size);
 }
 
+uint32_t scramble_number(const uint8_t *image, uint32_t i)
+{
+    return read_u32(image + SCRAMBLE + 4 * i);
+}
+
 uint32_t home_slot(const uint8_t *image, const struct header *h,
                    const uint8_t *key)
 {
@@ -46,7 +51,7 @@ uint32_t home_slot(const uint8_t *image, const struct header *h,
     for (uint32_t i = 0; i < h->key_size; i++) {
         hash *= h->multiplier;
         if (h->first <= key[i] && key[i] <= h->last)
-            hash ^= read_u32(image + SCRAMBLE + 4 * (key[i] - h->first));
+            hash ^= scramble_number(image, key[i] - h->first);
     }
     return hash % h->slots;
 }

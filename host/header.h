@@ -26,6 +26,9 @@ uint32_t slot_offset(const struct header *h, uint32_t slot);
 uint32_t slot_message(const uint8_t *image, const struct header *h,
                       uint32_t slot);
 
+/* Scramble number i, from 0 to E - F. */
+uint32_t scramble_number(const uint8_t *image, uint32_t i);
+
 /* The slot where a key's search begins. */
 uint32_t home_slot(const uint8_t *image, const struct header *h,
                    const uint8_t *key);

@@ -77,6 +77,11 @@ static const struct command commands[] = {
       "not easting,northing,height,note comes out as a note.\n"
       "  --crlf        end lines with carriage return and line feed\n"
       WAITING },
+    { "scramble", 0, 1, 1, run_scramble,
+      "bhtf scramble SEED\n"
+      "Prints the 95 numbers, one a line, by which names are scattered in a "
+      "file\n"
+      "that is made with this seed, a number from 0 to 4294967295.\n" },
 };
 
 const struct command *command_find(const char *name)
@@ -101,6 +106,7 @@ void help_print(FILE *to)
           "  bhtf stat FILE              load, searches and dead bytes\n"
           "  bhtf import FILE CSV        store points from a CSV file\n"
           "  bhtf export FILE            print all points as CSV\n"
+          "  bhtf scramble SEED          print the numbers of a seed\n"
           "\n"
           "bhtf COMMAND --help says more about one of them; bhtf --version "
           "says\n"

@@ -1,2 +1,1 @@
-pub mod SeedZero
 pub mod Stores

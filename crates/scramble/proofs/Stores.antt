@@ -1,13 +1,12 @@
 -- The image that create leaves, as the code makes it: zeros, then the header and the scramble stored number by number.
 --     number-stored       one more of a list of numbers
---     all-digits-drawn    numbers that the generator gives
 --     header-digits       the header's fifteen numbers
 --     drawn-more          one more scramble number
 --     fresh-stored        zeros, header and scramble are the fresh image
 -- Assumes nothing.
 use mathlib.Core.Path.{_≡_, refl, sym, ap, ap₂, _∙_}
 use mathlib.Core.List.{List, [], _∷_, _++_, append-assoc, append-nil}
-use Prim.Native.Nat.{ℕ, zero, suc, _+_, _-_, _*_, _≤_, _<_, zero-le, suc-le-suc}
+use Prim.Native.Nat.{ℕ, zero, suc, _+_, _-_, _*_, _≤_, _<_}
 use native.Mathlib.Nat.{add-zero, zero-add, add-suc, suc-add}
 use native.Mathlib.Numerals.{add-one}
 use native.Mathlib.Omega.{arith}
@@ -102,17 +101,6 @@ number-stored b at xs i p h =
     ∙ ap (store b at)
     (sym (all-digits-more (take i xs) (getD xs i 0))
     ∙ ap allDigits (sym (take-suc xs i 0 p) ∙ ap (λ (m : ℕ). take m xs) (sym (add-one i))))
-
--- numbers that the generator gives
-pub all-digits-drawn : (xs : List ℕ) (seed i : ℕ) → ((k : ℕ) → k < length xs → getD xs k 0 ≡ drawn seed (i + k))
-    → allDigits xs ≡ drawnBytes seed i (length xs)
-unfolding allDigits drawnBytes
-all-digits-drawn [] seed i h = refl
-all-digits-drawn (x ∷ xs) seed i h =
-    ap₂ (λ (n : ℕ) (t : Bytes). digits 4 n ++ t)
-    (h 0 (suc-le-suc zero-le) ∙ ap (drawn seed) (add-zero i))
-    (all-digits-drawn xs seed (suc i)
-    (λ k p. h (suc k) (suc-le-suc p) ∙ ap (drawn seed) (add-suc i k ∙ sym (suc-add i k))))
 
 -- the header, with "BHTF", v and the version bytes as two numbers
 pub header-digits : (K N D : ℕ) → D ≡ dataStart K N
