@@ -1,0 +1,25 @@
+-- A sweep over the data area, window by window, of slots with the stretches start i .. stop i.
+--     Piece      of one slot's stretch, what a window lo .. hi shows
+--     Swept      what is known of the stretches below `at`
+-- Assumes nothing.
+use mathlib.Core.Path.{_≡_}
+use Prim.Native.Nat.{ℕ, _≤_, _<_}
+
+-- from .. end is start .. stop as far as the window shows it; the end may lie past the window
+pub record Piece (start stop lo hi from end : ℕ) : Type 0 where
+  pub low : lo ≤ from
+  pub high : from ≤ hi
+  pub order : from ≤ end
+  pub inside : (q : ℕ) → lo ≤ q → q < hi → start ≤ q → q < stop → (from ≤ q) × (q < end)
+  pub only : (q : ℕ) → from ≤ q → q < end → q < hi → (start ≤ q) × (q < stop)
+  pub past : start < hi → hi < stop → hi < end
+  pub crosses : hi < end → (start < hi) × (hi < stop)
+
+-- `best` is the bound or a slot whose stretch meets a lower one's; no two slots below it share a place below `at`; and
+-- `carried` is the one slot below it, if there is one, whose stretch goes on across `at`.
+pub record Swept (start stop : ℕ → ℕ) (bound at best carried : ℕ) : Type 0 where
+  pub low : best ≤ bound
+  pub found : best < bound → (j : ℕ) × (j < best) × (start j < stop best) × (start best < stop j)
+  pub apart : (i j q : ℕ) → i < j → j < best → q < at → start i ≤ q → q < stop i → start j ≤ q → q < stop j → ⊥
+  pub carries : (i : ℕ) → i < best → start i < at → at < stop i → i ≡ carried
+  pub crosses : carried < best → (start carried < at) × (at < stop carried)
