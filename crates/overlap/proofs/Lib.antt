@@ -1,2 +1,4 @@
 pub mod Bits
 pub mod Claims
+pub mod Pieces
+pub mod Reading

@@ -3,7 +3,8 @@
 -- meet, and a stretch that begins where another ends does not.
 --     stretchStart, stretchEnd      of a slot; both 0 where it has no stretch, so that it meets none
 --     meets g img i j, meetsLower g img i
---     Checked img s bound      below the bound every taken slot's message passes question 11
+--     firstMeeting g img bound      the lowest slot below the bound that meets a lower-numbered one
+--     Readable img s i, Checked img s bound      what is asked of slot i, and of every slot below a bound
 -- Assumes nothing.
 use mathlib.Core.Path.{_≡_}
 use Prim.Native.Nat.{ℕ, zero, suc, _+_, _≤_, _<_}
@@ -50,6 +51,22 @@ slotOr n (some i) = i
 unfoldable pub firstMeeting : Layout → Bytes → ℕ → ℕ
 firstMeeting g img bound = slotOr bound (lowest (meetsLower g img) bound 0)
 
+-- ---- the same of an image, by the layout that its header gives
+abbrev pub startIn : Bytes → ℕ → ℕ
+startIn img i = stretchStart (layoutOf img) img i
+
+abbrev pub endIn : Bytes → ℕ → ℕ
+endIn img i = stretchEnd (layoutOf img) img i
+
+-- what a read of slot i asks: its message, where it is taken, passes question 11
+pub record Readable (img : Bytes) (s : Shape) (i : ℕ) : Type 0 where
+  pub accepted : openNumber img ≡ 0
+  pub shape : s ≡ shapeOf img
+  pub low : i < s .slots
+  pub message : taken (layoutOf img) img i ≡ true
+      → messageSound (layoutOf img) img (offsetOf (layoutOf img) (slot (layoutOf img) img i)) ≡ true
+
+-- the same of every slot below a bound
 pub record Checked (img : Bytes) (s : Shape) (bound : ℕ) : Type 0 where
   pub accepted : openNumber img ≡ 0
   pub shape : s ≡ shapeOf img

@@ -3,7 +3,13 @@
 --     Swept      what is known of the stretches below `at`
 -- Assumes nothing.
 use mathlib.Core.Path.{_≡_}
+use mathlib.Core.Bool.{cond, _&&_}
 use Prim.Native.Nat.{ℕ, _≤_, _<_}
+use lib.Dec.{leb, ltb}
+
+-- a start that lies in the window lo .. hi, else hi
+unfoldable pub within : ℕ → ℕ → ℕ → ℕ
+within lo hi start = cond (leb lo start && ltb start hi) start hi
 
 -- from .. end is start .. stop as far as the window shows it; the end may lie past the window
 pub record Piece (start stop lo hi from end : ℕ) : Type 0 where
@@ -14,6 +20,11 @@ pub record Piece (start stop lo hi from end : ℕ) : Type 0 where
   pub only : (q : ℕ) → from ≤ q → q < end → q < hi → (start ≤ q) × (q < stop)
   pub past : start < hi → hi < stop → hi < end
   pub crosses : hi < end → (start < hi) × (hi < stop)
+
+-- slot i is the carried one exactly where its stretch goes on across lo
+pub record Carried (start stop lo i carried : ℕ) : Type 0 where
+  pub is : start < lo → lo < stop → i ≡ carried
+  pub crosses : i ≡ carried → (start < lo) × (lo < stop)
 
 -- `best` is the bound or a slot whose stretch meets a lower one's; no two slots below it share a place below `at`; and
 -- `carried` is the one slot below it, if there is one, whose stretch goes on across `at`.

@@ -1,2 +1,3 @@
 // Two points on one message: the lowest slot whose stretch meets that of a lower-numbered one.
 pub mod marks;
+pub mod stretch;
