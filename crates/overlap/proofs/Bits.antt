@@ -92,7 +92,7 @@ bit-small : (x j : ℕ) → bit x j < 2
 unfolding bit
 bit-small x j = omega arith
 
-bit-zero : (j : ℕ) → bit 0 j ≡ 0
+pub bit-zero : (j : ℕ) → bit 0 j ≡ 0
 unfolding bit
 bit-zero j = omega (arith, shr-le 0 j)
 

@@ -1,19 +1,20 @@
 -- The loop that claims places: from the first on, one byte of the map a turn.
 --     Claiming m m′ from to q      the places from `from` up to q are marked in m′ and were not in m; the others are as in m
+--     marked-zeros      a map that is cleared marks no place
 --     claiming-start, claiming-on, claiming-met, claiming-end      its turns
 -- Assumes nothing.
 use mathlib.Core.Path.{_≡_, refl, sym, ap, _∙_}
-use Prim.Native.Nat.{ℕ, _+_, _-_, _*_, _/_, _%_, _^_, _≤_, _<_, min}
+use Prim.Native.Nat.{ℕ, zero, suc, _+_, _-_, _*_, _/_, _%_, _^_, _≤_, _<_, min}
 use native.Mathlib.Omega.{arith}
 use mathlib.Core.Bool.{true, false, true≢false, false≢true}
 use mathlib.Core.Logic.{_⊎_, inl, inr}
 use lib.Bits.{bitAnd, bitOr}
 use lib.ListN.{length, getD, set, length-set}
 use lib.Seq.{getD-set-same, getD-set-other}
-use Rattle.bhtf.specs.Bytes.{Bytes}
+use Rattle.bhtf.specs.Bytes.{Bytes, zeros}
 use Rattle.bhtf.proofs.Tests.{by-eq, by-le, by-either}
 use Rattle.overlap.specs.Marks.{bit, marked, Claimed}
-use Rattle.overlap.proofs.Bits.{and-free, and-met, or-in, or-out}
+use Rattle.overlap.proofs.Bits.{bit-zero, and-free, and-met, or-in, or-out}
 
 pub record Claiming (m m′ : Bytes) (from to q : ℕ) : Type 0 where
   pub low : from ≤ q
@@ -43,6 +44,18 @@ set-here m c v p e l =
 set-other : (m : Bytes) (c v p : ℕ) → (p / 8 ≡ c → ⊥) → marked (set m c v) p ≡ marked m p
 unfolding marked
 set-other m c v p n = ap (λ (x : ℕ). bit x (p % 8)) (getD-set-other m c (p / 8) v 0 n)
+
+-- cleared, no place is marked
+getD-zeros : (n k : ℕ) → getD (zeros n) k 0 ≡ 0
+unfolding zeros
+getD-zeros zero k = refl
+getD-zeros (suc n) zero = refl
+getD-zeros (suc n) (suc k) = getD-zeros n k
+
+pub marked-zeros : (m : Bytes) (n : ℕ) → m ≡ zeros n → (q : ℕ) → marked m q ≡ 0
+unfolding marked
+marked-zeros m n e q =
+    ap (λ (t : Bytes). bit (getD t (q / 8) 0) (q % 8)) e ∙ ap (λ (x : ℕ). bit x (q % 8)) (getD-zeros n (q / 8)) ∙ bit-zero (q % 8)
 
 module _ (m m′ : Bytes) (from to q : ℕ) (w : Claiming m m′ from to q) (l : q < to) (room : to ≤ 8 * length m)
     (high bits : ℕ) (is : high ≡ min 8 (q % 8 + (to - q))) (mask : bits ≡ 2 ^ high - 2 ^ (q % 8)) where

@@ -1,4 +1,5 @@
 pub mod Bits
 pub mod Claims
+pub mod Passes
 pub mod Pieces
 pub mod Reading
