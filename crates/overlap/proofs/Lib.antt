@@ -3,3 +3,4 @@ pub mod Claims
 pub mod Passes
 pub mod Pieces
 pub mod Reading
+pub mod Sweeps

@@ -19,6 +19,7 @@ use Rattle.bhtf.proofs.Tests.{by-bool, by-eq}
 use Rattle.bhtf.proofs.Stretch.{size}
 use Rattle.bhtf.proofs.Opened.{Opened, opened-facts}
 use Rattle.bhtf.proofs.Effects.{area-above, message-low, message-end}
+use Rattle.layout.specs.Shapes.{shapeOf}
 use Rattle.layout.specs.declared.shape.Shape.{Shape}
 use Rattle.table.specs.Slots.{vacantIn, offsetIn}
 use Rattle.overlap.specs.Stretches.{stretchStart, stretchEnd, endAt, startIn, endIn, Readable, Checked}
@@ -101,6 +102,11 @@ end-read img i z o m eo em =
     let e : o ≡ startIn img i = eo ∙ sym (start-taken img i z .1) in
     let l : lengthAt (layoutOf img) img o ≡ lengthAt (layoutOf img) img (startIn img i) = ap (lengthAt (layoutOf img) img) e in
     omega (arith, end-some img i z, head-four img)
+
+-- the data offset, as the code hands it on
+pub shape-area : (img : Bytes) (s : Shape) → s ≡ shapeOf img → s .area .0 ≡ field img dataField
+unfolding shapeOf
+shape-area img s e = ap (λ (t : Shape). t .area .0) e
 
 pub checked-slot : (img : Bytes) (s : Shape) (bound : ℕ) → Checked img s bound → (i : ℕ) → i < bound → Readable img s i
 checked-slot img s bound c i l =
