@@ -53,12 +53,20 @@ fn sweep_small(image: &[u8], shape: Shape, bound: usize) -> usize
 }
 
 // With a map for windows of 2 MiB.
+fn sweep_wide(image: &[u8], shape: Shape, map: &mut [u8; LARGE_MAP], bound: usize) -> usize
+    requires { ⌜ Checked (now image) shape bound ⌝ }
+    ensures { λ r. ⌜ r ≡ firstMeeting (layoutOf (now (image .entry))) (now (image .entry)) bound ⌝ }
+{
+    sweep(image, shape, map, bound)
+}
+
+// The same with the map on the stack.
 fn sweep_large(image: &[u8], shape: Shape, bound: usize) -> usize
     requires { ⌜ Checked (now image) shape bound ⌝ }
     ensures { λ r. ⌜ r ≡ firstMeeting (layoutOf (now (image .entry))) (now (image .entry)) bound ⌝ }
 {
     let mut map = [0; LARGE_MAP];
-    sweep(image, shape, &mut map, bound)
+    sweep_wide(image, shape, &mut map, bound)
 }
 
 // The lowest slot below `bound` whose stretch meets that of a lower-numbered taken slot; `bound` where there is none. Every taken

@@ -1,46 +1,41 @@
+-- `overlap::first_meeting` meets its contract: X is not below D. Assumes nothing.
+use native.Mathlib.Omega.{arith}
 use borrow.Author.Needs.{needs}
+use Rattle.bhtf.proofs.Opened.{opened-facts}
+use Rattle.overlap.proofs.Reading.{shape-area}
 use Rattle.overlap.proofs.first_meeting.Statement.{statement}
 use Rattle.overlap.proofs.first_meeting.Tie as tie
-use Rattle.overlap.proofs.first_meeting.Reads as reads
-use Rattle.overlap.proofs.first_meeting.Lts as lts
-use Rattle.layout.proofs.places.Offset.at.Reads as at-reads
-use Rattle.overlap.proofs.sweep_large.Reads as sweep-large-reads
-use Rattle.overlap.proofs.sweep_small.Reads as sweep-small-reads
-use Rattle.words.proofs.fields.read_u32.Reads as read-u32-reads
 
--- src/lib.rt:72:9
 read-u32-requires : tie.Need-read-u32-requires
-read-u32-requires c κs = ?
+read-u32-requires c κs =
+    let S = c .before .before in
+    omega (arith, opened-facts (S .args .image .now) (S .pre .accepted) .size-low)
 
--- src/lib.rt:72:9
 cast-if1 : tie.Need-cast-if1
 cast-if1 c = search needs
 
--- src/lib.rt:72:49
 at-requires : tie.Need-at-requires
 at-requires c κs = search needs
 
--- src/lib.rt:72:8
 sub-if1 : tie.Need-sub-if1
-sub-if1 c = ?
+sub-if1 c =
+    let S = c .before .before .before .before in
+    let img = S .args .image .now in
+    omega (arith, c .at .ensures, shape-area img (S .args .shape) (S .pre .shape), opened-facts img (S .pre .accepted) .free-low,
+      c .before .read-u32 .ensures)
 
--- src/lib.rt:72:62
 mul-if1 : tie.Need-mul-if1
 mul-if1 c = search needs
 
--- src/lib.rt:73:9
 sweep-small-requires : tie.Need-sweep-small-requires
 sweep-small-requires c κs = search needs
 
--- src/lib.rt:73:9
 returns : tie.Need-returns
 returns c = search needs
 
--- src/lib.rt:75:5
 sweep-large-requires : tie.Need-sweep-large-requires
 sweep-large-requires c κs = search needs
 
--- src/lib.rt:67:1
 returns-2 : tie.Need-returns-2
 returns-2 c = search needs
 
