@@ -5,14 +5,14 @@
 --     or-in, or-out      the mask's bits put in
 -- Assumes nothing.
 use mathlib.Core.Path.{_≡_, refl, sym, ap, ap₂, _∙_}
-use Prim.Native.Nat.{ℕ, zero, suc, _+_, _-_, _/_, _%_, _^_, _≤_, _<_}
+use Prim.Native.Nat.{ℕ, zero, suc, _-_, _/_, _%_, _^_, _≤_, _<_}
 use native.Mathlib.Omega.{arith}
 use mathlib.Core.Bool.{Bool, true, false, cond, not, _&&_, _||_, and-false}
 use mathlib.Core.Logic.{_⊎_, inl, inr}
 use lib.Dec.{leb, ltb, eqb}
-use lib.Bits.{bitAnd, bitOr, and-mask, and-le-l, and-le-r, and-zero-r, or-zero-l, or-zero-r, and-shr, and-mod, or-shr, or-mod}
+use lib.Bits.{bitAnd, bitOr, and-mask, and-le-l, and-le-r, and-zero-r, or-zero-r, and-shr, and-mod, or-shr, or-mod}
 use lib.Pow.{shr-le}
-use borrow.Author.Tests.{eqb-true, eqb-false, eq-eqb, ne-eqb, le-leb, lt-leb, lt-ltb, le-ltb, ltb-true, not-true}
+use borrow.Author.Tests.{eqb-true, eqb-false, ne-eqb, le-leb, lt-leb, lt-ltb, le-ltb, ltb-true, not-true}
 use Rattle.bhtf.proofs.Tests.{by-bool, by-eq, by-le, and-left, and-right, and-true, not-both}
 use Rattle.overlap.specs.Marks.{bit}
 
@@ -106,6 +106,7 @@ byte-bit x h n = on (sought 8 (λ j. eqb (bit x j) 0))
   where
     passed : eqb x 0 || not (every 8 (λ j. eqb (bit x j) 0)) ≡ true
     passed = every-at 256 (λ x. eqb x 0 || not (every 8 (λ j. eqb (bit x j) 0))) byte-tested x h
+
     on : ((j : ℕ) × (j < 8) × (eqb (bit x j) 0 ≡ false)) ⊎ (every 8 (λ j. eqb (bit x j) 0) ≡ true)
         → (j : ℕ) × (j < 8) × (bit x j ≡ 1)
     on (inl w) = (w .0, w .1, omega (arith, bit-small x (w .0), eqb-false (bit x (w .0)) 0 (w .2)))

@@ -1,5 +1,6 @@
 pub mod Bits
 pub mod Claims
+pub mod First
 pub mod Passes
 pub mod Pieces
 pub mod Reading

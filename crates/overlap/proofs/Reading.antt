@@ -12,17 +12,17 @@ use lib.ListN.{length}
 use borrow.Author.Tests.{ne-eqb, eq-eqb}
 use Rattle.bhtf.specs.Bytes.{Bytes}
 use Rattle.bhtf.specs.Limits.{dataField, freeField}
-use Rattle.bhtf.specs.Image.{field, Layout, layoutOf, vacant, slot, offsetOf}
+use Rattle.bhtf.specs.Image.{field, layoutOf}
 use Rattle.bhtf.specs.Messages.{headSize, lengthAt}
 use Rattle.bhtf.specs.Inspect.{taken}
 use Rattle.bhtf.proofs.Tests.{by-bool, by-eq}
-use Rattle.bhtf.proofs.Stretch.{size}
-use Rattle.bhtf.proofs.Opened.{Opened, opened-facts}
-use Rattle.bhtf.proofs.Effects.{area-above, message-low, message-end}
+use Rattle.bhtf.proofs.Opened.{opened-facts}
+use Rattle.bhtf.proofs.Effects.{message-low, message-end}
 use Rattle.layout.specs.Shapes.{shapeOf}
 use Rattle.layout.specs.declared.shape.Shape.{Shape}
 use Rattle.table.specs.Slots.{vacantIn, offsetIn}
-use Rattle.overlap.specs.Stretches.{stretchStart, stretchEnd, endAt, startIn, endIn, Readable, Checked}
+use Rattle.overlap.specs.Checked.{startIn, endIn, Readable, Checked}
+use Rattle.overlap.specs.Stretches.{stretchStart, stretchEnd, endAt}
 
 module _ (img : Bytes) (i : ℕ) where
   start-is : (b : Bool) → vacantIn img i ≡ b → startIn img i ≡ cond (not b) (offsetIn img i) 0

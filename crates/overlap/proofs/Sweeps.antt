@@ -4,21 +4,20 @@
 --     checked-below, lying      of an image whose taken slots were checked
 -- Assumes nothing.
 use mathlib.Core.Path.{_≡_, refl, sym, ap, _∙_, subst}
-use Prim.Native.Nat.{ℕ, zero, suc, _+_, _≤_, _<_, max}
+use Prim.Native.Nat.{ℕ, zero, suc, _≤_, _<_, max}
 use native.Mathlib.Omega.{arith}
 use mathlib.Core.Bool.{Bool, true, false, _&&_, _||_}
-use mathlib.Core.Option.{Option, none, some}
 use lib.Dec.{ltb}
 use borrow.Author.Tests.{lt-ltb, ltb-true}
 use Rattle.bhtf.specs.Bytes.{Bytes}
 use Rattle.bhtf.specs.Image.{field, layoutOf}
 use Rattle.bhtf.specs.Limits.{dataField, freeField}
-use Rattle.bhtf.specs.Inspect.{lowest}
-use Rattle.bhtf.proofs.Tests.{by-bool, by-le, by-eq, and-left, and-right, and-true, or-right, not-both}
-use Rattle.bhtf.proofs.Verdict.{lowest-some, lowest-none}
+use Rattle.bhtf.proofs.Tests.{by-bool, by-le, by-eq, and-left, and-right, and-true, or-right}
 use Rattle.layout.specs.declared.shape.Shape.{Shape}
-use Rattle.overlap.specs.Stretches.{startIn, endIn, meets, someBelow, meetsLower, slotOr, firstMeeting, Checked}
-use Rattle.overlap.specs.Windows.{Clear, Swept}
+use Rattle.overlap.specs.Checked.{startIn, endIn, Checked}
+use Rattle.overlap.specs.Stretches.{meets, someBelow, meetsLower, firstMeeting}
+use Rattle.overlap.specs.Windows.{Swept}
+use Rattle.overlap.proofs.First.{first-is}
 use Rattle.overlap.proofs.Reading.{start-above, stretched, checked-slot}
 
 -- every stretch below the bound is not empty and lies between two places
@@ -39,14 +38,14 @@ module _ (start stop : ℕ → ℕ) (bound low high : ℕ) (lie : Lying start st
         };
       }
 
-  -- two slots that meet share a place
-  pub swept-apart : (at best carried : ℕ) → Swept start stop bound at best carried → high ≤ at → (i j : ℕ) → i < best → j < i
+  -- two slots that meet share the place where the later one starts
+  swept-apart : (at best carried : ℕ) → Swept start stop bound at best carried → high ≤ at → (i j : ℕ) → i < best → j < i
       → start i < stop j → start j < stop i → ⊥
   swept-apart at best carried w h i j a b c d =
       let li = lie i (omega (arith, w .low)) (omega arith) in
       let lj = lie j (omega (arith, w .low)) (omega arith) in
-      w .clear .apart j i (max (start i) (start j)) b a (omega (arith, li, lj)) (omega arith) (omega (arith, li, lj)) (omega arith)
-      (omega (arith, li, lj))
+      w .clear .apart j i (max (start i) (start j)) b a (omega (arith, li, lj))
+      (omega arith) (omega (arith, li, lj)) (omega arith) (omega (arith, li, lj))
 
 pub swept-on : (start stop : ℕ → ℕ) (bound lo hi best carried best′ carried′ : ℕ) → Swept start stop bound lo best carried
     → Swept start stop best hi best′ carried′ → Swept start stop bound hi best′ carried′
@@ -62,8 +61,7 @@ swept-on start stop bound lo hi best carried best′ carried′ w v =
       clear = v .clear;
     }
 
--- ---- the lowest slot
-
+-- ---- some number below n
 some-false : (p : ℕ → Bool) (n : ℕ) → ((k : ℕ) → k < n → p k ≡ false) → someBelow p n ≡ false
 unfolding someBelow
 some-false p zero h = refl
@@ -76,22 +74,6 @@ some-true p (suc n) k l e =
     by-eq k n
     (λ z. ap (λ (b : Bool). b || someBelow p n) (ap p (sym z) ∙ e))
     (λ z. or-right (p n) (someBelow p n) (some-true p n k (omega arith) e))
-
-first-is : (p : ℕ → Bool) (bound best : ℕ) → best ≤ bound → (best < bound → p best ≡ true)
-    → ((k : ℕ) → k < best → p k ≡ false) → best ≡ slotOr bound (lowest p bound 0)
-unfolding slotOr
-first-is p bound best low yes′ no′ = on (lowest p bound 0) refl
-  where
-    on : (o : Option ℕ) → lowest p bound 0 ≡ o → best ≡ slotOr bound o
-    on none e =
-        by-le bound best (λ h. omega arith)
-        (λ h. absurd (not-both (p best) (yes′ h) (lowest-none p bound 0 e best (omega arith) (omega arith))))
-    on (some j) e =
-        let f = lowest-some p bound 0 j e in
-        by-le best j
-        (λ h. by-le j best (λ k. omega arith)
-        (λ k. absurd (not-both (p best) (yes′ (omega (arith, f .1))) (f .3 best (omega arith) k))))
-        (λ h. absurd (not-both (p j) (f .2) (no′ j h)))
 
 module _ (img : Bytes) (s : Shape) (bound : ℕ) (checked : Checked img s bound) where
   pub checked-below : (best : ℕ) → best ≤ bound → Checked img s best
@@ -108,22 +90,26 @@ module _ (img : Bytes) (s : Shape) (bound : ℕ) (checked : Checked img s bound)
       let w = stretched img s i (checked-slot img s bound checked i l) (start-above img i z) in
       (w .low, omega (arith, w .order), w .high)
 
-  pub swept-first : (at best carried : ℕ) → Swept (startIn img) (endIn img) bound at best carried → field img freeField ≤ at
-      → best ≡ firstMeeting (layoutOf img) img bound
+  pub swept-first : (at best carried : ℕ) → Swept (startIn img) (endIn img) bound at best carried
+      → field img freeField ≤ at → best ≡ firstMeeting (layoutOf img) img bound
   unfolding firstMeeting meetsLower meets
   swept-first at best carried w h =
-      first-is (meetsLower (layoutOf img) img) bound best (w .low)
+      let g = layoutOf img in
+      let D = field img dataField in
+      let X = field img freeField in
+      first-is (meetsLower g img) bound best (w .low)
       (λ l.
       let f = w .found l in
-      some-true (meets (layoutOf img) img best) best (f .0) (f .1)
+      some-true (meets g img best) best (f .0) (f .1)
       (and-true (ltb (startIn img best) (endIn img (f .0))) (ltb (startIn img (f .0)) (endIn img best))
       (lt-ltb (startIn img best) (endIn img (f .0)) (f .3)) (lt-ltb (startIn img (f .0)) (endIn img best) (f .2))))
       (λ i l.
-      some-false (meets (layoutOf img) img i) i
+      some-false (meets g img i) i
       (λ j k.
       let a = ltb (startIn img i) (endIn img j) in
       let b = ltb (startIn img j) (endIn img i) in
       by-bool (a && b)
-      (λ e. absurd (swept-apart (startIn img) (endIn img) bound (field img dataField) (field img freeField) lying at best carried w h i j l k
+      (λ e.
+      absurd (swept-apart (startIn img) (endIn img) bound D X lying at best carried w h i j l k
       (ltb-true (startIn img i) (endIn img j) (and-left a b e)) (ltb-true (startIn img j) (endIn img i) (and-right a b e))))
       (λ e. e)))

@@ -1,10 +1,10 @@
 -- Marks, 8 to a byte: place q is bit q % 8 of byte q / 8.
---     Claimed m m′ from to met      a mark was met in the stretch from .. to, or all of it, and nothing else, is marked now
+--     Claimed m m′ from to met      a place from `from` up to `to` was marked in m; or none was, and in m′ they all are
 -- Assumes nothing.
 use mathlib.Core.Path.{_≡_}
 use mathlib.Core.Bool.{Bool, true, false}
 use mathlib.Core.Logic.{_⊎_}
-use Prim.Native.Nat.{ℕ, _+_, _/_, _%_, _^_, _≤_, _<_}
+use Prim.Native.Nat.{ℕ, _/_, _%_, _^_, _≤_, _<_}
 use lib.ListN.{getD}
 use Rattle.bhtf.specs.Bytes.{Bytes}
 

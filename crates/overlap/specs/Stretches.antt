@@ -1,23 +1,18 @@
--- Document 02, Job 1: "A taken slot with an offset other than 0 also fails the check when its stretch, from its header to the
--- end of its message, meets the stretch of a lower-numbered taken slot." Inactive messages have stretches too; equal offsets
--- meet, and a stretch that begins where another ends does not.
---     stretchStart, stretchEnd      of a slot; both 0 where it has no stretch, so that it meets none
+-- Document 02, Job 1: "A taken slot with an offset other than 0 also fails the check when its stretch, from its header
+-- to the end of its message, meets the stretch of a lower-numbered taken slot." Inactive messages have stretches too; equal
+-- offsets meet, and a stretch that begins where another ends does not.
+--     stretchStart, stretchEnd      of a slot; both 0 where it has none, so that it meets none
 --     meets g img i j, meetsLower g img i
 --     firstMeeting g img bound      the lowest slot below the bound that meets a lower-numbered one
---     Readable img s i, Checked img s bound      what is asked of slot i, and of every slot below a bound
 -- Assumes nothing.
-use mathlib.Core.Path.{_≡_}
-use Prim.Native.Nat.{ℕ, zero, suc, _+_, _≤_, _<_}
-use mathlib.Core.Bool.{Bool, true, false, cond, _&&_, _||_}
+use Prim.Native.Nat.{ℕ, zero, suc, _+_}
+use mathlib.Core.Bool.{Bool, false, cond, _&&_, _||_}
 use mathlib.Core.Option.{Option, none, some}
 use lib.Dec.{ltb, eqb}
 use Rattle.bhtf.specs.Bytes.{Bytes}
-use Rattle.bhtf.specs.Image.{Layout, layoutOf, slot, offsetOf}
+use Rattle.bhtf.specs.Image.{Layout, slot, offsetOf}
 use Rattle.bhtf.specs.Messages.{headSize, lengthAt}
-use Rattle.bhtf.specs.Questions.{messageSound, openNumber}
 use Rattle.bhtf.specs.Inspect.{taken, lowest}
-use Rattle.layout.specs.Shapes.{shapeOf}
-use Rattle.layout.specs.declared.shape.Shape.{Shape}
 
 unfoldable pub stretchStart : Layout → Bytes → ℕ → ℕ
 stretchStart g img i = cond (taken g img i) (offsetOf g (slot g img i)) 0
@@ -29,7 +24,7 @@ endAt g img o = cond (eqb o 0) 0 (o + headSize g + lengthAt g img o)
 unfoldable pub stretchEnd : Layout → Bytes → ℕ → ℕ
 stretchEnd g img i = endAt g img (stretchStart g img i)
 
--- two stretches share a byte
+-- the stretches of two slots share a byte
 unfoldable pub meets : Layout → Bytes → ℕ → ℕ → Bool
 meets g img i j =
     ltb (stretchStart g img i) (stretchEnd g img j) && ltb (stretchStart g img j) (stretchEnd g img i)
@@ -42,34 +37,11 @@ someBelow p (suc n) = p n || someBelow p n
 unfoldable pub meetsLower : Layout → Bytes → ℕ → Bool
 meetsLower g img i = someBelow (meets g img i) i
 
--- the slot, or n where there is none
-unfoldable pub slotOr : ℕ → Option ℕ → ℕ
-slotOr n none = n
-slotOr n (some i) = i
+-- the number, or n where there is none
+unfoldable pub numberOr : ℕ → Option ℕ → ℕ
+numberOr n none = n
+numberOr n (some i) = i
 
--- The lowest slot below a bound whose stretch meets that of a lower-numbered one; the bound where there is none.
+-- the lowest slot below a bound whose stretch meets that of a lower-numbered one; the bound where there is none
 unfoldable pub firstMeeting : Layout → Bytes → ℕ → ℕ
-firstMeeting g img bound = slotOr bound (lowest (meetsLower g img) bound 0)
-
--- ---- the same of an image, by the layout that its header gives
-abbrev pub startIn : Bytes → ℕ → ℕ
-startIn img i = stretchStart (layoutOf img) img i
-
-abbrev pub endIn : Bytes → ℕ → ℕ
-endIn img i = stretchEnd (layoutOf img) img i
-
--- what a read of slot i asks: its message, where it is taken, passes question 11
-pub record Readable (img : Bytes) (s : Shape) (i : ℕ) : Type 0 where
-  pub accepted : openNumber img ≡ 0
-  pub shape : s ≡ shapeOf img
-  pub low : i < s .slots
-  pub message : taken (layoutOf img) img i ≡ true
-      → messageSound (layoutOf img) img (offsetOf (layoutOf img) (slot (layoutOf img) img i)) ≡ true
-
--- the same of every slot below a bound
-pub record Checked (img : Bytes) (s : Shape) (bound : ℕ) : Type 0 where
-  pub accepted : openNumber img ≡ 0
-  pub shape : s ≡ shapeOf img
-  pub low : bound ≤ s .slots
-  pub messages : (i : ℕ) → i < bound → taken (layoutOf img) img i ≡ true
-      → messageSound (layoutOf img) img (offsetOf (layoutOf img) (slot (layoutOf img) img i)) ≡ true
+firstMeeting g img bound = numberOr bound (lowest (meetsLower g img) bound 0)

@@ -8,7 +8,7 @@ use Prim.Native.Nat.{ℕ, _≤_, _<_}
 use lib.Dec.{leb, ltb}
 use Rattle.bhtf.specs.Bytes.{Bytes}
 use Rattle.layout.specs.declared.shape.Shape.{Shape}
-use Rattle.overlap.specs.Stretches.{startIn, endIn, Checked}
+use Rattle.overlap.specs.Checked.{startIn, endIn, Checked}
 
 -- a start that lies in the window lo .. hi, else hi
 unfoldable pub within : ℕ → ℕ → ℕ → ℕ
@@ -29,8 +29,8 @@ pub record Carried (start stop lo i carried : ℕ) : Type 0 where
   pub is : start < lo → lo < stop → i ≡ carried
   pub crosses : i ≡ carried → (start < lo) × (lo < stop)
 
--- No two slots below `best` share a place below `at`; and `carried` is the one slot below it, if there is one, whose stretch
--- goes on across `at`.
+-- No two slots below `best` share a place below `at`; and `carried` is the one slot below it, if there is one, whose
+-- stretch goes on across `at`.
 pub record Clear (start stop : ℕ → ℕ) (at best carried : ℕ) : Type 0 where
   pub apart : (i j q : ℕ) → i < j → j < best → q < at → start i ≤ q → q < stop i → start j ≤ q → q < stop j → ⊥
   pub carries : (i : ℕ) → i < best → start i < at → at < stop i → i ≡ carried

@@ -6,6 +6,7 @@
 pub mod marks;
 pub mod stretch;
 pub mod window;
+
 use crate::marks::lesser;
 use crate::window::window;
 use layout::shape::Shape;
@@ -15,7 +16,8 @@ ghost use mathlib.Core.Path.{_≡_};
 ghost use Prim.Native.Nat.{_^_, _<_};
 ghost use lib.ListN.{length};
 ghost use Rattle.bhtf.specs.Image.{layoutOf};
-ghost use Rattle.overlap.specs.Stretches.{Checked, firstMeeting};
+ghost use Rattle.overlap.specs.Checked.{Checked};
+ghost use Rattle.overlap.specs.Stretches.{firstMeeting};
 
 // The bytes of the two maps of marks.
 const SMALL_MAP: usize = 4096;
@@ -35,7 +37,15 @@ fn sweep(image: &[u8], shape: Shape, map: &mut [u8], bound: usize) -> usize
     while lo < free {
         let span = lesser(8 * map.len(), free - lo);
         let cells = (span + 7) / 8;
-        let front = window(image, shape, &mut map[..cells], lo, lo + span, best, carried);
+        let front = window(
+            image,
+            shape,
+            &mut map[..cells],
+            lo,
+            lo + span,
+            best,
+            carried,
+        );
         best = front.best;
         carried = front.carried;
         lo += span;

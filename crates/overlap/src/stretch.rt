@@ -7,7 +7,7 @@ use table::is_vacant;
 use table::offset_of;
 ghost use mathlib.Core.Path.{_≡_};
 ghost use Prim.Native.Nat.{_<_, _≤_};
-ghost use Rattle.overlap.specs.Stretches.{startIn, endIn, Readable};
+ghost use Rattle.overlap.specs.Checked.{startIn, endIn, Readable};
 ghost use Rattle.overlap.specs.Windows.{within, Piece, Carried};
 
 // What a window shows of a slot's stretch: where it starts there, and where it ends. Nothing where both are the window's end.

@@ -12,7 +12,7 @@ ghost use Prim.Native.Nat.{ℕ, _-_, _*_, _≤_};
 ghost use lib.Dec.{ltb};
 ghost use lib.ListN.{length};
 ghost use Rattle.overlap.specs.Marks.{marked};
-ghost use Rattle.overlap.specs.Stretches.{startIn, endIn};
+ghost use Rattle.overlap.specs.Checked.{startIn, endIn};
 ghost use Rattle.overlap.specs.Windows.{Window, Swept};
 
 // The lowest slot known to meet a lower-numbered one, and the slot below it whose stretch goes on across the window's end.
@@ -29,7 +29,15 @@ fn carried_on(end: usize, hi: usize, i: usize, next: usize) -> usize
 }
 
 // The slots below `best` in the window from lo up to hi, whose marks are all clear.
-fn pass(image: &[u8], shape: Shape, map: &mut [u8], lo: usize, hi: usize, best: usize, carried: usize) -> Front
+fn pass(
+    image: &[u8],
+    shape: Shape,
+    map: &mut [u8],
+    lo: usize,
+    hi: usize,
+    best: usize,
+    carried: usize,
+) -> Front
     requires { ⌜ Window (now image) shape lo hi best carried × (hi - lo ≤ 8 * length (now map))
         × ((q : ℕ) → marked (now map) q ≡ 0) ⌝ }
     ensures { λ r. ⌜ Swept (startIn (now (image .entry))) (endIn (now (image .entry))) best hi (r .best) (r .carried) ⌝ }
@@ -56,7 +64,15 @@ fn pass(image: &[u8], shape: Shape, map: &mut [u8], lo: usize, hi: usize, best: 
 }
 
 // The same with any marks, which are cleared first.
-pub fn window(image: &[u8], shape: Shape, map: &mut [u8], lo: usize, hi: usize, best: usize, carried: usize) -> Front
+pub fn window(
+    image: &[u8],
+    shape: Shape,
+    map: &mut [u8],
+    lo: usize,
+    hi: usize,
+    best: usize,
+    carried: usize,
+) -> Front
     requires { ⌜ Window (now image) shape lo hi best carried × (hi - lo ≤ 8 * length (now map)) ⌝ }
     ensures { λ r. ⌜ Swept (startIn (now (image .entry))) (endIn (now (image .entry))) best hi (r .best) (r .carried) ⌝ }
 {

@@ -21,8 +21,13 @@ sub-if1 : tie.Need-sub-if1
 sub-if1 c =
     let S = c .before .before .before .before in
     let img = S .args .image .now in
-    omega (arith, c .at .ensures, shape-area img (S .args .shape) (S .pre .shape), opened-facts img (S .pre .accepted) .free-low,
-      c .before .read-u32 .ensures)
+    omega (
+      arith,
+      c .at .ensures,
+      shape-area img (S .args .shape) (S .pre .shape),
+      opened-facts img (S .pre .accepted) .free-low,
+      c .before .read-u32 .ensures,
+    )
 
 mul-if1 : tie.Need-mul-if1
 mul-if1 c = search needs

@@ -1,26 +1,19 @@
 -- `overlap::sweep` meets its contract: below `lo` all is swept. Assumes nothing.
-use mathlib.Core.Path.{_≡_, refl, sym, ap, _∙_, subst}
-use Prim.Native.Nat.{ℕ, _+_, _-_, _*_, _/_, _≤_, _<_, min}
+use mathlib.Core.Path.{_≡_, refl, sym, _∙_, subst}
+use Prim.Native.Nat.{ℕ, _+_, _-_, _/_, _≤_}
 use native.Mathlib.Omega.{arith}
 use lib.ListN.{length, take}
 use lib.Seq.{length-take-le, length-front}
-use Rattle.bhtf.specs.Bytes.{Bytes}
-use Rattle.bhtf.specs.Image.{field, layoutOf}
+use Rattle.bhtf.specs.Image.{field}
 use Rattle.bhtf.specs.Limits.{dataField, freeField}
 use Rattle.bhtf.proofs.Opened.{opened-facts}
 use Rattle.bhtf.proofs.Effects.{area-above}
-use Rattle.overlap.specs.Stretches.{startIn, endIn}
+use Rattle.overlap.specs.Checked.{startIn, endIn}
 use Rattle.overlap.specs.Windows.{Swept}
 use Rattle.overlap.proofs.Reading.{shape-area}
 use Rattle.overlap.proofs.Sweeps.{swept-start, swept-on, swept-first, checked-below, lying}
 use Rattle.overlap.proofs.sweep.Statement.{statement}
 use Rattle.overlap.proofs.sweep.Tie as tie
-use Rattle.overlap.proofs.sweep.Reads as reads
-use Rattle.overlap.proofs.sweep.Lts as lts
-use Rattle.layout.proofs.places.Offset.at.Reads as at-reads
-use Rattle.overlap.proofs.marks.lesser.Reads as lesser-reads
-use Rattle.overlap.proofs.window.window.Reads as window-reads
-use Rattle.words.proofs.fields.read_u32.Reads as read-u32-reads
 
 abbrev Inv-loop : tie.InvT-loop
 Inv-loop image shape map₀ bound free lo₀ best₀ carried₀ map lo best carried =

@@ -4,10 +4,6 @@ use native.Mathlib.Omega.{arith}
 use Rattle.overlap.proofs.Claims.{Claiming, claiming-start, claiming-on, claiming-met, claiming-end}
 use Rattle.overlap.proofs.marks.claim.Statement.{statement}
 use Rattle.overlap.proofs.marks.claim.Tie as tie
-use Rattle.overlap.proofs.marks.claim.Reads as reads
-use Rattle.overlap.proofs.marks.claim.Lts as lts
-use Rattle.overlap.proofs.marks.lesser.Reads as lesser-reads
-use Rattle.overlap.proofs.marks.mask.Reads as mask-reads
 
 abbrev Inv-loop : tie.InvT-loop
 Inv-loop map₀ from to q₀ map q = Claiming map₀ map from to q

@@ -3,7 +3,7 @@ use native.Mathlib.Omega.{arith}
 use mathlib.Core.Path.{_≡_, sym, _∙_}
 use borrow.Author.Needs.{needs}
 use Prim.Native.Nat.{_+_}
-use Rattle.overlap.specs.Stretches.{startIn, endIn}
+use Rattle.overlap.specs.Checked.{startIn, endIn}
 use Rattle.overlap.proofs.Reading.{start-taken, Stretched, stretched, end-read}
 use Rattle.overlap.proofs.stretch.end_of.Statement.{statement}
 use Rattle.overlap.proofs.stretch.end_of.Tie as tie
@@ -20,9 +20,10 @@ start-read : (c : tie.After-offset-of)
 start-read c =
     let S = c .before .before in
     let A = S .args in
-    let z = S .pre .1 in
-    (c .offset-of .ensures ∙ sym (start-taken (A .image .now) (A .i .0) z .1),
-      stretched (A .image .now) (A .shape) (A .i .0) (S .pre .0) z)
+    let z = S .pre .1 in (
+      c .offset-of .ensures ∙ sym (start-taken (A .image .now) (A .i .0) z .1),
+      stretched (A .image .now) (A .shape) (A .i .0) (S .pre .0) z,
+    )
 
 text-start-requires : tie.Need-text-start-requires
 text-start-requires c κs =
@@ -50,7 +51,7 @@ sum-read c =
       c .before .at .ensures,
       c .before .before .text-start .ensures,
       end-read (A .image .now) (A .i .0) (S .pre .1) (O .offset-of .result .0) (c .length-at .result) (O .offset-of .ensures)
-      (c .length-at .ensures),
+          (c .length-at .ensures),
     )
 
 add-result : tie.Need-add-result

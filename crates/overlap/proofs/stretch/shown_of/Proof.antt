@@ -1,9 +1,9 @@
 -- `overlap::stretch::shown_of` meets its contract. Assumes nothing.
 use native.Mathlib.Omega.{arith}
-use mathlib.Core.Path.{_≡_, sym, _∙_, subst}
+use mathlib.Core.Path.{sym, _∙_, subst}
 use Prim.Native.Nat.{ℕ, _<_}
 use borrow.Author.Needs.{needs}
-use Rattle.overlap.specs.Stretches.{startIn, endIn}
+use Rattle.overlap.specs.Checked.{startIn, endIn}
 use Rattle.overlap.specs.Windows.{Piece}
 use Rattle.overlap.proofs.Reading.{start-above, stretched}
 use Rattle.overlap.proofs.Pieces.{within-in, within-at, piece-carried, piece-here, piece-none}

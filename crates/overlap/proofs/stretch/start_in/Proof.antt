@@ -2,7 +2,7 @@
 use native.Mathlib.Omega.{arith}
 use mathlib.Core.Path.{_≡_, sym, _∙_}
 use borrow.Author.Needs.{needs}
-use Rattle.overlap.specs.Stretches.{startIn}
+use Rattle.overlap.specs.Checked.{startIn}
 use Rattle.overlap.proofs.Reading.{start-none, start-some, start-low, start-high}
 use Rattle.overlap.proofs.Pieces.{within-low, within-not, within-in}
 use Rattle.overlap.proofs.stretch.start_in.Statement.{statement}

@@ -5,21 +5,13 @@ use mathlib.Core.Bool.{Bool}
 use Prim.Native.Nat.{ℕ, _-_}
 use native.Mathlib.Omega.{arith}
 use lib.ListN.{length}
-use Rattle.bhtf.specs.Bytes.{Bytes}
 use Rattle.overlap.specs.Marks.{Claimed}
-use Rattle.overlap.specs.Stretches.{startIn, endIn, Readable}
+use Rattle.overlap.specs.Checked.{startIn, endIn, Readable}
 use Rattle.overlap.specs.Windows.{Piece, Carried}
 use Rattle.overlap.proofs.Reading.{checked-slot}
 use Rattle.overlap.proofs.Passes.{Passing, clear-carried, passing-start, passing-on, passing-met, passing-end}
 use Rattle.overlap.proofs.window.pass.Statement.{statement}
 use Rattle.overlap.proofs.window.pass.Tie as tie
-use Rattle.overlap.proofs.window.pass.Reads as reads
-use Rattle.overlap.proofs.window.pass.Lts as lts
-use Rattle.layout.proofs.places.Slot.new.Reads as new-reads
-use Rattle.overlap.proofs.marks.claim.Reads as claim-reads
-use Rattle.overlap.proofs.marks.lesser.Reads as lesser-reads
-use Rattle.overlap.proofs.stretch.shown_of.Reads as shown-of-reads
-use Rattle.overlap.proofs.window.carried_on.Reads as carried-on-reads
 
 abbrev Inv-loop : tie.InvT-loop
 Inv-loop image shape map₀ lo hi best carried next₀ i₀ map next i =
@@ -79,9 +71,10 @@ sub-claim-2 c =
 claim-requires : tie.Need-claim-requires Inv-loop μ-loop
 claim-requires c κs =
     let p = piece (c .before .before) in
-    let L = c .before .before .before .before .before in
-    (omega (arith, p .low, p .order, p .high, c .lesser .ensures),
-      omega (arith, c .lesser .ensures, L .before .before .before .pre .1, L .loop .inv .0))
+    let L = c .before .before .before .before .before in (
+      omega (arith, p .low, p .order, p .high, c .lesser .ensures),
+      omega (arith, c .lesser .ensures, L .before .before .before .pre .1, L .loop .inv .0),
+    )
 
 same-length : tie.Need-same-length Inv-loop μ-loop
 same-length c =

@@ -1,6 +1,5 @@
 -- `overlap::window::window` meets its contract: a map that is cleared marks no place. Assumes nothing.
 use native.Mathlib.Omega.{arith}
-use mathlib.Core.Path.{_∙_}
 use borrow.Author.Needs.{needs}
 use Rattle.overlap.proofs.Claims.{marked-zeros}
 use Rattle.overlap.proofs.window.window.Statement.{statement}
