@@ -68,7 +68,8 @@ module _ (a b : ℕ) (order : a ≤ b) (high : b ≤ 8) where
 
   pub mask-byte : 2 ^ b - 2 ^ a < 256
   mask-byte =
-      ltb-true _ _ (and-right (eqb (bit (2 ^ b - 2 ^ a) 0) (cond (leb a 0 && ltb 0 b) 1 0)) _ (mask-passed 0 (omega arith)))
+      ltb-true _ _
+      (and-right (eqb (bit (2 ^ b - 2 ^ a) 0) (cond (leb a 0 && ltb 0 b) 1 0)) _ (mask-passed 0 (omega arith)))
 
   mask-in : (j : ℕ) → a ≤ j → j < b → bit (2 ^ b - 2 ^ a) j ≡ 1
   mask-in j h k = mask-bit j (omega arith) ∙ rw (le-leb a j h, lt-ltb j b k)

@@ -1,5 +1,5 @@
 -- The loop that claims places: from the first on, one byte of the map a turn.
---     Claiming m m′ from to q      the places from `from` up to q are marked in m′ and were not in m; the others are as in m
+--     Claiming m m′ from to q      the places from `from` up to q are marked in m′ and not in m; the others are as in m
 --     marked-zeros      a map that is cleared marks no place
 --     claiming-start, claiming-on, claiming-met, claiming-end      its turns
 -- Assumes nothing.
@@ -55,7 +55,8 @@ getD-zeros (suc n) (suc k) = getD-zeros n k
 pub marked-zeros : (m : Bytes) (n : ℕ) → m ≡ zeros n → (q : ℕ) → marked m q ≡ 0
 unfolding marked
 marked-zeros m n e q =
-    ap (λ (t : Bytes). bit (getD t (q / 8) 0) (q % 8)) e ∙ ap (λ (x : ℕ). bit x (q % 8)) (getD-zeros n (q / 8)) ∙ bit-zero (q % 8)
+    ap (λ (t : Bytes). bit (getD t (q / 8) 0) (q % 8)) e ∙ ap (λ (x : ℕ). bit x (q % 8)) (getD-zeros n (q / 8))
+    ∙ bit-zero (q % 8)
 
 module _ (m m′ : Bytes) (from to q : ℕ) (w : Claiming m m′ from to q) (l : q < to) (room : to ≤ 8 * length m)
     (high bits : ℕ) (is : high ≡ min 8 (q % 8 + (to - q))) (mask : bits ≡ 2 ^ high - 2 ^ (q % 8)) where

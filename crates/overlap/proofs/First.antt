@@ -2,7 +2,7 @@
 --     first-is      it is known by three facts; first-low, first-yes, first-no give them back
 --     first-either      the lowest of either of two tests: the second is asked only below the first's
 -- Assumes nothing.
-use mathlib.Core.Path.{_≡_, refl, sym, ap, ap₂, _∙_}
+use mathlib.Core.Path.{_≡_, refl, ap, ap₂, _∙_}
 use Prim.Native.Nat.{ℕ, _≤_, _<_}
 use native.Mathlib.Omega.{arith}
 use mathlib.Core.Bool.{Bool, true, false, _||_}
@@ -36,7 +36,8 @@ first-is p n best low yes′ no′ = on (lowest p n 0) refl
 first-facts : (p : ℕ → Bool) (n : ℕ) (o : Option ℕ) → lowest p n 0 ≡ o
     → (numberOr n o ≤ n) × (numberOr n o < n → p (numberOr n o) ≡ true) × ((k : ℕ) → k < numberOr n o → p k ≡ false)
 unfolding numberOr
-first-facts p n none e = (omega arith, λ h. absurd (omega arith), λ k h. lowest-none p n 0 e k (omega arith) (omega arith))
+first-facts p n none e =
+    (omega arith, λ h. absurd (omega arith), λ k h. lowest-none p n 0 e k (omega arith) (omega arith))
 first-facts p n (some j) e =
     let f = lowest-some p n 0 j e in
     (omega (arith, f .1), λ h. f .2, λ k h. f .3 k (omega arith) h)

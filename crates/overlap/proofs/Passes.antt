@@ -1,5 +1,5 @@
 -- A pass through the window lo .. hi: the slots in rising order, each marking the places of its stretch.
---     Passing start stop lo hi best m i next      the slots below i were passed: m marks their places, no two of them share one
+--     Passing start stop lo hi best m i next      the slots below i were passed: m marks their places, no two share one
 --     passing-start, passing-on, passing-met, passing-end      its turns
 -- Assumes nothing.
 use mathlib.Core.Path.{_≡_, refl, sym, ap, _∙_, subst}
@@ -139,7 +139,8 @@ module _ (start stop : ℕ → ℕ) (lo hi best : ℕ) where
           let o = w .origin q a b (sym (marked-else q a s) ∙ e) in
           (o .0, omega (arith, o .1), o .2, o .3))
 
-      apart-on : (j k q : ℕ) → j < k → k < i + 1 → lo ≤ q → q < hi → start j ≤ q → q < stop j → start k ≤ q → q < stop k → ⊥
+      apart-on : (j k q : ℕ) → j < k → k < i + 1 → lo ≤ q → q < hi → start j ≤ q → q < stop j → start k ≤ q → q < stop k
+          → ⊥
       apart-on j k q a b c d e f g h =
           by-eq k i
           (λ z.
@@ -171,7 +172,10 @@ module _ (start stop : ℕ → ℕ) (lo hi best : ℕ) where
             apart = apart-on;
             carries = λ j a b c.
                 by-eq j i
-                (λ z. absurd (omega (arith, p .past (subst (λ (n : ℕ). start n < hi) z b) (subst (λ (n : ℕ). hi < stop n) z c))))
+                (λ z.
+                let b′ : start i < hi = subst (λ (n : ℕ). start n < hi) z b in
+                let c′ : hi < stop i = subst (λ (n : ℕ). hi < stop n) z c in
+                absurd (omega (arith, p .past b′ c′)))
                 (λ z. w .carries j (omega arith) b c);
             crosses = λ a. by-le i next (λ k. absurd (omega (arith, w .none k))) (λ k. w .crosses k);
             none = λ a. w .none (omega arith);

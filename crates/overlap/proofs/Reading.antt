@@ -1,13 +1,14 @@
 -- A slot's stretch, as code reads it.
---     start-none, start-some, start-high     by whether the slot is empty
---     end-none, end-some, end-read      where the stretch ends
---     Stretched, stretched     a stretch lies in the data area, and is not empty
---     checked-slot     what is asked of every slot below the bound is asked of one
+--     start-none, start-some, start-low, start-high, start-taken      where it starts, by whether the slot is empty
+--     start-above, end-read      where it ends
+--     Stretched, stretched      it lies in the data area, and is not empty
+--     checked-slot      what is asked of every slot below the bound is asked of one
 -- Assumes nothing.
 use mathlib.Core.Path.{_≡_, refl, sym, ap, _∙_}
 use Prim.Native.Nat.{ℕ, _+_, _^_, _≤_, _<_}
 use native.Mathlib.Omega.{arith}
 use mathlib.Core.Bool.{Bool, true, false, cond, not}
+use lib.Dec.{eqb}
 use lib.ListN.{length}
 use borrow.Author.Tests.{ne-eqb, eq-eqb}
 use Rattle.bhtf.specs.Bytes.{Bytes}
@@ -49,22 +50,23 @@ module _ (img : Bytes) (i : ℕ) where
   start-taken z =
       by-bool (vacantIn img i) (λ e. absurd (omega (arith, start-none e))) (λ e. (ap not e, start-some e))
 
-  pub end-none : startIn img i ≡ 0 → endIn img i ≡ 0
+  end-is : (b : Bool) → eqb (startIn img i) 0 ≡ b
+      → endIn img i ≡ cond b 0 (startIn img i + headSize (layoutOf img) + lengthAt (layoutOf img) img (startIn img i))
   unfolding stretchEnd endAt
-  end-none z =
-      ap (λ (b : Bool). cond b 0 (startIn img i + headSize (layoutOf img) + lengthAt (layoutOf img) img (startIn img i)))
-      (eq-eqb (startIn img i) 0 z)
+  end-is b e =
+      let o = startIn img i in
+      ap (λ (t : Bool). cond t 0 (o + headSize (layoutOf img) + lengthAt (layoutOf img) img o)) e
+
+  end-none : startIn img i ≡ 0 → endIn img i ≡ 0
+  end-none z = end-is true (eq-eqb (startIn img i) 0 z)
 
   -- what has an end has a start
   pub start-above : 0 < endIn img i → 0 < startIn img i
   start-above h = by-eq (startIn img i) 0 (λ z. absurd (omega (arith, end-none z))) (λ n. omega arith)
 
-  pub end-some : 0 < startIn img i
+  end-some : 0 < startIn img i
       → endIn img i ≡ startIn img i + headSize (layoutOf img) + lengthAt (layoutOf img) img (startIn img i)
-  unfolding stretchEnd endAt
-  end-some z =
-      ap (λ (b : Bool). cond b 0 (startIn img i + headSize (layoutOf img) + lengthAt (layoutOf img) img (startIn img i)))
-      (ne-eqb (startIn img i) 0 (λ e. omega arith))
+  end-some z = end-is false (ne-eqb (startIn img i) 0 (λ e. omega arith))
 
 -- a stretch lies in the data area, below X; its header's 4 bytes are in it
 pub record Stretched (img : Bytes) (i : ℕ) : Type 0 where
@@ -96,11 +98,12 @@ stretched img s i r z =
     }
 
 -- the end, as code adds it up from the offset o and the length m
-pub end-read : (img : Bytes) (i : ℕ) → 0 < startIn img i → (o m : ℕ) → o ≡ offsetIn img i → m ≡ lengthAt (layoutOf img) img o
-    → o + 4 + m ≡ endIn img i
+pub end-read : (img : Bytes) (i : ℕ) → 0 < startIn img i → (o m : ℕ) → o ≡ offsetIn img i
+    → m ≡ lengthAt (layoutOf img) img o → o + 4 + m ≡ endIn img i
 end-read img i z o m eo em =
+    let g = layoutOf img in
     let e : o ≡ startIn img i = eo ∙ sym (start-taken img i z .1) in
-    let l : lengthAt (layoutOf img) img o ≡ lengthAt (layoutOf img) img (startIn img i) = ap (lengthAt (layoutOf img) img) e in
+    let l : lengthAt g img o ≡ lengthAt g img (startIn img i) = ap (lengthAt g img) e in
     omega (arith, end-some img i z, head-four img)
 
 -- the data offset, as the code hands it on

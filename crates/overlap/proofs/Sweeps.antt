@@ -39,16 +39,17 @@ module _ (start stop : ℕ → ℕ) (bound low high : ℕ) (lie : Lying start st
       }
 
   -- two slots that meet share the place where the later one starts
-  swept-apart : (at best carried : ℕ) → Swept start stop bound at best carried → high ≤ at → (i j : ℕ) → i < best → j < i
-      → start i < stop j → start j < stop i → ⊥
+  swept-apart : (at best carried : ℕ) → Swept start stop bound at best carried → high ≤ at → (i j : ℕ) → i < best
+      → j < i → start i < stop j → start j < stop i → ⊥
   swept-apart at best carried w h i j a b c d =
       let li = lie i (omega (arith, w .low)) (omega arith) in
       let lj = lie j (omega (arith, w .low)) (omega arith) in
       w .clear .apart j i (max (start i) (start j)) b a (omega (arith, li, lj))
       (omega arith) (omega (arith, li, lj)) (omega arith) (omega (arith, li, lj))
 
-pub swept-on : (start stop : ℕ → ℕ) (bound lo hi best carried best′ carried′ : ℕ) → Swept start stop bound lo best carried
-    → Swept start stop best hi best′ carried′ → Swept start stop bound hi best′ carried′
+pub swept-on : (start stop : ℕ → ℕ) (bound lo hi best carried best′ carried′ : ℕ)
+    → Swept start stop bound lo best carried → Swept start stop best hi best′ carried′
+    → Swept start stop bound hi best′ carried′
 swept-on start stop bound lo hi best carried best′ carried′ w v =
     record {
       low = omega (arith, w .low, v .low);
@@ -111,5 +112,6 @@ module _ (img : Bytes) (s : Shape) (bound : ℕ) (checked : Checked img s bound)
       by-bool (a && b)
       (λ e.
       absurd (swept-apart (startIn img) (endIn img) bound D X lying at best carried w h i j l k
-      (ltb-true (startIn img i) (endIn img j) (and-left a b e)) (ltb-true (startIn img j) (endIn img i) (and-right a b e))))
+      (ltb-true (startIn img i) (endIn img j) (and-left a b e))
+      (ltb-true (startIn img j) (endIn img i) (and-right a b e))))
       (λ e. e)))

@@ -1,6 +1,6 @@
 -- Document 02, Job 1: "A taken slot with an offset other than 0 also fails the check when its stretch, from its header
--- to the end of its message, meets the stretch of a lower-numbered taken slot." Inactive messages have stretches too; equal
--- offsets meet, and a stretch that begins where another ends does not.
+-- to the end of its message, meets the stretch of a lower-numbered taken slot." Inactive messages have stretches too;
+-- equal offsets meet, and a stretch that begins where another ends does not.
 --     stretchStart, stretchEnd      of a slot; both 0 where it has none, so that it meets none
 --     meets g img i j, meetsLower g img i
 --     firstMeeting g img bound      the lowest slot below the bound that meets a lower-numbered one

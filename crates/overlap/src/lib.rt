@@ -1,5 +1,5 @@
-// Two points on one message: the lowest slot whose stretch meets that of a lower-numbered one. The data area is swept window by
-// window, each as wide as the map of marks, which lies on the stack; the image is only read.
+// Two points on one message: the lowest slot whose stretch meets that of a lower-numbered one. The data area is swept
+// window by window, each as wide as a map of marks on the stack. The image is only read.
 //     marks      a map of marks, 8 to a byte, claimed stretch by stretch
 //     stretch    a slot's stretch, and what a window shows of it
 //     window     the slots, in rising order, in one window
@@ -79,9 +79,8 @@ fn sweep_large(image: &[u8], shape: Shape, bound: usize) -> usize
     sweep_wide(image, shape, &mut map, bound)
 }
 
-// The lowest slot below `bound` whose stretch meets that of a lower-numbered taken slot; `bound` where there is none. Every taken
-// slot below `bound` has a message that passes question 11. A small data area is swept with a small map, which costs little to
-// clear.
+// The lowest slot below `bound` whose stretch meets that of a lower-numbered taken slot; `bound` where there is none.
+// Below `bound` every taken slot's message passes question 11. A small data area takes the small map: it is cheap to clear.
 pub fn first_meeting(image: &[u8], shape: Shape, bound: usize) -> usize
     requires { ⌜ Checked (now image) shape bound ⌝ }
     ensures { λ r. ⌜ r ≡ firstMeeting (layoutOf (now (image .entry))) (now (image .entry)) bound ⌝ }

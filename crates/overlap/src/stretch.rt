@@ -10,7 +10,8 @@ ghost use Prim.Native.Nat.{_<_, _≤_};
 ghost use Rattle.overlap.specs.Checked.{startIn, endIn, Readable};
 ghost use Rattle.overlap.specs.Windows.{within, Piece, Carried};
 
-// What a window shows of a slot's stretch: where it starts there, and where it ends. Nothing where both are the window's end.
+// What a window shows of a slot's stretch: where it starts there, and where it ends, which may lie past the window. Both
+// are the window's end where it shows nothing.
 pub struct Shown {
     pub from: usize,
     pub end: usize,
@@ -43,12 +44,13 @@ fn end_of(image: &[u8], shape: Shape, i: Slot) -> usize
     text_start(o).at() + length_at(image, o)
 }
 
-// What the window from lo up to hi shows of slot i; `carried` is the slot whose stretch goes on across lo. A message's header
-// is read only where the window shows it.
+// What the window from lo up to hi shows of slot i; `carried` is the slot whose stretch goes on across lo. Only a
+// message that the window shows is read.
 pub fn shown_of(image: &[u8], shape: Shape, i: Slot, lo: usize, hi: usize, carried: usize) -> Shown
     requires { ⌜ Readable (now image) shape (i .0) × (0 < lo) × (lo ≤ hi)
         × Carried (startIn (now image) (i .0)) (endIn (now image) (i .0)) lo (i .0) carried ⌝ }
-    ensures { λ r. ⌜ Piece (startIn (now (image .entry)) (i .0)) (endIn (now (image .entry)) (i .0)) lo hi (r .from) (r .end) ⌝ }
+    ensures { λ r. ⌜ Piece (startIn (now (image .entry)) (i .0)) (endIn (now (image .entry)) (i .0)) lo hi
+        (r .from) (r .end) ⌝ }
 {
     if i.number() == carried {
         return Shown {

@@ -1,5 +1,5 @@
-// A window of the data area: the slots in rising order, each marking the places of its stretch. The first that meets a mark
-// meets a lower-numbered slot and ends the pass.
+// A window of the data area: the slots in rising order, each marking the places of its stretch. The first that meets a
+// mark meets a lower-numbered slot and ends the pass.
 use crate::marks::claim;
 use crate::marks::lesser;
 use crate::stretch::shown_of;
@@ -15,7 +15,8 @@ ghost use Rattle.overlap.specs.Marks.{marked};
 ghost use Rattle.overlap.specs.Checked.{startIn, endIn};
 ghost use Rattle.overlap.specs.Windows.{Window, Swept};
 
-// The lowest slot known to meet a lower-numbered one, and the slot below it whose stretch goes on across the window's end.
+// best: the lowest slot known to meet a lower-numbered one, or the bound. carried: the slot below it whose stretch goes on
+// across the window's end, or a number that is not below it.
 pub struct Front {
     pub best: usize,
     pub carried: usize,
@@ -40,7 +41,8 @@ fn pass(
 ) -> Front
     requires { ⌜ Window (now image) shape lo hi best carried × (hi - lo ≤ 8 * length (now map))
         × ((q : ℕ) → marked (now map) q ≡ 0) ⌝ }
-    ensures { λ r. ⌜ Swept (startIn (now (image .entry))) (endIn (now (image .entry))) best hi (r .best) (r .carried) ⌝ }
+    ensures { λ r. ⌜ Swept (startIn (now (image .entry))) (endIn (now (image .entry))) best hi
+        (r .best) (r .carried) ⌝ }
 {
     let mut next = best;
     let mut i = 0;
@@ -74,7 +76,8 @@ pub fn window(
     carried: usize,
 ) -> Front
     requires { ⌜ Window (now image) shape lo hi best carried × (hi - lo ≤ 8 * length (now map)) ⌝ }
-    ensures { λ r. ⌜ Swept (startIn (now (image .entry))) (endIn (now (image .entry))) best hi (r .best) (r .carried) ⌝ }
+    ensures { λ r. ⌜ Swept (startIn (now (image .entry))) (endIn (now (image .entry))) best hi
+        (r .best) (r .carried) ⌝ }
 {
     zero(map);
     pass(image, shape, map, lo, hi, best, carried)

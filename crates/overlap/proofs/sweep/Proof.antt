@@ -46,7 +46,8 @@ loop-holds c =
       omega (arith, e),
       omega (arith, e, o .free-low, c .before .before .read-u32 .ensures),
       subst (λ (n : ℕ). Swept (startIn img) (endIn img) (A .bound) n (A .bound) (A .bound)) e
-          (swept-start (startIn img) (endIn img) (A .bound) (field img dataField) (field img freeField) (lying img (A .shape) (A .bound) C)),
+          (swept-start (startIn img) (endIn img) (A .bound) (field img dataField) (field img freeField)
+          (lying img (A .shape) (A .bound) C)),
     )
 
 mul-lesser : tie.Need-mul-lesser Inv-loop μ-loop
@@ -70,8 +71,9 @@ slice-relend-prefix-window c = omega (arith, c .lesser .ensures)
 
 slice-aggregate-window : tie.Need-slice-aggregate-window Inv-loop μ-loop
 slice-aggregate-window c =
-    let L = c .before .before .before in
-    sym (length-take-le ((c .before .lesser .result + 7) / 8) (L .loop .map) (omega (arith, c .before .lesser .ensures)))
+    let M = c .before in
+    let m = M .before .before .loop .map in
+    sym (length-take-le ((M .lesser .result + 7) / 8) m (omega (arith, M .lesser .ensures)))
 
 add-window : tie.Need-add-window Inv-loop μ-loop
 add-window c =
@@ -86,12 +88,13 @@ window-requires c κs =
     let img = A .image .now in
     let C = S .pre .0 in
     let w = L .loop .inv .3 in
-    let n = (c .before .lesser .result + 7) / 8 in
-    let l : length (take n (L .loop .map)) ≡ n = length-take-le n (L .loop .map) (omega (arith, c .before .lesser .ensures)) in (
+    let span = c .before .lesser in
+    let n = (span .result + 7) / 8 in
+    let l : length (take n (L .loop .map)) ≡ n = length-take-le n (L .loop .map) (omega (arith, span .ensures)) in (
       record {
         checked = checked-below img (A .shape) (A .bound) C (L .loop .best) (w .low);
         low = omega (arith, L .loop .inv .1, area-above img (opened-facts img (C .accepted)));
-        order = omega (arith, c .before .lesser .ensures, c .before .before .loop-test .taken, S .pre .1, L .loop .inv .0);
+        order = omega (arith, span .ensures, c .before .before .loop-test .taken, S .pre .1, L .loop .inv .0);
         clear = w .clear;
       },
       omega (arith, l),
@@ -121,8 +124,9 @@ loop-again c =
       length-front (L .loop .map) (W .window .last .1 .1 .0) n (W .window .kept .1 .1 .0) ∙ L .loop .inv .0,
       omega (arith, L .loop .inv .1),
       omega (arith, M .lesser .ensures, L .loop .inv .2),
-      swept-on (startIn img) (endIn img) (A .bound) (L .loop .lo) (L .loop .lo + M .lesser .result) (L .loop .best) (L .loop .carried)
-          (W .window .result .best) (W .window .result .carried) (L .loop .inv .3) (W .window .ensures),
+      swept-on (startIn img) (endIn img) (A .bound) (L .loop .lo) (L .loop .lo + M .lesser .result) (L .loop .best)
+          (L .loop .carried) (W .window .result .best) (W .window .result .carried) (L .loop .inv .3)
+          (W .window .ensures),
     )
 
 same-length : tie.Need-same-length Inv-loop μ-loop
@@ -133,7 +137,8 @@ returns c =
     let L = c .before in
     let S = L .before .before .before .before .before .before in
     let A = S .args in
-    swept-first (A .image .now) (A .shape) (A .bound) (S .pre .0) (L .loop .lo) (L .loop .best) (L .loop .carried) (L .loop .inv .3)
+    swept-first (A .image .now) (A .shape) (A .bound) (S .pre .0) (L .loop .lo) (L .loop .best) (L .loop .carried)
+    (L .loop .inv .3)
     (omega (arith, c .loop-test .left, L .before .before .before .read-u32 .ensures))
 
 pub sweep-spec : {M : Type 1} → statement M

@@ -36,9 +36,9 @@ returns : tie.Need-returns Inv-loop μ-loop
 returns c =
     let L = c .before .before .before .before .before in
     let S = L .before .before in
+    let M = c .before .before in
     claiming-met _ _ _ _ (L .loop .q) (L .loop .inv) (c .before .before .before .before .loop-test .taken) (S .pre .1)
-    (c .before .before .before .lesser .result) (c .before .before .mask .result) (c .before .before .before .lesser .ensures)
-    (c .before .before .mask .ensures) (c .if1 .taken)
+    (M .before .lesser .result) (M .mask .result) (M .before .lesser .ensures) (M .mask .ensures) (c .if1 .taken)
 
 slice-write-map : tie.Need-slice-write-map Inv-loop μ-loop
 slice-write-map c = omega (arith, c .before .before .before .before .before .loop .inv .size)
@@ -56,9 +56,9 @@ loop-again : tie.Need-loop-again Inv-loop μ-loop
 loop-again c =
     let L = c .before .before .before .before .before in
     let S = L .before .before in
+    let M = c .before .before in
     claiming-on _ _ _ _ (L .loop .q) (L .loop .inv) (c .before .before .before .before .loop-test .taken) (S .pre .1)
-    (c .before .before .before .lesser .result) (c .before .before .mask .result) (c .before .before .before .lesser .ensures)
-    (c .before .before .mask .ensures) (c .if1 .left)
+    (M .before .lesser .result) (M .mask .result) (M .before .lesser .ensures) (M .mask .ensures) (c .if1 .left)
 
 same-length-2 : tie.Need-same-length-2 Inv-loop μ-loop
 same-length-2 c = c .before .loop .inv .size

@@ -15,8 +15,8 @@ offset-of-requires c κs =
 
 -- the offset read is the stretch's start
 start-read : (c : tie.After-offset-of)
-    → let S : tie.Start = c .before .before in
-    (c .offset-of .result .0 ≡ startIn (S .args .image .now) (S .args .i .0)) × Stretched (S .args .image .now) (S .args .i .0)
+    → let A = c .before .before .args in
+    (c .offset-of .result .0 ≡ startIn (A .image .now) (A .i .0)) × Stretched (A .image .now) (A .i .0)
 start-read c =
     let S = c .before .before in
     let A = S .args in
@@ -50,7 +50,8 @@ sum-read c =
       arith,
       c .before .at .ensures,
       c .before .before .text-start .ensures,
-      end-read (A .image .now) (A .i .0) (S .pre .1) (O .offset-of .result .0) (c .length-at .result) (O .offset-of .ensures)
+      end-read (A .image .now) (A .i .0) (S .pre .1) (O .offset-of .result .0) (c .length-at .result)
+          (O .offset-of .ensures)
           (c .length-at .ensures),
     )
 

@@ -1,6 +1,6 @@
 -- `overlap::stretch::shown_of` meets its contract. Assumes nothing.
 use native.Mathlib.Omega.{arith}
-use mathlib.Core.Path.{sym, _∙_, subst}
+use mathlib.Core.Path.{_≡_, sym, _∙_, subst}
 use Prim.Native.Nat.{ℕ, _<_}
 use borrow.Author.Needs.{needs}
 use Rattle.overlap.specs.Checked.{startIn, endIn}
@@ -33,9 +33,11 @@ returns c =
     let S = c .before .before .before .before in
     let A = S .args in
     let img = A .image .now in
+    let s = startIn img (A .i .0) in
+    let t = endIn img (A .i .0) in
     let w = carried-here (c .before) in
-    subst (λ (e : ℕ). Piece (startIn img (A .i .0)) (endIn img (A .i .0)) (A .lo) (A .hi) (A .lo) e) (sym (c .end-of .ensures))
-    (piece-carried (startIn img (A .i .0)) (endIn img (A .i .0)) (A .lo) (A .hi) (S .pre .2) (w .0) (w .1))
+    subst (λ (e : ℕ). Piece s t (A .lo) (A .hi) (A .lo) e) (sym (c .end-of .ensures))
+    (piece-carried s t (A .lo) (A .hi) (S .pre .2) (w .0) (w .1))
 
 start-in-requires : tie.Need-start-in-requires
 start-in-requires c κs =
@@ -58,7 +60,8 @@ end-of-requires-2 : tie.Need-end-of-requires-2
 end-of-requires-2 c κs =
     let S = c .before .before .before .before .before in
     let A = S .args in
-    let w = within-at (A .lo) (A .hi) (startIn (A .image .now) (A .i .0)) (omega (arith, c .before .start-in .ensures, c .if2 .left)) in
+    let s = startIn (A .image .now) (A .i .0) in
+    let w = within-at (A .lo) (A .hi) s (omega (arith, c .before .start-in .ensures, c .if2 .left)) in
     (S .pre .0, omega (arith, w .0, S .pre .1))
 
 returns-3 : tie.Need-returns-3
@@ -67,12 +70,14 @@ returns-3 c =
     let A = S .args in
     let img = A .image .now in
     let s = startIn img (A .i .0) in
+    let t = endIn img (A .i .0) in
     let I = c .before .before .start-in in
     let w = within-at (A .lo) (A .hi) s (omega (arith, I .ensures, c .before .if2 .left)) in
     let z : 0 < s = omega (arith, w .0, S .pre .1) in
-    subst (λ (e : ℕ). Piece s (endIn img (A .i .0)) (A .lo) (A .hi) (I .result) e) (sym (c .end-of2 .ensures))
-    (subst (λ (f : ℕ). Piece s (endIn img (A .i .0)) (A .lo) (A .hi) f (endIn img (A .i .0))) (sym (I .ensures ∙ w .2))
-    (piece-here s (endIn img (A .i .0)) (A .lo) (A .hi) (S .pre .2) (w .0) (w .1)
+    let is : s ≡ I .result = omega (arith, I .ensures, w .2) in
+    subst (λ (e : ℕ). Piece s t (A .lo) (A .hi) (I .result) e) (sym (c .end-of2 .ensures))
+    (subst (λ (f : ℕ). Piece s t (A .lo) (A .hi) f t) is
+    (piece-here s t (A .lo) (A .hi) (S .pre .2) (w .0) (w .1)
     (omega (arith, stretched img (A .shape) (A .i .0) (S .pre .0) z .order))))
 
 pub shown-of-spec : {M : Type 1} → statement M

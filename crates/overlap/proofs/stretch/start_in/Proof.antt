@@ -21,8 +21,9 @@ returns c =
     let S = c .before .before .before .before in
     let A = S .args in
     let img = A .image .now in
+    let o = c .before .before .offset-of in
     sym (within-low (A .lo) (A .hi) (startIn img (A .i .0))
-    (omega (arith, start-low img (A .i .0), c .before .at .ensures, c .before .before .offset-of .ensures, c .if1 .taken)))
+    (omega (arith, start-low img (A .i .0), c .before .at .ensures, o .ensures, c .if1 .taken)))
 
 returns-2 : tie.Need-returns-2
 returns-2 c =

@@ -1,10 +1,11 @@
--- `overlap::window::pass` meets its contract: the slots below i are marked, and no two of them share a place of the window.
+-- `overlap::window::pass` meets its contract: the places of the slots below i are marked, and no two share one.
 -- Assumes nothing.
 use mathlib.Core.Path.{_≡_, refl, sym, _∙_, subst}
 use mathlib.Core.Bool.{Bool}
 use Prim.Native.Nat.{ℕ, _-_}
 use native.Mathlib.Omega.{arith}
 use lib.ListN.{length}
+use Rattle.bhtf.specs.Bytes.{Bytes}
 use Rattle.overlap.specs.Marks.{Claimed}
 use Rattle.overlap.specs.Checked.{startIn, endIn, Readable}
 use Rattle.overlap.specs.Windows.{Piece, Carried}
@@ -24,7 +25,8 @@ loop-holds : tie.Need-loop-holds Inv-loop μ-loop
 loop-holds c =
     let S = c .before .before in
     let A = S .args in
-    (refl, passing-start (startIn (A .image .now)) (endIn (A .image .now)) (A .lo) (A .hi) (A .best) (A .map .now) (S .pre .2))
+    let img = A .image .now in
+    (refl, passing-start (startIn img) (endIn img) (A .lo) (A .hi) (A .best) (A .map .now) (S .pre .2))
 
 new-requires : tie.Need-new-requires Inv-loop μ-loop
 new-requires c κs = tt
@@ -49,12 +51,14 @@ shown-of-requires c κs =
 piece : (c : tie.After-shown-of Inv-loop μ-loop)
     → let L : tie.At-loop Inv-loop μ-loop = c .before .before .before in
     let S : tie.Start Inv-loop μ-loop = L .before .before .before in
-    Piece (startIn (S .args .image .now) (L .loop .i)) (endIn (S .args .image .now) (L .loop .i)) (S .args .lo) (S .args .hi)
+    let img : Bytes = S .args .image .now in
+    Piece (startIn img (L .loop .i)) (endIn img (L .loop .i)) (S .args .lo) (S .args .hi)
     (c .shown-of .result .from) (c .shown-of .result .end)
 piece c =
     let A = c .before .before .before .before .before .before .args in
     let img = A .image .now in
-    subst (λ (n : ℕ). Piece (startIn img n) (endIn img n) (A .lo) (A .hi) (c .shown-of .result .from) (c .shown-of .result .end))
+    let r = c .shown-of .result in
+    subst (λ (n : ℕ). Piece (startIn img n) (endIn img n) (A .lo) (A .hi) (r .from) (r .end))
     (c .before .new .ensures) (c .shown-of .ensures)
 
 sub-claim : tie.Need-sub-claim Inv-loop μ-loop
@@ -89,9 +93,10 @@ claimed : (c : tie.After-claim Inv-loop μ-loop) (b : Bool) → c .claim .result
     (c .before .lesser .result - S .args .lo) b
 claimed c b e =
     let L = c .before .before .before .before .before .before in
-    let S = L .before .before .before in
-    subst (λ (t : Bool). Claimed (L .loop .map) (c .claim .last .0) (c .before .before .before .shown-of .result .from - S .args .lo)
-    (c .before .lesser .result - S .args .lo) t) e (c .claim .ensures)
+    let lo = L .before .before .before .args .lo in
+    let from = c .before .before .before .shown-of .result .from in
+    subst (λ (t : Bool). Claimed (L .loop .map) (c .claim .last .0) (from - lo) (c .before .lesser .result - lo) t) e
+    (c .claim .ensures)
 
 returns : tie.Need-returns Inv-loop μ-loop
 returns c =
@@ -100,8 +105,10 @@ returns c =
     let L = P .before .before .before in
     let S = L .before .before .before in
     let A = S .args in
-    passing-met (startIn (A .image .now)) (endIn (A .image .now)) (A .lo) (A .hi) (A .best) (A .carried) (L .loop .map) (L .loop .i)
-    (L .loop .next) (L .loop .inv .1) (P .before .before .loop-test .taken) (P .shown-of .result .from) (P .shown-of .result .end)
+    let img = A .image .now in
+    let r = P .shown-of .result in
+    passing-met (startIn img) (endIn img) (A .lo) (A .hi) (A .best) (A .carried) (L .loop .map) (L .loop .i)
+    (L .loop .next) (L .loop .inv .1) (P .before .before .loop-test .taken) (r .from) (r .end)
     (piece P) (C .claim .last .0) (C .before .lesser .result) (C .before .lesser .ensures) (S .pre .0 .clear)
     (claimed C _ (c .if1 .taken))
 
@@ -110,7 +117,6 @@ carried-on-requires c κs = tt
 
 add-i : tie.Need-add-i Inv-loop μ-loop
 add-i c =
-    let L = c .before .before .before .before .before .before .before .before .before .before in
     omega (arith, c .before .before .before .before .before .before .before .before .before .loop-test .taken)
 
 loop-less : tie.Need-loop-less Inv-loop μ-loop
@@ -122,10 +128,12 @@ loop-again c =
     let P = C .before .before .before in
     let L = P .before .before .before in
     let S = L .before .before .before in
-    let A = S .args in (
+    let A = S .args in
+    let img = A .image .now in
+    let r = P .shown-of .result in (
       C .claim .kept .0 ∙ L .loop .inv .0,
-      passing-on (startIn (A .image .now)) (endIn (A .image .now)) (A .lo) (A .hi) (A .best) (A .carried) (L .loop .map) (L .loop .i)
-          (L .loop .next) (L .loop .inv .1) (P .before .before .loop-test .taken) (P .shown-of .result .from) (P .shown-of .result .end)
+      passing-on (startIn img) (endIn img) (A .lo) (A .hi) (A .best) (A .carried) (L .loop .map) (L .loop .i)
+          (L .loop .next) (L .loop .inv .1) (P .before .before .loop-test .taken) (r .from) (r .end)
           (piece P) (C .claim .last .0) (C .before .lesser .result) (C .before .lesser .ensures) (S .pre .0 .order)
           (claimed C _ (c .before .if1 .left)) (c .carried-on .result) (c .carried-on .ensures),
     )
@@ -138,7 +146,8 @@ returns-2 c =
     let L = c .before in
     let S = L .before .before .before in
     let A = S .args in
-    passing-end (startIn (A .image .now)) (endIn (A .image .now)) (A .lo) (A .hi) (A .best) (A .carried) (L .loop .map) (L .loop .i)
+    let img = A .image .now in
+    passing-end (startIn img) (endIn img) (A .lo) (A .hi) (A .best) (A .carried) (L .loop .map) (L .loop .i)
     (L .loop .next) (S .pre .0 .clear) (L .loop .inv .1) (c .loop-test .left)
 
 pub pass-spec : {M : Type 1} → statement M
