@@ -1,4 +1,5 @@
 pub mod Bits
+pub mod Cases
 pub mod Claims
 pub mod First
 pub mod Passes

@@ -80,7 +80,7 @@ fn sweep_large(image: &[u8], shape: Shape, bound: usize) -> usize
 }
 
 // The lowest slot below `bound` whose stretch meets that of a lower-numbered taken slot; `bound` where there is none.
-// Below `bound` every taken slot's message passes question 11. A small data area takes the small map: it is cheap to clear.
+// Below `bound` every taken slot's message passes question 11. A small data area takes the small map, cheap to clear.
 pub fn first_meeting(image: &[u8], shape: Shape, bound: usize) -> usize
     requires { ⌜ Checked (now image) shape bound ⌝ }
     ensures { λ r. ⌜ r ≡ firstMeeting (layoutOf (now (image .entry))) (now (image .entry)) bound ⌝ }

@@ -10,8 +10,8 @@ ghost use Prim.Native.Nat.{_<_, _≤_};
 ghost use Rattle.overlap.specs.Checked.{startIn, endIn, Readable};
 ghost use Rattle.overlap.specs.Windows.{within, Piece, Carried};
 
-// What a window shows of a slot's stretch: where it starts there, and where it ends, which may lie past the window. Both
-// are the window's end where it shows nothing.
+// What a window shows of a slot's stretch: where it starts there, and where it ends, maybe past the window. Both are
+// the window's end where it shows nothing.
 pub struct Shown {
     pub from: usize,
     pub end: usize,

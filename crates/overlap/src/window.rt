@@ -15,8 +15,8 @@ ghost use Rattle.overlap.specs.Marks.{marked};
 ghost use Rattle.overlap.specs.Checked.{startIn, endIn};
 ghost use Rattle.overlap.specs.Windows.{Window, Swept};
 
-// best: the lowest slot known to meet a lower-numbered one, or the bound. carried: the slot below it whose stretch goes on
-// across the window's end, or a number that is not below it.
+// best: the lowest slot known to meet a lower-numbered one, or the bound. carried: the slot below it whose stretch goes
+// on across the window's end, or a number that is not below it.
 pub struct Front {
     pub best: usize,
     pub carried: usize,
