@@ -32,3 +32,4 @@ pub mod Sought  -- the questions that every call on a name puts first
 pub mod Outcomes  -- each call's number, case by case, and the image that it leaves
 -- ---- document 01's proved table, and more cases, by computation
 pub mod Cases
+pub mod CasesStretches
