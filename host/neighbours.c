@@ -10,6 +10,7 @@
 struct places {
     double easting[NEIGHBOURS_MAX];
     double northing[NEIGHBOURS_MAX];
+    double sorted[NEIGHBOURS_MAX];
     size_t count;
 };
 
@@ -21,10 +22,31 @@ static int compare(const void *a, const void *b)
 }
 
 /* A few points that lie elsewhere do not move it. */
-static double middle(double *numbers, size_t count)
+static double middle(struct places *p, const double *numbers)
 {
-    qsort(numbers, count, sizeof *numbers, compare);
-    return numbers[count / 2];
+    memcpy(p->sorted, numbers, p->count * sizeof *numbers);
+    qsort(p->sorted, p->count, sizeof *numbers, compare);
+    return p->sorted[p->count / 2];
+}
+
+/* The square of the distance from their middle. */
+static double away(const struct neighbours *n, double easting, double northing)
+{
+    double e = easting - n->easting, m = northing - n->northing;
+
+    return e * e + m * m;
+}
+
+static void measure(struct neighbours *n, struct places *p)
+{
+    n->points = p->count;
+    if (p->count == 0)
+        return;
+    n->easting = middle(p, p->easting);
+    n->northing = middle(p, p->northing);
+    for (size_t i = 0; i < p->count; i++)
+        p->easting[i] = away(n, p->easting[i], p->northing[i]);
+    n->spread = middle(p, p->easting);
 }
 
 static void gather(struct places *p, const uint8_t *image, size_t length,
@@ -57,30 +79,20 @@ int neighbours_find(struct neighbours *n, const uint8_t *image, size_t length,
     if (p == NULL)
         return -1;
     gather(p, image, length, key_size);
-    n->points = p->count;
-    if (p->count > 0) {
-        n->easting = middle(p->easting, p->count);
-        n->northing = middle(p->northing, p->count);
-    }
+    measure(n, p);
     free(p);
     return 0;
 }
 
-/* The square of the distance from their middle. */
-static double away(const struct neighbours *n, double easting, double northing)
-{
-    double e = easting - n->easting, m = northing - n->northing;
-
-    return e * e + m * m;
-}
-
-/* Ten times nearer is taken for near. */
+/* Ten times further is far, and ten times nearer is near. */
 int looks_swapped(const struct neighbours *n, struct record *r,
                   struct piece text)
 {
-    double easting, northing;
+    double easting, northing, distance;
 
     if (n->points == 0 || !point_place(r, text, &easting, &northing))
         return 0;
-    return away(n, northing, easting) * 100 < away(n, easting, northing);
+    distance = away(n, easting, northing);
+    return distance > 100 * n->spread &&
+           distance > 100 * away(n, northing, easting);
 }

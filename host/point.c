@@ -64,16 +64,20 @@ enum fault point_fault(const struct piece fields[POINT_FIELDS], int decimal,
     return NO_FAULT;
 }
 
+static const char *fault_words(enum fault fault)
+{
+    if (fault == FAULT_EXPONENT)
+        return "has an exponent, as spreadsheets write numbers that they cut "
+               "short; write all of its digits";
+    if (fault == FAULT_COMMA)
+        return "has another decimal sign; --decimal names the one that is "
+               "meant";
+    return "is not a number";
+}
+
 int complain_of_fault(const char *place, enum fault fault, int field,
                       struct piece value)
 {
-    static const char *const words[] = {
-        "", "is not a number",
-        "has an exponent, as spreadsheets write numbers with fewer digits "
-        "than they have; write all of them",
-        "has another decimal sign; --decimal names the one that is meant",
-        ""
-    };
     int shown = value.length > 60 ? 60 : (int)value.length;
 
     if (fault == FAULT_HALF)
@@ -81,7 +85,7 @@ int complain_of_fault(const char *place, enum fault fault, int field,
                  point_words[field == EASTING ? NORTHING : EASTING]);
     else
         complain("%s: the %s %.*s %s", place, point_words[field], shown,
-                 (const char *)value.bytes, words[fault]);
+                 (const char *)value.bytes, fault_words(fault));
     return TROUBLE;
 }
 

@@ -1,0 +1,47 @@
+# Sourced by tests/command.sh: completion for bash and zsh, on what was
+# installed.
+
+completed() { # LINE: what bash completes its last word to
+  bash --norc -c '
+    . "$1"
+    read -ra COMP_WORDS <<<"$2"
+    [[ $2 == *" " ]] && COMP_WORDS+=("")
+    COMP_CWORD=$((${#COMP_WORDS[@]} - 1))
+    _bhtf
+    printf "%s\n" "${COMPREPLY[@]}"' - "$work/usr/share/bash-completion/completions/bhtf" "$1" | LC_ALL=C sort
+}
+bhtf create finish
+bhtf add finish 'CP-1' x
+bhtf add finish 'CP 2' x
+bhtf add finish 'RP-3' x
+same "bash: commands" $'check\ncount\ncreate' "$(completed 'bhtf c')"
+same "bash: every command" "$( (bhtf --help | sed -n 's/^  bhtf \([a-z]*\) .*/\1/p'; echo help) | LC_ALL=C sort)" \
+  "$(completed 'bhtf ' | grep -v '^-')"
+same "bash: help" $'dump' "$(completed 'bhtf help du')"
+same "bash: options" $'--decimal\n--delimiter\n--dry-run' "$(completed 'bhtf import finish --d')"
+same "bash: letters are no names of options" '' "$(completed 'bhtf count finish --long')"
+same "bash: names of points" $'CP-1\nCP\\ 2' "$(completed 'bhtf get finish C')"
+same "bash: names behind options" 'RP-3' "$(completed 'bhtf delete finish -q R')"
+same "bash: columns" 'PENZD' "$(completed 'bhtf import finish x.csv --columns PE')"
+same "bash: delimiters" 'semicolon' "$(completed 'bhtf import finish x.csv -d s')"
+same "bash: a file that is not there" '' "$(completed 'bhtf get nowhere C')"
+
+# zsh's own completion, on a terminal of its own.
+cat >complete.zsh <<'ZSH'
+zmodload zsh/zpty
+zpty z zsh -f -i
+line() { zpty -w z "$1"; }
+line 'PS1="" PROMPT="" ; unsetopt zle_bracketed_paste 2>/dev/null; fpath=('$1' $fpath); autoload -Uz compinit; compinit -D -u; zstyle ":completion:*" list-separator " "; setopt no_beep; bindkey "^I" expand-or-complete; print rea''dy'
+zpty -r -m z out '*ready*'
+zpty -w -n z "$2"$'\t'
+sleep 1
+zpty -w -n z $'\C-a\C-kprint -r -- don''e\n'
+zpty -r -m z out '*done*'
+print -r -- "$out"
+zpty -d z
+ZSH
+zsh_completed() { timeout 30 zsh -f complete.zsh "$work/usr/share/zsh/site-functions" "$1" | tr -d '\r' | cat -v; }
+gives "zsh: a command" 0 'bhtf export' zsh_completed 'bhtf exp'
+gives "zsh: an option" 0 'import finish --dry-run' zsh_completed 'bhtf import finish --dr'
+gives "zsh: a name of a point" 0 'get finish RP-3' zsh_completed 'bhtf get finish R'
+gives "zsh: columns" 0 'columns PENZD' zsh_completed 'bhtf import finish x --columns PE'
