@@ -263,8 +263,7 @@ static int read_dump(struct load *l)
         status = read_line(l, &more);
         if (status == DONE && more)
             status = take_line(l);
-        if (l->number % 1024 == 0)
-            progress_show(&l->progress, l->stored, l->taken);
+        progress_show(&l->progress, l->stored, l->taken);
     }
     progress_end(&l->progress);
     return status == DONE ? end_of_stream(l) : status;

@@ -125,6 +125,29 @@ holds "the man page has no warnings" man_is_clean
 gives "the demonstration runs" 0 '^sound: 11 points$' \
   env LIB="$work/gcc/libbhtf.a" OUT="$work/demo" host/demo.sh
 
+# The demonstration from nothing, with a program in rt's place.
+mkdir "$work/tree" && cp -r host crates.txt .ci "$work/tree" && mkdir "$work/tree/crates"
+stand_in() { # STATUS: what rt says, and the archive
+  cat >"$work/rt" <<EOF
+#!/bin/sh
+printf 'rt: words proved (13 s)\nfn words::a: proved\nlibrary words: modules loaded=1\nrt: table proved (2 s)\n'
+echo 'words of an error' >&2
+mkdir -p target/staticlib && cp "$work/gcc/libbhtf.a" target/staticlib/libstation.a
+exit $1
+EOF
+  chmod 755 "$work/rt"
+}
+gives "the demonstration without rt says what to get" 2 'no command no-such-rt. It comes with the Rattle kit' \
+  env -u LIB RT=no-such-rt "$work/tree/host/demo.sh"
+stand_in 1
+gives "a proof that fails ends it, with all that was said" 1 'words of an error' env -u LIB RT="$work/rt" "$work/tree/host/demo.sh"
+rm -r "$work/tree/target"
+stand_in 0
+gives "proving shows a line for each crate" 0 '^rt: table proved' \
+  env -u LIB RT="$work/rt" OUT="$work/demo2" "$work/tree/host/demo.sh"
+same "and no more" 'rt: words proved (13 s)
+rt: table proved (2 s)' "$(grep -E 'proved|loaded|error' "$work/out")"
+
 cd "$work" || exit 2
 
 # ---- help and usage ----

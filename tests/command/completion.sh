@@ -27,16 +27,17 @@ same "bash: delimiters" 'semicolon' "$(completed 'bhtf import finish x.csv -d s'
 same "bash: a file that is not there" '' "$(completed 'bhtf get nowhere C')"
 
 # zsh's own completion, on a terminal of its own.
+holds "zsh is there" "$root/.ci/install" zsh
 cat >complete.zsh <<'ZSH'
 zmodload zsh/zpty
 zpty z zsh -f -i
-line() { zpty -w z "$1"; }
-line 'PS1="" PROMPT="" ; unsetopt zle_bracketed_paste 2>/dev/null; fpath=('$1' $fpath); autoload -Uz compinit; compinit -D -u; zstyle ":completion:*" list-separator " "; setopt no_beep; bindkey "^I" expand-or-complete; print rea''dy'
-zpty -r -m z out '*ready*'
+zpty -w z 'unset zle_bracketed_paste; PS1=; fpath=('$1' $fpath); autoload -Uz compinit; compinit -D -u; print ready$((6 * 7))'
+zpty -r -m z out '*ready42*'
+sleep 0.5
 zpty -w -n z "$2"$'\t'
 sleep 1
-zpty -w -n z $'\C-a\C-kprint -r -- don''e\n'
-zpty -r -m z out '*done*'
+zpty -w -n z $'\C-a\C-kprint done$((6 * 7))\n'
+zpty -r -m z out '*done42*'
 print -r -- "$out"
 zpty -d z
 ZSH

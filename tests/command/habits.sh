@@ -111,19 +111,19 @@ same "nor where the text is piped" '' "$(printf x | bhtf add habit piped 2>&1)"
 # ---- progress ----
 
 on_terminal() { script -qec "$1" /dev/null </dev/null; }
-mkfifo slow.csv slow.dump
+mkfifo slow.dump
 bhtf create slow2 --slots 3000
-seq 2000 | sed 's/.*/S&,&,&,&,/' >quick.csv
-bhtf import slow2 quick.csv --quiet -c PENZD
+seq 2000 | sed 's/.*/S&,&,&,&,/' | bhtf import slow2 - --quiet -c PENZD
 bhtf dump slow2 >whole.dump
-slow_reader() { # reads, but not at once
-  (sleep 0.7; cat >/dev/null)
-}
-seq 300000 | sed 's/.*/S&,1&.123,2&.456,3&.789,a note that is somewhat longer &/' >long.csv
-gives "a long import shows its share and the time left" 0 \
-  'bhtf: [0-9]+ points read, [0-9]+ %, [0-9]+ s left' on_terminal "bhtf import slow2 long.csv --dry-run -c PENZD 2>&1 | cat -v; true; bhtf import slow2 long.csv -n -c PENZD >/dev/null"
+for i in $(seq 100); do sed 1,6d whole.dump; done | sed 's/^"\(S[0-9]*\)" "\(.*\)"$/\1,\2/; /^end$/d' >long.csv
+on_terminal "$work/sanitize/bhtf import slow2 long.csv -r -c PENZD" >progress
+gives "a long import shows its share and the time left" 0 'bhtf: [0-9]+ points stored, [0-9]+ %, [0-9]+ s left' cat progress
+gives "and what it stored" 0 '200000 points stored: 0 new, 200000 in place of others' cat progress
 (head -n 1500 whole.dump; sleep 0.8; tail -n +1501 whole.dump) >slow.dump &
 helpers+=($!)
-gives "a long load says how far it is" 0 'points read' on_terminal "bhtf load slow3 slow.dump"
-gives "and that it is done" 0 '^2000 points loaded' cat out
+on_terminal "bhtf load slow3 slow.dump" >progress
+gives "a long load says how far it is" 0 'bhtf: [0-9]+ points read' cat progress
+gives "and that it is done" 0 '2000 points loaded' cat progress
+on_terminal "bhtf load slow4 whole.dump" >progress
+same "a short one says nothing on the way" '2000 points loaded' "$(tr -d '\r' <progress)"
 rm -f long.csv
