@@ -18,6 +18,16 @@ int refuse(const char *file, uint32_t number)
     return REFUSED;
 }
 
+/* What can be done about a refusal. */
+static const char *advice(uint32_t number)
+{
+    if (number == BHTF_TABLE_FULL)
+        return " (bhtf dump, and bhtf load with --slots, make a larger one)";
+    if (number == BHTF_NO_ROOM)
+        return " (bhtf dump, and bhtf load with --size, make a larger one)";
+    return "";
+}
+
 int refuse_point(const char *file, const char *name, uint32_t number,
                  uint32_t key_size)
 {
@@ -26,8 +36,8 @@ int refuse_point(const char *file, const char *name, uint32_t number,
                  "bytes, not all of them zero.", file, name,
                  (unsigned long)key_size);
     else
-        complain("%s: %s: refused (%lu): %s", file, name,
-                 (unsigned long)number, bhtf_message(number));
+        complain("%s: %s: refused (%lu): %s%s", file, name,
+                 (unsigned long)number, bhtf_message(number), advice(number));
     return REFUSED;
 }
 

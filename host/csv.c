@@ -100,14 +100,11 @@ static int is_empty_line(const struct buffer *line)
     return 1;
 }
 
-enum csv_answer csv_from_file(struct csv *c, FILE *file, uint64_t skip)
+/* Passes over `skip` lines from the head on, and over empty ones. */
+static enum csv_answer pass_lines(struct csv *c, uint64_t skip)
 {
-    enum csv_answer answer;
+    enum csv_answer answer = CSV_RECORD;
 
-    csv_from_bytes(c, NULL, 0);
-    c->file = file;
-    answer = read_line(c);
-    pass_mark(c);
     while (answer == CSV_RECORD && c->head.length > 0 &&
            (skip > 0 || is_empty_line(&c->head))) {
         skip -= skip > 0;
@@ -119,6 +116,33 @@ enum csv_answer csv_from_file(struct csv *c, FILE *file, uint64_t skip)
     c->at = c->head.bytes;
     c->end = c->head.length == 0 ? c->at : c->at + c->head.length;
     return answer;
+}
+
+enum csv_answer csv_from_file(struct csv *c, FILE *file, uint64_t skip)
+{
+    enum csv_answer answer;
+
+    csv_from_bytes(c, NULL, 0);
+    c->file = file;
+    answer = read_line(c);
+    pass_mark(c);
+    return answer == CSV_RECORD ? pass_lines(c, skip) : answer;
+}
+
+enum csv_answer csv_pass_line(struct csv *c)
+{
+    return pass_lines(c, 1);
+}
+
+int csv_named_delimiter(const struct csv *c)
+{
+    size_t length = c->head.length;
+
+    while (length > 0 && (c->head.bytes[length - 1] == '\n' ||
+                          c->head.bytes[length - 1] == '\r'))
+        length--;
+    return length == 5 && same_word(c->head.bytes, 4, "sep=")
+        ? c->head.bytes[4] : 0;
 }
 
 void csv_free(struct csv *c)

@@ -49,6 +49,13 @@ enum csv_answer csv_from_file(struct csv *c, FILE *file, uint64_t skip);
 void csv_from_bytes(struct csv *c, const uint8_t *bytes, size_t length);
 void csv_free(struct csv *c);
 
+/* The delimiter that a first line such as sep=; names, as some spreadsheets
+ * write it; else 0. */
+int csv_named_delimiter(const struct csv *c);
+
+/* Passes over the first line, with the same answers. */
+enum csv_answer csv_pass_line(struct csv *c);
+
 /* The next record; lines without a character are passed over. */
 enum csv_answer csv_read(struct csv *c, struct record *r);
 

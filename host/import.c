@@ -142,7 +142,7 @@ static const char *delimiter_word(int delimiter)
     for (int i = 0; i < DELIMITERS; i++)
         if (delimiters[i] == delimiter)
             return delimiter_words[i];
-    return "";
+    return "as named";
 }
 
 /* How much a line looks like one of points: numbers and words of a heading
@@ -229,6 +229,18 @@ static struct piece column(const struct import *m, int which)
         ? none : record_field(&m->record, (size_t)m->columns.at[which]);
 }
 
+static int complain_of_field(struct import *m, enum fault fault, int field,
+                             struct piece value)
+{
+    if (!is_told(m))
+        return TROUBLE;
+    complain_of_fault(place(m, m->record.line), fault, field, value);
+    if (m->heading.fields == 0 && m->stored + m->batch.count + m->refused == 0)
+        complain("%s: if that is a heading, --skip %lu passes over it",
+                 m->input, m->record.line);
+    return TROUBLE;
+}
+
 /* The four fields: coordinates without blanks around them, and with a decimal
  * point. */
 static int take_fields(struct import *m, struct piece fields[POINT_FIELDS])
@@ -241,10 +253,7 @@ static int take_fields(struct import *m, struct piece fields[POINT_FIELDS])
     if (!(m->o->given & OPTION_ANY_TEXT))
         fault = point_fault(fields, m->decimal, &field);
     if (fault != NO_FAULT)
-        return is_told(m)
-            ? complain_of_fault(place(m, m->record.line), fault, field,
-                                fields[field])
-            : TROUBLE;
+        return complain_of_field(m, fault, field, fields[field]);
     for (int i = EASTING; i <= HEIGHT && m->decimal == ','; i++)
         if (is_number(fields[i], ','))
             use_point(&m->record, fields[i]);
@@ -619,6 +628,22 @@ static int open_image(struct import *m)
 
 /* ---- import ---- */
 
+/* Reads up to the first line, and settles the delimiter. */
+static enum csv_answer read_head(struct import *m)
+{
+    enum csv_answer answer = csv_from_file(&m->csv, m->file, m->o->skip);
+    int named = csv_named_delimiter(&m->csv);
+
+    if (named != 0)
+        answer = csv_pass_line(&m->csv);
+    if (m->o->delimiter != NULL)
+        m->csv.delimiter = delimiter_from(m->o->delimiter);
+    else
+        m->csv.delimiter = named != 0 ? named : find_delimiter(m);
+    m->record.line = m->csv.line;
+    return answer;
+}
+
 /* From the first byte of the input to its last. */
 static int read_input(struct import *m)
 {
@@ -628,10 +653,7 @@ static int read_input(struct import *m)
     catch_interrupts();
     progress_begin(&m->progress, is_dry(m) ? "read" : "stored",
                    stream_length(m->file), m->o->quiet);
-    answer = csv_from_file(&m->csv, m->file, m->o->skip);
-    m->record.line = m->csv.line;
-    m->csv.delimiter = m->o->delimiter == NULL
-        ? find_delimiter(m) : delimiter_from(m->o->delimiter);
+    answer = read_head(m);
     status = answer == CSV_RECORD || interrupted
         ? store_all(m) : complain_of_input(m, answer);
     progress_end(&m->progress);

@@ -106,6 +106,14 @@ gives "a decimal sign that is none" 2 '--decimal is , or \. and not x' bhtf impo
 gives "a decimal point where a comma was promised" 2 'decimal sign' bhtf import office - --decimal , -c PENZD <<<'CP9;1.5;2,5;;'
 holds "a note with a comma between semicolons" stores CP10 '1.5,2.5,,"a, b"' $'CP10;1,5;2,5;;a, b\n' --decimal , -c PENZD
 
+holds "a first line sep=;" stores CP11 '1.5,2.5,,"a, b"' $'sep=;\r\nP;E;N;Z;D\r\nCP11;1.5;2.5;;a, b\r\n'
+gives "lines are counted with it" 2 'line 3: the easting x' bhtf import office - <<<$'sep=;\nP;E;N\nCP12;x;1'
+gives "another delimiter is taken from it" 0 '^1 point' bhtf import office - <<<$'sep=|\nP|E|N\nCP12|1|2'
+gives "it alone" 0 '^0 points' bhtf import office - <<<'sep=;'
+gives "a heading of words that nobody knows" 2 'if that is a heading, --skip 1 passes over it' \
+  bhtf import office - -c PENZD <<<$'Wo,Da,Dort,Hoch hinaus,Was\nCP13,1,2,3,'
+holds "is passed over so" stores CP13 '1,2,3,' $'Wo,Da,Dort,Hoch hinaus,Was\nCP13,1,2,3,\n' -c PENZD --skip 1
+
 # ---- bytes ----
 
 printf '\357\273\277P,E,N,Z,D\nbom,1,2,3,\n' >bom2.csv

@@ -167,6 +167,21 @@ holds "the same header" cmp -n 44 foreign foreign2
 holds "the same scramble" cmp -i 512 -n 40 foreign foreign2
 gives "and it is sound" 0 'sound: 60' bhtf check foreign2
 
+# A load that is interrupted.
+mkfifo pipe.dump
+bhtf load interrupted pipe.dump 2>load.err &
+loader=$!
+helpers+=("$loader")
+exec 9>pipe.dump
+head -n 8 round.dump >&9
+sleep 0.3
+kill -TERM "$loader"
+wait "$loader"
+same "an interrupted load has status 2" 2 $?
+exec 9>&-
+gives "it says so" 0 'pipe.dump: load interrupted' cat load.err
+holds "and leaves no file" test ! -e interrupted
+
 # Dumps that are wrong: a message with the line, status 2, and no file.
 wrong_dump() { # NAME PATTERN LINES..
   local name=$1 pattern=$2
@@ -226,6 +241,37 @@ slot=$(bhtf list torn2 --long | awk '$3 == "c" { print $1 }')
 patch_bytes torn2 $((2048 + slot * 5)) 'b'
 gives "a name that stands there twice" 1 'torn2: b: left out' bhtf dump torn2
 same "is there once" 1 "$(bhtf dump torn2 2>/dev/null | grep -c '^"b"')"
+
+# Random texts out of what CSV and dumps treat in a way of their own.
+random_dump() { # SEED
+  awk -v seed="$1" 'BEGIN {
+    srand(seed)
+    n = split(", , , \\\" \\n \\r \\r\\n 1 2.5 -3 a ; \\t \\x00 \\x20 \\xFF ü \\\\ \\\\x41 \\xEF\\xBB\\xBF", token, " ")
+    print "bhtf-dump 1\nversion 1.0.1\nkey-size 24\nslots 1000\nsize 262144\nseed " seed
+    for (i = 1000; i < 1900; i++) {
+      text = ""
+      for (k = int(rand() * 9); k > 0; k--) text = text token[int(rand() * n) + 1]
+      # Four fields more often than chance makes them.
+      if (rand() < .3) text = "1.5,2," (rand() < .5 ? "3" : "") "," text
+      name = "P" i token[int(rand() * n) + 1] token[int(rand() * n) + 1] "x"
+      print "\"" name "\" " (text == "" ? "-" : "\"" text "\"")
+    }
+    print "end" }'
+}
+random_round() { # SEED
+  local program="$work/sanitize/bhtf"
+  rm -f random1 random2 random3
+  random_dump "$1" >random.dump
+  "$program" load random1 random.dump -q && "$program" dump random1 >random1.dump || return 1
+  [ "$(wc -l <random1.dump)" -eq 907 ] || { wc -l random1.dump; return 1; }
+  "$program" load random2 random1.dump -q && cmp random1.dump <("$program" dump random2) || return 1
+  rm random2
+  "$program" create random2 -k 24 -s 1000 -S 256K --seed "$1" && "$program" export random1 >random.csv &&
+    "$program" import random2 random.csv -q && cmp random1.dump <("$program" dump random2) || return 1
+  "$program" create random3 -k 24 -s 1000 -S 256K --seed "$1" && "$program" export random1 --crlf >random.csv &&
+    "$program" import random3 random.csv -q && cmp random1.dump <("$program" dump random3)
+}
+for seed in 1 2 $((RANDOM)); do holds "900 random texts there and back, seed $seed" random_round $seed; done
 
 # Dumps with a few bytes replaced or gone, under the sanitizers.
 hurt_dump() {
