@@ -33,7 +33,7 @@ _bhtf() {
     mapfile -t words < <(_bhtf_options "$program" "$command")
   else
     case $previous in
-      --columns | -c) words=(PNEZD PENZD name,easting,northing,height,note) ;;
+      --columns | -c) words=(PNEZD PENZD "name,easting,northing,height,note") ;;
       --delimiter | -d) words=(comma semicolon tab) ;;
       --decimal) words=(comma point) ;;
       *)

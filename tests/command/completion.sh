@@ -1,3 +1,4 @@
+# shellcheck shell=bash disable=SC2154,SC2059,SC2015
 # Sourced by tests/command.sh: completion for bash and zsh, on what was
 # installed.
 

@@ -1,3 +1,4 @@
+# shellcheck shell=bash disable=SC2154,SC2059,SC2015,SC2034
 # Sourced by tests/command.sh: what people are used to type, and what they are
 # told.
 
@@ -23,16 +24,21 @@ options_in_page() { # every option that a help names
   done
 }
 holds "the manual page has every option" options_in_page
-limits_in_page() { # and the limits of the header
-  local name number
-  for name in IMAGE_MAX SLOTS_MAX SLOTS_DEFAULT PAGE; do
-    number=$(sed -n "s/^#define BHTF_$name \([0-9]*\)u.*/\1/p" "$root/host/bhtf.h")
-    [ -n "$number" ] && grep -q "$(sed ':a;s/\B[0-9]\{3\}\>/,&/;ta' <<<"$number")" "$root/host/bhtf.1" ||
-      { echo "no $name ($number)"; return 1; }
-    bhtf help create | grep -q "$number" || { echo "no $number in the help"; return 1; }
+# The limits of the header, in the manual page, in the help and in the words of refusals.
+limit() { sed -n "s/^#define BHTF_$1 \([0-9]*\)u.*/\1/p" "$root/host/bhtf.h"; }
+with_commas() { sed ':a;s/\B[0-9]\{3\}\>/,&/;ta' <<<"$1"; }
+limits_in_page() {
+  local name
+  for name in IMAGE_MAX SLOTS_MAX SLOTS_DEFAULT PAGE KEY_MAX; do
+    grep -q "$(with_commas "$(limit $name)")" "$root/host/bhtf.1" || { echo "no $name"; return 1; }
+    bhtf help create | grep -q "$(limit $name)" || { echo "no $name in the help"; return 1; }
   done
 }
 holds "the manual page and the help have the true limits" limits_in_page
+gives "refusal 1 has them" 1 "to $(with_commas "$(limit IMAGE_MAX)")\." bhtf create limits --size 5000
+gives "refusal 2" 1 "1 to $(limit KEY_MAX) bytes" bhtf create limits -k 99
+gives "refusal 3" 1 "more than $(with_commas "$(limit SLOTS_MAX)") slots" bhtf create limits -s 4000000000
+gives "refusal 12" 0 "longer than $(with_commas "$(limit MESSAGE_MAX)") bytes" cat "$root/host/messages.c"
 
 # ---- options ----
 

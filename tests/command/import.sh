@@ -1,3 +1,4 @@
+# shellcheck shell=bash disable=SC2154,SC2059,SC2015,SC2016
 # Sourced by tests/command.sh: import, and what it must not believe.
 
 bhtf create office

@@ -1,3 +1,4 @@
+# shellcheck shell=bash disable=SC2154,SC2059,SC2015,SC1003,SC2094
 # Sourced by tests/command.sh: nothing is lost by export and import, nor by
 # dump and load.
 
