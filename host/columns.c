@@ -209,6 +209,23 @@ static int complain_of_heading(const char *place, const char *wrong)
     return TROUBLE;
 }
 
+/* The first word that is not known. */
+static int complain_of_word(const char *place, const struct record *r,
+                            const struct row *row)
+{
+    struct piece word;
+    size_t i = 0;
+
+    while (row->column[i] != COLUMN_UNKNOWN)
+        i++;
+    word = piece_trim(record_field(r, i));
+    complain("%s: the heading: %.*s is not known; --columns names the columns, "
+             "with - for one to pass over", place,
+             (int)(word.length > 60 ? 60 : word.length),
+             (const char *)word.bytes);
+    return TROUBLE;
+}
+
 /* Is what the heading says, where it says something, what is known? */
 static int agrees(const struct columns *c, const struct row *row)
 {
@@ -258,7 +275,7 @@ int columns_from_heading(struct columns *c, const struct record *r,
     else if (has(&row, COLUMN_X))
         wrong = "x in front of y is easting to some and northing to others";
     else if (has(&row, COLUMN_UNKNOWN))
-        wrong = "a word is not known";
+        return complain_of_word(place, r, &row);
     else
         wrong = place_columns(c, &row);
     return wrong == NULL ? DONE : complain_of_heading(place, wrong);

@@ -235,7 +235,10 @@ static int complain_of_field(struct import *m, enum fault fault, int field,
     if (!is_told(m))
         return TROUBLE;
     complain_of_fault(place(m, m->record.line), fault, field, value);
-    if (m->heading.fields == 0 && m->stored + m->batch.count + m->refused == 0)
+    if (fault == FAULT_COMMA)
+        complain("%s: --decimal %s takes such numbers", m->input,
+                 m->decimal == ',' ? "." : ",");
+    else if (m->heading.fields == 0 && m->stored + m->batch.count + m->refused == 0)
         complain("%s: if that is a heading, --skip %lu passes over it",
                  m->input, m->record.line);
     return TROUBLE;

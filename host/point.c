@@ -64,14 +64,15 @@ enum fault point_fault(const struct piece fields[POINT_FIELDS], int decimal,
     return NO_FAULT;
 }
 
-static const char *fault_words(enum fault fault)
+static const char *fault_words(enum fault fault, struct piece value)
 {
     if (fault == FAULT_EXPONENT)
         return "has an exponent, as spreadsheets write numbers that they cut "
                "short; write all of its digits";
     if (fault == FAULT_COMMA)
-        return "has another decimal sign; --decimal names the one that is "
-               "meant";
+        return memchr(value.bytes, ',', value.length) != NULL
+            ? "has a decimal comma and not a point"
+            : "has a decimal point and not a comma";
     return "is not a number";
 }
 
@@ -85,7 +86,7 @@ int complain_of_fault(const char *place, enum fault fault, int field,
                  point_words[field == EASTING ? NORTHING : EASTING]);
     else
         complain("%s: the %s %.*s %s", place, point_words[field], shown,
-                 (const char *)value.bytes, fault_words(fault));
+                 (const char *)value.bytes, fault_words(fault, value));
     return TROUBLE;
 }
 

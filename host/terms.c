@@ -97,6 +97,8 @@ static const struct row rows[] = {
     { "last", AT(last), 255, 1 }
 };
 
+enum { ROWS = sizeof rows / sizeof rows[0], VERSION_LINE = ROWS, SEED_LINE };
+
 static uint64_t value(const struct terms *t, const struct row *r)
 {
     return *(const uint64_t *)((const char *)t + r->place);
@@ -136,7 +138,7 @@ int terms_put(const struct terms *t, struct buffer *to)
              (unsigned long)t->version[0], (unsigned long)t->version[1],
              (unsigned long)t->version[2]);
     done = buffer_put(to, line, strlen(line));
-    for (size_t i = 0; i < sizeof rows / sizeof rows[0]; i++) {
+    for (size_t i = 0; i < ROWS; i++) {
         const struct row *r = &rows[i];
         int said = r->how == 0 || (r->how == 3 ? value(t, r) != 0
                                                : !t->seeded);
@@ -185,6 +187,7 @@ static const char *take_scramble(struct terms *t, const char *numbers)
         uint64_t number;
 
         if (sscanf(numbers, "%15[^ ]%n", word, &used) != 1 ||
+            (numbers[used] != ' ' && numbers[used] != '\0') ||
             number_read(word, UINT32_MAX, &number) != 0)
             return "scramble takes numbers from 0 to 0xFFFFFFFF";
         if (t->scrambles == SCRAMBLES_MAX)
@@ -196,26 +199,43 @@ static const char *take_scramble(struct terms *t, const char *numbers)
     return NULL;
 }
 
+static const char *take_seed(struct terms *t, const char *number)
+{
+    t->seeded = 1;
+    return number_read(number, UINT32_MAX, &t->seed) == 0
+        ? NULL : "seed takes a number from 0 to 4294967295";
+}
+
+/* Notes that a line was taken: NULL, or what is wrong. */
+static const char *once(struct terms *t, size_t line)
+{
+    unsigned bit = 1u << line;
+    int again = (t->said & bit) != 0;
+
+    t->said |= bit;
+    return again ? "the line stands there twice" : NULL;
+}
+
 const char *terms_take(struct terms *t, const char *line)
 {
-    const char *rest;
+    const char *rest, *wrong;
 
-    if ((rest = behind(line, "version")) != NULL)
-        return take_version(t, rest);
     if ((rest = behind(line, "scramble")) != NULL)
         return take_scramble(t, rest);
-    if ((rest = behind(line, "seed")) != NULL) {
-        t->seeded = 1;
-        return number_read(rest, UINT32_MAX, &t->seed) == 0
-            ? NULL : "seed takes a number from 0 to 4294967295";
-    }
-    for (size_t i = 0; i < sizeof rows / sizeof rows[0]; i++) {
+    if ((rest = behind(line, "version")) != NULL)
+        return (wrong = once(t, VERSION_LINE)) != NULL
+            ? wrong : take_version(t, rest);
+    if ((rest = behind(line, "seed")) != NULL)
+        return (wrong = once(t, SEED_LINE)) != NULL
+            ? wrong : take_seed(t, rest);
+    for (size_t i = 0; i < ROWS; i++) {
         uint64_t *number = (uint64_t *)((char *)t + rows[i].place);
 
         if ((rest = behind(line, rows[i].name)) == NULL)
             continue;
-        return number_read(rest, rows[i].most, number) == 0
-            ? NULL : "the number is too large, or none";
+        if (number_read(rest, rows[i].most, number) != 0)
+            return "the number is too large, or none";
+        return once(t, i);
     }
     return "the line is not known";
 }

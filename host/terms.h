@@ -8,6 +8,7 @@
 enum { SCRAMBLES_MAX = 256 };
 
 struct terms {
+    unsigned said;         /* which lines were taken, as bits */
     uint32_t version[3];
     uint64_t size;         /* of the file; 0: not said */
     uint64_t key_size;     /* 0: not said */

@@ -96,7 +96,7 @@ gives "a note alone" 0 '' bhtf add habit f3 -t visited
 same "the text" ',,,visited' "$(bhtf get habit f3)"
 gives "replaced" 0 '' bhtf add habit f2 -r -E 1 -N 2 -H 3
 same "the text" '1,2,3,' "$(bhtf get habit f2)"
-gives "an easting that is no number" 2 'add: the easting 1,5 has another decimal sign' bhtf add habit f4 -E 1,5 -N 2
+gives "an easting that is no number" 2 'add: the easting 1,5 has a decimal comma' bhtf add habit f4 -E 1,5 -N 2
 gives "an easting alone" 2 'add: there is no northing beside the easting' bhtf add habit f4 -E 1
 gives "fields and a text" 2 'leave out TEXT' bhtf add habit f4 text -E 1 -N 2
 gives "fields and --append" 2 'leave out --append' bhtf add habit f1 -a --note more

@@ -40,7 +40,7 @@ holds "--columns says what x is" stores k '1,2,3,' $'point,x,y,z\nk,1,2,3\n' -c 
 gives "a heading that contradicts --columns" 2 'contradicts --columns' bhtf import office - -c PENZD <<<$'P,N,E,Z,D\nl,1,2,3,'
 gives "a heading of another length than --columns" 2 'another number of columns' \
   bhtf import office - -c PENZ <<<$'P,E,N,Z,D\nl,1,2,3,'
-gives "a word that is not known" 2 'heading: a word is not known' bhtf import office - <<<$'name,easting,northing,sigma\nl,1,2,3'
+gives "a word that is not known" 2 'line 1: the heading: sigma is not known; --columns' bhtf import office - <<<$'name,easting,northing,sigma\nl,1,2,3'
 holds "is passed over if --columns says so" stores l '1,2,,' $'name,easting,northing,sigma\nl,1,2,3\n' -c name,e,n,-
 gives "a column twice" 2 'a column stands there twice' bhtf import office - <<<$'name,easting,northing,height,east'
 gives "no name" 2 'no column for the name' bhtf import office - <<<$'easting,northing'
@@ -75,7 +75,7 @@ not a number|nan,2,3,|not a number
 a unit|1m,2,3,|not a number
 a blank inside|1 000,2,3,|not a number
 an exponent|4.48E+06,2,3,|exponent
-a decimal comma|"4482113,402",2,3,|decimal sign; --decimal
+a decimal comma|"4482113,402",2,3,|the easting 4482113,402 has a decimal comma
 an easting alone|1,,3,|no northing beside the easting
 a northing alone|,2,3,|no easting beside the northing
 LIST
@@ -90,7 +90,7 @@ holds "--any-text" stores any 'a,b,c,' $'P,E,N,Z,D\nany,a,b,c,\n' --any-text
 # ---- delimiters and decimal commas ----
 
 german=$'Punkt;Rechtswert;Hochwert;Höhe;Bemerkung\r\nCP1;4482113,402;5351874,118;489,271;CP\r\n'
-gives "a decimal comma is not guessed" 2 'line 2: the easting 4482113,402 has another decimal sign' \
+gives "a decimal comma is not guessed" 2 '--decimal , takes such numbers' \
   sh -c 'printf %s "$1" | bhtf import office -' - "$german"
 holds "a German table" stores CP1 "$place" "$german" --decimal ,
 holds "without a heading" stores CP2 "$place" $'CP2;4482113,402;5351874,118;489,271;CP\n' --decimal , -c PENZD
@@ -104,7 +104,7 @@ gives "a delimiter that is not there" 2 'the line has 1 fields, and not the 5' \
   bhtf import office - -d semicolon -c PENZD <<<'CP9,1,2,3,'
 gives "a delimiter that is none" 2 '--delimiter is comma, semicolon or tab, and not x' bhtf import office plain.csv -d x
 gives "a decimal sign that is none" 2 '--decimal is , or \. and not x' bhtf import office plain.csv --decimal x
-gives "a decimal point where a comma was promised" 2 'decimal sign' bhtf import office - --decimal , -c PENZD <<<'CP9;1.5;2,5;;'
+gives "a decimal point where a comma was promised" 2 'the easting 1\.5 has a decimal point and not a comma' bhtf import office - --decimal , -c PENZD <<<'CP9;1.5;2,5;;'
 holds "a note with a comma between semicolons" stores CP10 '1.5,2.5,,"a, b"' $'CP10;1,5;2,5;;a, b\n' --decimal , -c PENZD
 
 holds "a first line sep=;" stores CP11 '1.5,2.5,,"a, b"' $'sep=;\r\nP;E;N;Z;D\r\nCP11;1.5;2.5;;a, b\r\n'

@@ -214,6 +214,12 @@ wrong_dump "a header behind a point" 'line 6: behind the first point' "${head_li
 wrong_dump "something behind the end" 'line 6: there is something behind the line end' "${head_lines[@]}" end '"a" "b"'
 wrong_dump "a scramble that is too short" 'scramble does not have' 'bhtf-dump 1' 'key-size 4' 'slots 5' 'first 32' 'last 34' \
   'scramble 1 2' end
+wrong_dump "a number of the scramble that is too long" 'line 5: scramble takes numbers' 'bhtf-dump 1' 'key-size 4' 'slots 5' \
+  'first 32' 'scramble 1 0x00000000000000000002' 'last 34' end
+wrong_dump "a line twice" 'line 5: the line stands there twice' "${head_lines[@]}" 'slots 6' end
+wrong_dump "seed twice" 'line 5: the line stands there twice' "${head_lines[@]}" 'seed 6' end
+wrong_dump "version twice" 'line 3: the line stands there twice' 'bhtf-dump 1' 'version 1.0.1' 'version 1.0.1' end
+wrong_dump "what a merge leaves" 'line 5: the line is not known' "${head_lines[@]}" '<<<<<<< HEAD' '"a" "b"' end
 wrong_dump "seed and scramble" 'seed and of scramble' "${head_lines[@]}" 'scramble 1 2' end
 printf '%s\n' "${head_lines[@]}" '"a" "b"' '"a" "c"' end >twice.dump
 gives "a name twice" 1 'line 6: a: refused \(9\)' bhtf load wrong twice.dump
