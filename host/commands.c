@@ -4,6 +4,7 @@
 #include "header.h"
 #include "limits.h"
 #include "point.h"
+#include "progress.h"
 
 #include <errno.h>
 #include <string.h>
@@ -197,10 +198,7 @@ static int text_of_fields(struct buffer *text, const struct options *o)
 /* Standard input, up to one byte more than any message may have. */
 static int text_of_input(struct buffer *text, const struct options *o)
 {
-    if (!o->quiet && isatty(STDIN_FILENO))
-        complain("%s: waiting for the text of %s; Ctrl-D at the beginning of "
-                 "a line ends it, Ctrl-C leaves the file as it is",
-                 o->word[0], o->word[1]);
+    tell_waiting(o->word[0], "the point's text", o->quiet);
     if (buffer_read(text, stdin, (size_t)BHTF_MESSAGE_MAX + 1) == 0)
         return DONE;
     complain("standard input: cannot be read: %s", strerror(errno));

@@ -654,6 +654,8 @@ static int read_input(struct import *m)
     int status;
 
     catch_interrupts();
+    if (m->file == stdin)
+        tell_waiting(m->o->word[0], "lines of CSV", m->o->quiet);
     progress_begin(&m->progress, is_dry(m) ? "read" : "stored",
                    stream_length(m->file), m->o->quiet);
     answer = read_head(m);

@@ -258,6 +258,8 @@ static int read_dump(struct load *l)
     int more = 1;
 
     catch_interrupts();
+    if (l->file == stdin)
+        tell_waiting(l->o->word[0], "the lines of a dump", l->o->quiet);
     progress_begin(&l->progress, "read", stream_length(l->file), l->o->quiet);
     while (status == DONE && more) {
         status = read_line(l, &more);

@@ -1,6 +1,8 @@
 /* Long work: how far it is, and whether it is to stop. */
 #include "progress.h"
 
+#include "text.h"
+
 #include <string.h>
 #include <sys/stat.h>
 #include <time.h>
@@ -53,6 +55,13 @@ void progress_end(struct progress *p)
     if (p->shown > 0)
         fputs("\r\033[K", stderr);
     p->shown = 0;
+}
+
+void tell_waiting(const char *file, const char *what, int quiet)
+{
+    if (!quiet && isatty(STDIN_FILENO))
+        complain("%s: waiting for %s; Ctrl-D at the beginning of a line ends "
+                 "it, Ctrl-C leaves it", file, what);
 }
 
 uint64_t stream_length(FILE *file)

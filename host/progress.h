@@ -25,6 +25,10 @@ void progress_show(struct progress *p, unsigned long points, uint64_t part);
 /* Takes the line away. */
 void progress_end(struct progress *p);
 
+/* Says that input is waited for, if standard input is a terminal and words are
+ * wanted. `what` is to be typed. */
+void tell_waiting(const char *file, const char *what, int quiet);
+
 /* The bytes that are left of a stream; 0 if that cannot be known. */
 uint64_t stream_length(FILE *file);
 

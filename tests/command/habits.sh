@@ -108,10 +108,15 @@ typed() { # COMMAND: on a terminal where 'typed' and Ctrl-D are typed
   { sleep 0.5; printf 'typed\n'; sleep 0.2; printf '\004'; sleep 0.3; } | script -qec "$1" /dev/null >typed.out 2>&1
 }
 typed "bhtf add habit terminal"
-gives "add waiting on a terminal says so" 0 'waiting for the text of terminal; Ctrl-D' cat typed.out
+gives "add waiting on a terminal says so" 0 'habit: waiting for the point.s text; Ctrl-D' cat typed.out
 same "and takes what is typed" typed "$(bhtf get habit terminal)"
 typed "bhtf add habit terminal2 -q"
 same "but not with --quiet" 0 "$(grep -c waiting typed.out)"
+typed "bhtf import habit - -c P"
+gives "import waiting on a terminal says so" 0 'habit: waiting for lines of CSV' cat typed.out
+gives "and takes what is typed" 0 '1 point stored' cat typed.out
+typed "bhtf load habit2"
+gives "load waiting on a terminal says so" 0 'habit2: waiting for the lines of a dump' cat typed.out
 same "nor where the text is piped" '' "$(printf x | bhtf add habit piped 2>&1)"
 
 # ---- progress ----

@@ -64,7 +64,9 @@ gives "other bytes escaped" 0 '^\\xFF\\x00\\x01$' bhtf list round
 gives "blanks at the ends of a name too" 0 '^\\x20blank\\x20$' bhtf list round
 gives "text and columns that differ are refused" 2 'line 2: the column text says something else' \
   bhtf import round2 - -r <<<$'name,easting,northing,height,note,text\na,1,2,3,x,"1,2,3,y"'
-gives "a file of coordinates alone has no such column" 0 '^name,easting,northing,height,note$' bhtf export swap
+bhtf create coordinates
+bhtf import coordinates "$root/host/site.csv" --quiet
+gives "a file of coordinates alone has no such column" 0 '^name,easting,northing,height,note$' bhtf export coordinates
 
 # ---- what prints ----
 
