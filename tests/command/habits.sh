@@ -135,6 +135,8 @@ helpers+=($!)
 on_terminal "bhtf load slow3 slow.dump" >progress
 gives "a long load says how far it is" 0 'bhtf: [0-9]+ points read' cat progress
 gives "and that it is done" 0 '2000 points loaded' cat progress
-on_terminal "bhtf load slow4 whole.dump" >progress
-same "a short one says nothing on the way" '2000 points loaded' "$(tr -d '\r' <progress)"
+(head -n 1500 whole.dump; sleep 0.8; tail -n +1501 whole.dump) >slow.dump &
+helpers+=($!)
+on_terminal "bhtf load slow4 slow.dump --quiet" >progress
+same "nothing of it with --quiet" '0 2000' "$(wc -c <progress) $(bhtf count slow4)"
 rm -f long.csv
