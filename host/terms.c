@@ -68,7 +68,7 @@ void terms_read(struct terms *t, const uint8_t *image, size_t length)
     t->last = h.last;
     t->scrambles = h.last - h.first + 1;
     for (size_t i = 0; i < t->scrambles; i++)
-        t->scramble[i] = read_u32(image + SCRAMBLE_AT + 4 * i);
+        t->scramble[i] = scramble_number(image, (uint32_t)i);
     t->seed = seed_before(t->scramble[0]);
     t->seeded = is_seeded(image, (uint32_t)t->seed);
 }

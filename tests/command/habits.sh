@@ -10,9 +10,9 @@ gives "help" 0 'bhtf create FILE' bhtf help
 gives "help of no command" 2 'no command frob' bhtf help frob
 gives "-V behind a command" 0 '^bhtf [0-9.]+, file format' bhtf count -V
 while read -r command; do
-  gives "help $command" 0 "^bhtf $command FILE" bhtf help "$command"
-  gives "$command -h" 0 "^bhtf $command FILE" bhtf "$command" -h
-  gives "--help $command" 0 "^bhtf $command FILE" bhtf --help "$command"
+  gives "help $command" 0 "^bhtf $command [A-Z]" bhtf help "$command"
+  gives "$command -h" 0 "^bhtf $command [A-Z]" bhtf "$command" -h
+  gives "--help $command" 0 "^bhtf $command [A-Z]" bhtf --help "$command"
   gives "$command in the manual page" 0 . grep -E "^\\.B(R)? \"?(bhtf )?$command\"?( |\$)" "$root/host/bhtf.1"
 done < <(bhtf --help | sed -n 's/^  bhtf \([a-z]*\) .*/\1/p')
 holds "create -h makes no file" test ! -e -h
