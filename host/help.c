@@ -92,7 +92,7 @@ static const struct command commands[] = {
       WAITING },
     { "import", OPTION_REPLACE | OPTION_COLUMNS | OPTION_DELIMITER |
                 OPTION_DECIMAL | OPTION_SKIP | OPTION_ANY_TEXT |
-                OPTION_DRY_RUN, 2, 2, run_import,
+                OPTION_DRY_RUN | OPTION_GSI | OPTION_LANDXML, 2, 2, run_import,
       "bhtf import FILE CSV [--columns ORDER] [--replace] [--dry-run] ..\n"
       "Stores a point for each line of a CSV file; of standard input if CSV is "
       "-.\n"
@@ -111,13 +111,19 @@ static const struct command commands[] = {
       "  -r, --replace      replace points that are already there\n"
       "  -n, --dry-run      store nothing; say what would happen, and every\n"
       "                     line that would be refused\n"
+      "      --gsi          CSV is a Leica GSI-16 file\n"
+      "      --landxml      CSV is a LandXML file; its CgPoints are read\n"
       QUIET WAITING NAMES },
-    { "export", OPTION_CRLF, 1, 1, run_export,
-      "bhtf export FILE [--crlf]\n"
+    { "export", OPTION_CRLF | OPTION_GSI | OPTION_LANDXML | OPTION_DXF, 1, 1,
+      run_export,
+      "bhtf export FILE [--crlf | --gsi | --landxml | --dxf]\n"
       "Prints the points as import reads them, with a heading. Texts that are "
       "not\n"
       "easting,northing,height,note stand in a column text.\n"
       "      --crlf         end lines with carriage return and line feed\n"
+      "      --gsi          as Leica GSI-16\n"
+      "      --landxml      as CgPoints of LandXML 1.2\n"
+      "      --dxf          as points and names of DXF, release 12\n"
       QUIET WAITING },
     { "dump", 0, 1, 1, run_dump,
       "bhtf dump FILE\n"

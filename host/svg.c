@@ -110,20 +110,25 @@ static int is_xml(uint32_t c)
            (c >= 160 && c < 0xFDD0) || (c > 0xFDEF && (c & 0xFFFE) != 0xFFFE);
 }
 
-void xml_put(FILE *to, const char *bytes, size_t length)
+size_t xml_put(FILE *to, const char *bytes, size_t length)
 {
+    size_t replaced = 0;
+
     while (length > 0) {
         uint32_t c;
         size_t used = utf8_read((const uint8_t *)bytes, length, &c);
 
-        if (used > 0 && is_xml(c))
+        if (used > 0 && is_xml(c)) {
             put_escaped(to, bytes, used);
-        else
+        } else {
             fputs("\xEF\xBF\xBD", to);
+            replaced++;
+        }
         used = used > 0 ? used : 1;
         bytes += used;
         length -= used;
     }
+    return replaced;
 }
 
 void svg_text(double x, double y, double size, const char *anchor,

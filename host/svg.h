@@ -44,8 +44,8 @@ void svg_end(void);
 /* Frame, grid with its coordinates, north arrow and scale bar. */
 void sheet_draw(const struct sheet *s);
 
-/* Bytes as XML text. What XML cannot hold becomes U+FFFD. */
-void xml_put(FILE *to, const char *bytes, size_t length);
+/* Bytes as XML text. What XML cannot hold becomes U+FFFD; answers how many. */
+size_t xml_put(FILE *to, const char *bytes, size_t length);
 
 /* A line of text; anchor is start, middle or end. */
 void svg_text(double x, double y, double size, const char *anchor,
