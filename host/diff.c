@@ -17,6 +17,7 @@ struct difference {
     struct site now;
     size_t changes[CHANGES];
     struct buffer name;
+    struct record records[2];
 };
 
 static int same_text(const struct spot *a, const struct spot *b)
@@ -71,8 +72,19 @@ static void print_move(const struct spot *old, const struct spot *now)
         printf(", H %+.*f", d, m.height);
 }
 
+static int same_note(struct difference *d, const struct spot *old,
+                     const struct spot *now)
+{
+    struct piece a[POINT_FIELDS], b[POINT_FIELDS];
+
+    return point_take(&d->records[0], old->text, a) &&
+           point_take(&d->records[1], now->text, b) &&
+           same_piece(a[NOTE], b[NOTE]);
+}
+
 /* What of an equal place's text differs. */
-static void print_text(const struct spot *old, const struct spot *now)
+static void print_text(struct difference *d, const struct spot *old,
+                       const struct spot *now)
 {
     if (old->kind != now->kind) {
         print_place(old);
@@ -82,7 +94,8 @@ static void print_text(const struct spot *old, const struct spot *now)
         fputs(now->has_height ? "a height was added" : "the height is gone",
               stdout);
     } else if (old->kind == SPOT_PLACED) {
-        fputs("the same place, written differently", stdout);
+        fputs(same_note(d, old, now) ? "the same, written differently"
+                                     : "another note", stdout);
     } else {
         fputs("another text", stdout);
     }
@@ -97,7 +110,7 @@ static int print_line(struct difference *d, enum change change,
     if (change == MOVED)
         print_move(old, now);
     else if (change == TEXT)
-        print_text(old, now);
+        print_text(d, old, now);
     else
         print_place(now != NULL ? now : old);
     putchar('\n');
@@ -198,6 +211,8 @@ int run_diff(const struct options *o)
     if (status == DONE)
         status = compare(&d);
     buffer_free(&d.name);
+    buffer_free(&d.records[0].bytes);
+    buffer_free(&d.records[1].bytes);
     site_close(&d.old);
     site_close(&d.now);
     return status;

@@ -250,7 +250,7 @@ static const struct {
     { REASON_CIRCLE, "near the danger circle" },
     { REASON_LINE, "station and points nearly in line" },
     { REASON_NARROW, "directions in a narrow sector" },
-    { REASON_UNEVEN, "directions and distances do not balance" }
+    { REASON_UNEVEN, "little holds the station towards" }
 };
 
 enum { REASONS = sizeof reasons / sizeof reasons[0] };
@@ -274,6 +274,10 @@ static void say_verdict(char *to, size_t room, const struct resection *r)
                  reasons[i].words);
         between = "; ";
     }
+    length = strlen(to);
+    if (r->figure.reasons & REASON_UNEVEN)
+        snprintf(to + length, room - length, " %.0f gon",
+                 r->figure.major_bearing / GON);
 }
 
 static const char caution[] =

@@ -37,8 +37,7 @@ enum reason {
     REASON_NARROW = 4,    /* all directions in a narrow sector */
     REASON_CIRCLE = 8,    /* station and points near one circle */
     REASON_LINE = 16,     /* station and points nearly in line */
-    REASON_UNEVEN = 32    /* none of these alone: directions and distances
-                             do not balance */
+    REASON_UNEVEN = 32    /* none of these: see the ellipse's long axis */
 };
 
 struct figure {
