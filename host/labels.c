@@ -10,7 +10,9 @@
 
 static const double cell = 0.4;       /* millimetres */
 static const double ring_step = 2.4;
-static const double gap = 0.5;        /* between a point and its name */
+static const double gap = 1;          /* between a point and its name */
+static const double side = 0.45;      /* kept free on a name's sides; with a
+                                         cell less than the gap */
 
 struct raster {
     unsigned char *taken;
@@ -72,7 +74,8 @@ static void take(struct raster *r, const struct cells *c)
 static int try_at(struct raster *r, struct label *l, double left, double top,
                   double height)
 {
-    struct area box = { left, top, left + l->width, top + height };
+    struct area box = { left - side, top, left + l->width + side,
+                        top + height };
     struct cells c;
 
     if (!cells_of(r, &box, &c) || !is_free(r, &c))

@@ -12,6 +12,7 @@
 enum { BAR_PARTS = 4 };
 
 static const double grid_apart = 24;  /* millimetres, at least */
+static const double corner = 8;       /* kept free of coordinates */
 static const double bar_least = 10;   /* a part of the scale bar */
 
 /* ---- scale ---- */
@@ -202,6 +203,8 @@ static void draw_eastings(const struct sheet *s, double step)
         double x = sheet_x(s, east);
 
         draw_line(x, s->top, x, s->bottom);
+        if (x < s->left + corner || x > s->right - corner)
+            continue;
         show_coordinate(label, sizeof label, east, step);
         printf("<text stroke=\"none\" text-anchor=\"middle\" x=\"%.2f\" "
                "y=\"%.2f\">%s</text>\n", x, s->bottom + 3.6, label);
@@ -218,6 +221,8 @@ static void draw_northings(const struct sheet *s, double step)
         double y = sheet_y(s, north);
 
         draw_line(s->left, y, s->right, y);
+        if (y < s->top + corner || y > s->bottom - corner)
+            continue;
         show_coordinate(label, sizeof label, north, step);
         printf("<text stroke=\"none\" text-anchor=\"middle\" "
                "transform=\"translate(%.2f %.2f) rotate(-90)\">%s</text>\n",

@@ -344,6 +344,13 @@ test_that "a picture of one point" picture f --station 0,0 E0
 test_that "a picture of odd names" picture odd --station 100,100 'q"\x5C<&>' tabs 'caf\xC3\xA9'
 test_that "the status of a picture" gives 1 'svg' bhtf figure f --station 0,-85 E0 E1 E2 --svg
 
+mkdir pictures
+bash "$root/tests/looking/pictures.sh" pictures
+for picture in plan figure-good figure-weak; do
+  test_that "docs/$picture.svg renders" renders "$root/docs/$picture.svg"
+  test_that "and is what the command prints" cmp "$root/docs/$picture.svg" "pictures/$picture.svg"
+done
+
 # ---- GSI-16 ----
 
 data=$root/tests/looking
