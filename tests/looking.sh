@@ -287,7 +287,7 @@ test_that "nearly in line" gives 1 '^(weak|not determined): station and points n
 test_that "four of them too" gives 1 'station and points nearly in line' bhtf figure f --station -60,4 L1 L2 L3 L4
 test_that "in line, seen from the side, is good" gives 0 '^good' bhtf figure f --station 90,110 L1 L2 L4
 # The line closest to L1, L2, L3 falls by 10 / 14467 and passes 83.333, 1: L2 is 1.998 m off it.
-test_that "how far off the line" gives 0 '^in line +the points stretch over 170\.000 m and lie within 1\.998 m of a line' bhtf figure f --station 90,110 L1 L2 L3
+test_that "how far off the line" gives 1 '^in line +the points stretch over 170\.000 m and lie within 1\.998 m of a line' bhtf figure f --station 90,110 L1 L2 L3
 
 # Against the second opinion: Tienstra's formula for three points, whole normal equations for more.
 # opinion COUNT NUMBER: a random figure of so many points
@@ -433,6 +433,34 @@ test_that "no units" gives 0 'does not say its units' bhtf import x - --landxml 
   echo ']><LandXML><CgPoints><CgPoint name="&j;">1 2</CgPoint></CgPoints></LandXML>'; } >laughs.xml
 test_that "entities that swell" gives 2 'this is not XML' bhtf import x laughs.xml --landxml
 test_that "noise as LandXML" gives 2 'this is not XML' bhtf import x noise --landxml
+
+# Samples with bytes changed, taken away and doubled: refused or read, never a fault.
+# shellcheck disable=SC2016
+mutate='mt_srand((int)$argv[1]); $text = file_get_contents($argv[2]); $bytes = "*+-.0 <>&\"\0\n\xff19";
+  for ($i = mt_rand(1, 6); $i > 0; $i--) {
+    $at = mt_rand(0, strlen($text) - 1);
+    switch (mt_rand(0, 2)) {
+      case 0: $text[$at] = $bytes[mt_rand(0, strlen($bytes) - 1)]; break;
+      case 1: $text = substr($text, 0, $at) . substr($text, $at + mt_rand(1, 30)); break;
+      case 2: $text = substr($text, 0, $at) . substr($text, $at, mt_rand(1, 60)) . substr($text, $at); break;
+    }
+  }
+  echo $text;'
+survives() { # OPTION SAMPLE NUMBER
+  php -r "$mutate" "$((seed + $3))" "$2" >mutated
+  bhtf import mutants mutated "$1" --replace >said 2>&1
+  [ $? -le 2 ] && ! grep -qE 'Sanitizer|runtime error' said && return 0
+  return 1
+}
+all_survive() {
+  local i
+  rm -f mutants
+  bhtf create mutants -k 32
+  for i in $(seq 150); do survives "$1" "$2" "$i" || { echo "  seed $((seed + i))"; head -n 5 said; return 1; }; done
+  bhtf check mutants --quiet
+}
+test_that "150 GSI files with faults" all_survive --gsi "$data/sample.gsi"
+test_that "150 LandXML files with faults" all_survive --landxml "$data/sample.xml"
 
 # ---- DXF ----
 
