@@ -1,8 +1,9 @@
 /* The figure of a resection.
  *
- * Directions r_i of equal weight with an unknown orientation o, as in the
- * observation equation of directions (C. D. Ghilani, Adjustment Computations,
- * chapter on triangulation):
+ * Directions r_i of equal weight with an unknown orientation o: the observation
+ * equation of azimuths (C. D. Ghilani, Adjustment Computations, chapter on
+ * triangulation) less the orientation (W. Niemeier, Ausgleichungsrechnung, on
+ * directions):
  *
  *     r_i + v_i = t_i(E, N) - o,    t_i = atan2(E_i - E, N_i - N)
  *     dt_i/dE = -cos t_i / s_i,     dt_i/dN = sin t_i / s_i
@@ -10,7 +11,7 @@
  * The orientation is eliminated by Schreiber's reduction: each column less its
  * mean. What is left are normal equations of two unknowns, whose inverse is
  * the station's cofactor matrix; its axes are those of Helmert's error ellipse
- * (same book, chapter on error ellipses).
+ * (both books, on error ellipses).
  *
  * The danger circle: (sin t_i, cos t_i) / s_i is the point's image under
  * inversion in the unit circle about the station (H. S. M. Coxeter,

@@ -507,7 +507,7 @@ static int print_columns(struct import *m)
 {
     struct buffer words = { NULL, 0, 0 };
 
-    if (m->columns.fields == 0)
+    if (m->columns.fields == 0 || m->o->given & OPTION_FOREIGN)
         return DONE;
     if (columns_show(&m->columns, &words) != 0)
         return out_of_memory();

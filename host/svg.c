@@ -60,7 +60,7 @@ void sheet_fit(struct sheet *s, const struct bounds *b, double margin)
     double scale = fmax(wide * 1000 / (s->right - s->left - 2 * margin),
                         high * 1000 / (s->bottom - s->top - 2 * margin));
 
-    s->scale = scale_up(fmax(scale, 100));
+    s->scale = scale > 0 ? scale_up(fmax(scale, 10)) : 100;
     s->middle.east = b->least.east + wide / 2;
     s->middle.north = b->least.north + high / 2;
 }

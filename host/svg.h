@@ -29,8 +29,8 @@ double round_up(double least);
 
 void bounds_put(struct bounds *b, const struct at *place);
 
-/* The sheet's frame, a margin inside each of its sides, and the largest round
- * scale at which the bounds fit between them. */
+/* Puts the bounds into the middle of the frame, at the largest round scale at
+ * which they leave a margin on each of its sides. */
 void sheet_fit(struct sheet *s, const struct bounds *b, double margin);
 
 double sheet_x(const struct sheet *s, double east);

@@ -208,6 +208,10 @@ echo 'P,1,2,,' | site one
 bhtf plot one >one.svg
 test_that "one point" renders one.svg
 test_that "its name is there" clear_names one.svg 1
+printf '%s\n' 'A,100,200,,' 'B,101.2,200.4,,' | site small
+bhtf plot small >small.svg
+test_that "a site of a metre" renders small.svg
+test_that "at 1 : 10, with decimals in its grid" grep -q '>100\.5<' small.svg
 seq 30 | sed 's/.*/L&,&0,&0,,/' | site line
 bhtf plot line >line.svg
 test_that "all on a line" renders line.svg
