@@ -172,7 +172,7 @@ const struct spot *site_find(const struct site *s, const uint8_t *name,
     memset(&wanted, 0, sizeof wanted);
     wanted.name = name;
     wanted.name_length = length;
-    if (s->count == 0)
+    if (s->count == 0 || length == 0)
         return NULL;
     return bsearch(&wanted, s->spots, s->count, sizeof *s->spots, by_name);
 }

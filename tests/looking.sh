@@ -42,7 +42,11 @@ gives() {
 equal() { [ "$1" = "$2" ] && return 0; echo "  expected '$1', got '$2'"; return 1; }
 
 # near A B TOLERANCE
-near() { awk -v a="$1" -v b="$2" -v t="$3" 'BEGIN { d = a - b; exit !(d <= t && -d <= t) }' || { echo "  $1 is not $2"; return 1; }; }
+near() {
+  awk -v a="$1" -v b="$2" -v t="$3" 'BEGIN { d = a - b; exit !(d <= t && -d <= t) }' && return 0
+  echo "  $1 is not $2"
+  return 1
+}
 
 # site NAME [OPTION..]: a file of the points that are given as name,easting,northing,height,note
 site() {
@@ -71,8 +75,10 @@ test_that "list by two patterns" equal "$(printf 'BM-2\nCP-101\nCP-102')" "$(bht
 test_that "a pattern that nothing matches" gives 1 'no name matches' bhtf list a 'X*'
 test_that "list --long of some" gives 0 '^ +[0-9]+ +[0-9]+ BM-1$' bhtf list a 'BM-1' --long
 test_that "two forms at once" gives 2 'one of them' bhtf list a --json --tsv
-test_that "tab-separated" equal "$(printf 'name\tslot\teasting\tnorthing\theight\tnote\nCP-107\t%s\t4482148.663\t5351685.727\t490.382\tsteel rod, cover marked "SURVEY"' \
-  "$(bhtf list a CP-107 --long | awk '{ print $1 }')")" "$(bhtf list a CP-107 --tsv)"
+slot=$(bhtf list a CP-107 --long | awk '{ print $1 }')
+expected="name	slot	easting	northing	height	note
+CP-107	$slot	4482148.663	5351685.727	490.382	steel rod, cover marked \"SURVEY\""
+test_that "tab-separated" equal "$expected" "$(bhtf list a CP-107 --tsv)"
 bhtf create odd -k 16 -s 100
 bhtf add odd tabs '1.5,2,3,"a	b\c
 d"'
@@ -107,7 +113,9 @@ test_that "an empty list" equal '' "$(bhtf list empty --json)"
 
 # ---- get ----
 
-test_that "several points" equal "$(printf 'BM-1\t%s\nCP-102\t%s' "$(bhtf get a BM-1)" "$(bhtf get a CP-102)")" "$(bhtf get a BM-1 CP-102)"
+expected="BM-1	$(bhtf get a BM-1)
+CP-102	$(bhtf get a CP-102)"
+test_that "several points" equal "$expected" "$(bhtf get a BM-1 CP-102)"
 test_that "one of several is not there" gives 1 '^BM-1	' bhtf get a nobody BM-1
 test_that "and that is said" gives 1 'nobody: refused \(14\)' bhtf get a nobody BM-1
 test_that "one point as JSON" gives 0 '^\{"name":"BM-1",' bhtf get a BM-1 --json
@@ -138,7 +146,8 @@ test_that "a height gone" gives 1 '^text +CP-106 +the height is gone$' bhtf diff
 test_that "no more coordinates" gives 1 '^text +BM-1 +.* -> the text is not coordinates$' bhtf diff a b
 test_that "their sum" gives 1 '^4 same, 1 new, 2 gone, 2 moved, 4 with another text$' bhtf diff a b
 test_that "the other way round" gives 1 '^4 same, 2 new, 1 gone, 2 moved, 4 with another text$' bhtf diff b a
-test_that "tab-separated differences" gives 1 '^moved	CP-104	5\.000	4482301\.7740	5351779\.4620	490\.5530	4482301\.7770	5351779\.4660	490\.5530$' bhtf diff a b --tsv
+test_that "tab-separated differences" gives 1 \
+  '^moved	CP-104	5\.000	4482301\.7740	5351779\.4620	490\.5530	4482301\.7770	5351779\.4660	490\.5530$' bhtf diff a b --tsv
 bhtf create wide -k 32 -s 200 --seed 5
 bhtf export a | bhtf import wide - --quiet
 test_that "another key size, table and seed make no difference" gives 0 '^12 same' bhtf diff a wide
@@ -160,34 +169,48 @@ test_that "a move in height" grep -q '>BM-2 h -3.0 mm<' b.svg
 places() { sed -n '/id="points"/,/^<\/g>/s/.*translate(\([-0-9.]*\) \([-0-9.]*\)).*/\1 \2/p' "$1"; }
 # The distance of two points on the paper times the scale is that on the ground: BM-1 is the first by name, BM-2 the second.
 scale=$(sed -n 's/.* 1 : \([0-9]*\) on .*/\1/p' a.svg)
-test_that "to scale" near "$(places a.svg | awk -v s="$scale" 'NR == 1 { x = $1; y = $2 } NR == 2 { print sqrt(($1 - x) ^ 2 + ($2 - y) ^ 2) * s / 1000 }')" \
+paper='NR == 1 { x = $1; y = $2 } NR == 2 { print sqrt(($1 - x) ^ 2 + ($2 - y) ^ 2) * s / 1000 }'
+test_that "to scale" near "$(places a.svg | awk -v s="$scale" "$paper")" \
   "$(awk 'BEGIN { print sqrt((4482333.497 - 4482087.210) ^ 2 + (5351690.115 - 5351893.004) ^ 2) }')" 0.05
 test_that "north is up and east is right" awk 'NR == 1 { x = $1; y = $2 } NR == 2 { exit !($1 > x && $2 > y) }' <(places a.svg)
 bar() { sed -n '/id="bar"/,/^<\/g>/p' "$1"; }
-test_that "the bar is to scale" near "$(bar a.svg | sed -n 's/.*<rect.* width="\([0-9.]*\)".*/\1/p' | awk -v s="$scale" '{ w += $1 } END { print w * s / 1000 }')" \
-  "$(bar a.svg | sed -n 's/.*>\([0-9.]*\) m<.*/\1/p')" 0.01
+test_that "the bar is to scale" near "$(bar a.svg | sed -n 's/.*>\([0-9.]*\) m<.*/\1/p')" \
+  "$(bar a.svg | sed -n 's/.*<rect.* width="\([0-9.]*\)".*/\1/p' | awk -v s="$scale" '{ w += $1 } END { print w * s / 1000 }')" 0.01
 
 # clear FILE COUNT: that many names, none of which covers another or a point. Letters are taken as 0.6 of their size wide.
 clear_names() {
   places "$1" >marks
   sed -n '/id="names"/,/^<\/g>/s/^<text x="\([-0-9.]*\)" y="\([-0-9.]*\)"[^>]*>\(.*\)<\/text>/\1 \2 \3/p' "$1" >names
   awk -v count="$2" '
+    function across(a, wide, b, other) { return a < b + other && b < a + wide }
     NR == FNR { mx[NR] = $1; my[NR] = $2; marks = NR; next }
-    { n++; x[n] = $1; top[n] = $2 - 2.72; text = $0; sub(/^[^ ]* [^ ]* /, "", text); w[n] = length(text) * 3.4 * 0.6; name[n] = text }
+    {
+      n++
+      x[n] = $1
+      top[n] = $2 - 2.72
+      name[n] = $0
+      sub(/^[^ ]* [^ ]* /, "", name[n])
+      w[n] = length(name[n]) * 3.4 * 0.6
+    }
     END {
       for (i = 1; i <= n; i++) {
         for (j = 1; j < i; j++)
-          if (x[i] < x[j] + w[j] && x[j] < x[i] + w[i] && top[i] < top[j] + 3.4 && top[j] < top[i] + 3.4) { print "  " name[i] " on " name[j]; bad = 1 }
+          if (across(x[i], w[i], x[j], w[j]) && across(top[i], 3.4, top[j], 3.4)) bad = 1
         for (j = 1; j <= marks; j++)
-          if (mx[j] + 1.3 > x[i] && mx[j] - 1.3 < x[i] + w[i] && my[j] + 1.3 > top[i] && my[j] - 1.3 < top[i] + 3.4) { print "  " name[i] " on a point"; bad = 1 }
+          if (across(x[i], w[i], mx[j] - 1.3, 2.6) && across(top[i], 3.4, my[j] - 1.3, 2.6)) bad = 1
       }
-      if (n != count) { print "  " n " names"; bad = 1 }
-      exit bad
+      if (bad || n != count) print "  " n " names, " (bad ? "one of them on another or on a point" : "not " count)
+      exit bad || n != count
     }' marks names
 }
 test_that "names of twelve points are clear of each other" clear_names a.svg 12
 # random COUNT WIDTH HEIGHT NAME: points all over a site
-random() { awk -v s="$seed" -v n="$1" -v w="$2" -v h="$3" -v p="$4" 'BEGIN { srand(s); for (i = 1; i <= n; i++) printf "%s-%03d,%.3f,%.3f,%.3f,\n", p, i, 4482000 + rand() * w, 5351600 + rand() * h, 490 + rand() * 5 }'; }
+random() {
+  awk -v s="$seed" -v n="$1" -v w="$2" -v h="$3" -v p="$4" 'BEGIN {
+    srand(s)
+    for (i = 1; i <= n; i++) printf "%s-%03d,%.3f,%.3f,,\n", p, i, 4482000 + rand() * w, 5351600 + rand() * h
+  }'
+}
 random 200 400 260 CP | site r200
 bhtf plot r200 >r200.svg
 test_that "a site of 200 points" renders r200.svg
@@ -201,7 +224,7 @@ test_that "on the paper that was asked for" grep -q 'width="297mm" height="210mm
 test_that "no such paper" gives 2 'A4, A3, A2, A1 or A0' bhtf plot a --paper letter
 random 100 20 900 CP | site tall
 bhtf plot tall >tall.svg
-test_that "a tall site on upright paper" awk '/<svg/ { match($0, /width="[0-9]+/); w = substr($0, RSTART + 7, RLENGTH - 7); match($0, /height="[0-9]+/); exit !(w + 0 < substr($0, RSTART + 8, RLENGTH - 8) + 0) }' tall.svg
+test_that "a tall site on upright paper" grep -qE 'width="(210|297|420|594|841)mm" height="(297|420|594|841|1189)mm"' tall.svg
 
 test_that "no plan without points" gives 1 'there is no point with coordinates' bhtf plot empty
 echo 'P,1,2,,' | site one
@@ -263,9 +286,9 @@ figure() { bhtf figure f "$@" >said 2>&1; }
 test_that "three all round are good" gives 0 '^good: ' bhtf figure f --station 0,0 E0 E1 E2
 test_that "their factor" near 1 "$(number factor)" 0.0006
 test_that "their ellipse: 100 m, 1 mgon, sqrt(2/3)" near 1.2825 "$(number ellipse)" 0.006
-test_that "their spread is 267 gon" gives 0 '^spread +all directions lie within 266\.7 gon; the widest gap is 133\.3 gon$' bhtf figure f --station 0,0 E0 E1 E2
-test_that "their circle" gives 0 '^circle .*radius 100\.000 m; the station is 100\.000 m inside it' bhtf figure f --station 0,0 E0 E1 E2
-test_that "three have no check" gives 0 '^check +none: residuals' bhtf figure f --station 0,0 E0 E1 E2
+test_that "their spread" grep -qx 'spread   all directions lie within 266\.7 gon; the widest gap is 133\.3 gon' said
+test_that "their circle" grep -q '^circle .*radius 100\.000 m; the station is 100\.000 m inside it' said
+test_that "three have no check" grep -q '^check    none: residuals' said
 figure --station 0,0 F0 F1 F2 F3 F4 --sigma 0.3
 test_that "five all round: 80 m, 0.3 mgon, sqrt(2/5)" near 0.2384 "$(number ellipse)" 0.006
 test_that "two more than needed" grep -q '^check    2 more' said
@@ -275,29 +298,35 @@ test_that "a sector of 133 gon is the limit of good" near 3 "$(number factor)" 0
 figure --station 0,0 H-1 H0 H1
 test_that "a sector of 44 gon" near 24.873 "$(number factor)" 0.001
 test_that "is weak" gives 1 '^weak: directions in a narrow sector$' bhtf figure f --station 0,0 H-1 H0 H1
-test_that "a sector of 33 gon is not determined" gives 1 '^not determined: directions in a narrow sector$' bhtf figure f --station 0,0 I-1 I0 I1
+test_that "a sector of 33 gon is not determined" gives 1 '^not determined: directions in a narrow sector$' \
+  bhtf figure f --station 0,0 I-1 I0 I1
 # On the danger circle, and near it. Opposite E0, at d radii from the circle, the factor is about 2 / d.
 test_that "on the danger circle" gives 1 '^not determined: near the danger circle' bhtf figure f --station 0,-100 E0 E1 E2
-test_that "0.000 m from it" gives 1 '^circle .*the station is 0\.000 m (in|out)side it \(0\.0 %\)$' bhtf figure f --station 0,-100 E0 E1 E2
-test_that "the ellipse is unbounded, along the circle" gives 1 '^ellipse +unbounded, long axis towards 100\.0 gon$' bhtf figure f --station 0,-100 E0 E1 E2
+test_that "0.000 m from it" grep -qE '^circle .*the station is 0\.000 m (in|out)side it \(0\.0 %\)$' said
+test_that "the ellipse is unbounded, along the circle" grep -qx 'ellipse  unbounded, long axis towards 100\.0 gon' said
 test_that "elsewhere on the circle" gives 1 '^not determined: near the danger circle' bhtf figure f --station 60,80 E0 E1 E2
 test_that "1 % inside" gives 1 '^not determined: near the danger circle' bhtf figure f --station 0,-99 E0 E1 E2
 test_that "15 % inside is weak" gives 1 '^weak: near the danger circle$' bhtf figure f --station 0,-85 E0 E1 E2
 test_that "six and the station on one circle" gives 1 '^not determined: near the danger circle' \
   bhtf figure f --station 133.896309,-111.564050 K0 K1 K2 K3 K4 K5
-test_that "a point off the circle helps" gives 1 '^weak: little holds the station towards 73 gon$' bhtf figure f --station 133.896309,-111.564050 K0 K1 K2 K3 K4 K5 L1
+test_that "a point off the circle helps" gives 1 '^weak: little holds the station towards 73 gon$' \
+  bhtf figure f --station 133.896309,-111.564050 K0 K1 K2 K3 K4 K5 L1
 # In line, and nearly.
-test_that "nearly in line" gives 1 '^(weak|not determined): station and points nearly in line' bhtf figure f --station -60,4 L1 L2 L3
+test_that "nearly in line" gives 1 '^not determined: station and points nearly in line' bhtf figure f --station -60,4 L1 L2 L3
 test_that "four of them too" gives 1 'station and points nearly in line' bhtf figure f --station -60,4 L1 L2 L3 L4
 test_that "in line, seen from the side, is good" gives 0 '^good' bhtf figure f --station 90,110 L1 L2 L4
 # The line closest to L1, L2, L3 falls by 10 / 14467 and passes 83.333, 1: L2 is 1.998 m off it.
-test_that "how far off the line" gives 1 '^in line +the points stretch over 170\.000 m and lie within 1\.998 m of a line' bhtf figure f --station 90,110 L1 L2 L3
+test_that "how far off the line" gives 1 '^in line +the points stretch over 170\.000 m and lie within 1\.998 m of a line' \
+  bhtf figure f --station 90,110 L1 L2 L3
 
 # Against the second opinion: Tienstra's formula for three points, whole normal equations for more.
 # opinion COUNT NUMBER: a random figure of so many points
 opinion() {
   local line station names want got
-  line=$(awk -v s="$((seed + $2))" -v n="$1" 'BEGIN { srand(s); for (i = 0; i <= n; i++) printf "%.3f %.3f ", 4482000 + rand() * 300, 5351600 + rand() * 300 }')
+  line=$(awk -v s="$((seed + $2))" -v n="$1" 'BEGIN {
+    srand(s)
+    for (i = 0; i <= n; i++) printf "%.3f %.3f ", 4482000 + rand() * 300, 5351600 + rand() * 300
+  }')
   read -r -a numbers <<<"$line"
   station=${numbers[0]},${numbers[1]}
   names=()
@@ -324,10 +353,12 @@ test_that "and its inscribed angle" near 0 "$angle" 0.001
 
 test_that "two points" gives 1 '^not determined: a resection needs three different points' bhtf figure f --station 0,0 E0 E1
 test_that "one point" gives 1 '^not determined: a resection needs three' bhtf figure f --station 0,0 E0
-test_that "three names on two places" gives 1 '^not determined: a resection needs three different' bhtf figure same --station 0,0 S1 S2 S3
+test_that "three names on one place" gives 1 '^not determined: a resection needs three' bhtf figure same --station 0,0 S1 S2 S3
 test_that "a station on a point" gives 1 '^not determined: the station stands on one' bhtf figure f --station 0,0 L1 E0 E1 E2
 test_that "a point named twice" gives 1 'E0: the point is named twice' bhtf figure f --station 0,0 E0 E1 E0
 test_that "no such point" gives 1 'X: there is no point' bhtf figure f --station 0,0 E0 E1 X
+test_that "an empty name" gives 1 ': there is no point' bhtf figure f --station 0,0 E0 E1 ''
+test_that "a name with its padding" gives 0 '^good' bhtf figure f --station 0,0 E0 E1 'E2\x00'
 test_that "a point without a place" gives 1 'bare: the point.s text is not coordinates' bhtf figure odd --station 0,0 bare tabs
 test_that "no names" gives 2 'too few' bhtf figure f --station 0,0
 test_that "no station" gives 2 '--station needs' bhtf figure f E0 E1 E2
@@ -366,15 +397,17 @@ CP-104	0.00001	1234.56789
 PNC-0058	2.0413	-6.0751	-8.1240	BRASS, BOLT 7'
 test_that "its units, signs and remark" equal "$expected" "$(bhtf list g --tsv --by name | cut -f 1,3-)"
 bhtf create g2
-test_that "what GSI holds besides is said" gives 0 'words not carried over: 21 22 31 41 42 84 85 86 87 88' bhtf import g2 "$data/sample.gsi" --gsi
-test_that "lines without coordinates are counted" gives 0 '3 lines without coordinates' bhtf import g2 "$data/sample.gsi" --gsi --replace
+test_that "what GSI holds besides is said" gives 0 'words not carried over: 21 22 31 41 42 84 85 86 87 88' \
+  bhtf import g2 "$data/sample.gsi" --gsi
+test_that "lines without coordinates are counted" grep -q '3 lines without coordinates' said
 test_that "--quiet" equal '' "$(bhtf import g2 "$data/sample.gsi" --gsi --replace --quiet 2>&1)"
 bhtf export g --gsi >g.gsi
 bhtf create g3
 bhtf import g3 g.gsi --gsi --quiet
 test_that "GSI out and in again" gives 0 '^3 same, 0 new, 0 gone, 0 moved, 0 with' bhtf diff g g3
 test_that "words of 24 characters" awk '{ sub(/\r$/, ""); if (substr($0, 1, 1) != "*" || (length($0) - 1) % 24 != 0) exit 1 }' g.gsi
-test_that "a block as it is described" grep -q '^\*110001+0000000000CP-102 81\.\.10+0000004482187950 82\.\.10+0000005351861337 83\.\.10+0000000000489644 .$' g.gsi
+block='*110001+0000000000CP-102 81..10+0000004482187950 82..10+0000005351861337 83..10+0000000000489644 '
+test_that "a block as it is described" equal "$block" "$(head -n 1 g.gsi | tr -d '\r')"
 test_that "a unit for five decimals" grep -q '81\.\.18+0000000000000001 82\.\.18+0000000123456789 ' g.gsi
 test_that "long notes are cut, and that is said" gives 0 'notes cut to 16 ASCII' bhtf export a --gsi
 printf '%s\n' '0012,1,2,3,' 'a name of more than 16,1,2,,' 'six,1.000001,2,3,' 'äö,1,2,,' | site loss -k 32
@@ -386,7 +419,7 @@ test_that "GSI-8" bad_gsi 'line 1: .*GSI-8 is not read' '110001+00000101 81..00+
 test_that "a word cut short" bad_gsi 'line 1: here is no word' '*110001+0000000000CP-102 81..00+00000044821879'
 test_that "no sign" bad_gsi 'line 1: here is no word' '*110001 0000000000CP-102 '
 test_that "feet" bad_gsi 'not 16 digits in metres' '*110001+0000000000000101 81..01+0000000000002041 82..01+0000000000006075 '
-test_that "letters in a coordinate" bad_gsi 'not 16 digits' '*110001+0000000000000101 81..00+00000000000020x1 82..00+0000000000006075 '
+test_that "letters in a coordinate" bad_gsi 'not 16' '*110001+0000000000000101 81..00+00000000000020x1 82..00+0000000000006075 '
 test_that "an easting alone" bad_gsi 'one of easting' '*110001+0000000000000101 81..00+0000000000002041 '
 test_that "no point number" bad_gsi 'without a point number' '*81..00+0000000000002041 82..00+0000000000006075 '
 test_that "nothing of it was stored" gives 0 '^3$' bhtf count g
@@ -407,8 +440,9 @@ CP-101	4482113.402	5351874.118	489.271	bolt & washer, <north> gate
 CP-102	4482187.950	5351861.337		KERB
 Münz-3	+2.25	-1.5	0	'
 test_that "northing first, references, groups" equal "$expected" "$(bhtf list x --tsv --by name | cut -f 1,3-)"
-test_that "what is not carried over is said" gives 0 'Surfaces not carried over' bhtf import x "$data/sample.xml" --landxml --replace
-test_that "references are counted" gives 0 '1 CgPoint that refers' bhtf import x "$data/sample.xml" --landxml --replace
+bhtf import x "$data/sample.xml" --landxml --replace >said 2>&1
+test_that "what is not carried over is said" grep -q 'Surfaces not carried over' said
+test_that "references are counted" grep -q '1 CgPoint that refers' said
 bhtf export x --landxml >x.xml
 test_that "LandXML out is XML" xmllint --noout x.xml
 bhtf create x2
@@ -422,16 +456,18 @@ bhtf create x3
 test_that "they come back" gives 0 '^4 points stored$' bhtf import x3 odd.xml --landxml
 test_that "with their ends of lines" equal "$(bhtf get odd tabs)" "$(bhtf get x3 tabs)"
 bad_xml() { printf '%s\n' "$2" >bad.xml; gives 2 "$1" bhtf import x bad.xml --landxml; }
+in_xml() { echo "<LandXML><CgPoints>$1</CgPoints></LandXML>"; }
 test_that "no XML" bad_xml 'line 1: this is not XML' 'P,N,E,Z,D'
 test_that "XML cut short" bad_xml 'line [0-9]: this is not XML' '<LandXML><CgPoints><CgPoint name="A">1 2 3</CgPoint>'
 test_that "other XML" bad_xml 'this is no LandXML' '<svg/>'
 test_that "feet" bad_xml 'not in metres' '<LandXML><Units><Imperial linearUnit="foot"/></Units></LandXML>'
 test_that "millimetres" bad_xml 'not in metres' '<LandXML><Units><Metric linearUnit="millimeter"/></Units></LandXML>'
-test_that "a point without a name" bad_xml 'line 1: the CgPoint has no name' '<LandXML><CgPoints><CgPoint>1 2 3</CgPoint></CgPoints></LandXML>'
+test_that "a point without a name" bad_xml 'line 1: the CgPoint has no name' "$(in_xml '<CgPoint>1 2 3</CgPoint>')"
 for place in '1' '1 2 3 4' '1 x' '' '1e3 2'; do
-  test_that "a place of '$place'" bad_xml 'a CgPoint is northing' "<LandXML><CgPoints><CgPoint name=\"A\">$place</CgPoint></CgPoints></LandXML>"
+  test_that "a place of '$place'" bad_xml 'a CgPoint is northing' "$(in_xml "<CgPoint name='A'>$place</CgPoint>")"
 done
-test_that "no units" gives 0 'does not say its units' bhtf import x - --landxml --replace <<<'<LandXML><CgPoints><CgPoint name="A">1 2</CgPoint></CgPoints></LandXML>'
+test_that "no units" gives 0 'does not say its units' \
+  bhtf import x - --landxml --replace <<<"$(in_xml '<CgPoint name="A">1 2</CgPoint>')"
 { echo '<!DOCTYPE LandXML [<!ENTITY a "aaaaaaaaaa">'; for i in b c d e f g h i j; do
     p=$(printf '%s' "$i" | tr b-j a-i); echo "<!ENTITY $i \"&$p;&$p;&$p;&$p;&$p;&$p;&$p;&$p;&$p;&$p;\">"; done
   echo ']><LandXML><CgPoints><CgPoint name="&j;">1 2</CgPoint></CgPoints></LandXML>'; } >laughs.xml
@@ -483,8 +519,8 @@ assert len(names) == len(points)
 for name, at in sorted(zip(names, points)):
     print('%s %.3f %.3f %.3f' % (name, at.x, at.y, at.z))
 PYTHON
-test_that "ezdxf reads it without a fault" equal "$(bhtf list b --tsv --by name | awk -F '\t' 'NR > 1 && $3 != "" { printf "%s %.3f %.3f %.3f\n", $1, $3, $4, $5 }')" \
-  "$(/usr/bin/python3 read.py b.dxf)"
+as_listed() { bhtf list "$1" --tsv --by name | awk -F '\t' 'NR > 1 && $3 != "" { printf "%s %.3f %.3f %.3f\n", $1, $3, $4, $5 }'; }
+test_that "ezdxf reads it without a fault" equal "$(as_listed b)" "$(/usr/bin/python3 read.py b.dxf)"
 bhtf export x --dxf >x.dxf
 test_that "a name that is not ASCII" equal 'Münz-3 2.250 -1.500 0.000' "$(/usr/bin/python3 read.py x.dxf | tail -n 1)"
 bhtf export empty --dxf >empty.dxf
