@@ -327,26 +327,38 @@ static void say_losses(const struct losses *l, const char *file)
     say_loss(file, l->decimals, "point", "rounded to 0.01 mm");
 }
 
+/* The name as it is shown, if GSI can hold it. */
+static int take_name(const struct buffer *shown, struct piece *name)
+{
+    name->bytes = shown->bytes;
+    name->length = shown->length - 1;
+    return name->length <= DATA && is_plain(*name);
+}
+
 int gsi_write(const struct site *s, const struct options *o)
 {
     struct losses losses = { 0, 0, 0, 0 };
+    struct buffer shown = { NULL, 0, 0 };
     struct record record;
     unsigned long number = 1;
+    int status = DONE;
 
     memset(&record, 0, sizeof record);
-    for (size_t i = 0; i < s->count; i++) {
-        struct piece name = { s->spots[i].name, s->spots[i].name_length };
+    for (size_t i = 0; i < s->count && status == DONE; i++) {
+        struct piece name;
 
         if (s->spots[i].kind != SPOT_PLACED)
             continue;
-        if (name.length > DATA || !is_plain(name) ||
-            piece_trim(name).length != name.length)
-            losses.names++;
-        else
+        if (spot_show(&shown, &s->spots[i]) != 0)
+            status = out_of_memory();
+        else if (take_name(&shown, &name))
             put_spot(&s->spots[i], name, &record, &losses, number++);
+        else
+            losses.names++;
     }
+    buffer_free(&shown);
     buffer_free(&record.bytes);
     if (!o->quiet)
         say_losses(&losses, o->word[0]);
-    return DONE;
+    return status;
 }

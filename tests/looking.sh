@@ -414,6 +414,13 @@ printf '%s\n' '0012,1,2,3,' 'a name of more than 16,1,2,,' 'six,1.000001,2,3,' '
 test_that "zeros in front are said" gives 0 '1 name or note with zeros in front' bhtf export loss --gsi
 test_that "names without a place are said" gives 0 '2 points left out: GSI-16 has names' bhtf export loss --gsi
 test_that "rounding is said" gives 0 '1 point rounded to 0.01 mm' bhtf export loss --gsi
+bhtf create slash
+bhtf add slash 'a\x5Cx41b' 1,2,3,
+bhtf add slash ' b\xFE' 1,2,3,
+bhtf export slash --gsi >slash.gsi
+bhtf create slash2
+bhtf import slash2 slash.gsi --gsi --quiet
+test_that "names with odd bytes in GSI" gives 1 '^0 same, 0 new, 0 gone, 0 moved, 2 with' bhtf diff slash slash2
 bad_gsi() { printf '%s\n' "$2" >bad.gsi; gives 2 "$1" bhtf import g bad.gsi --gsi; }
 test_that "GSI-8" bad_gsi 'line 1: .*GSI-8 is not read' '110001+00000101 81..00+00002041 82..00+00006075'
 test_that "a word cut short" bad_gsi 'line 1: here is no word' '*110001+0000000000CP-102 81..00+00000044821879'
