@@ -1,4 +1,4 @@
-/* create, add, delete, get, count, list and check. */
+/* create, add, delete, get, count and check. */
 #include "commands.h"
 
 #include "header.h"
@@ -285,8 +285,11 @@ int run_get(const struct options *o)
     struct buffer text = { NULL, 0, 0 };
     struct image i;
     uint32_t key_size, number, offset, length;
-    int status = open_for_point(&i, &key, o, 0, &key_size);
+    int status;
 
+    if (o->words > 2 || o->given != 0)
+        return get_several(o);
+    status = open_for_point(&i, &key, o, 0, &key_size);
     if (status == DONE) {
         number = bhtf_lookup(i.bytes, i.length, key.bytes, key.length, &offset,
                              &length);
@@ -319,59 +322,6 @@ int run_count(const struct options *o)
         return refuse(o->word[0], number);
     printf("%lu\n", (unsigned long)count);
     return finish_output(DONE);
-}
-
-/* ---- list ---- */
-
-/* Slot and length, in front of a name in a long list: DONE, or REFUSED if the
- * point is damaged. */
-static int print_long(const struct buffer *copy, uint32_t slot,
-                      const uint8_t *key, uint32_t key_size)
-{
-    uint32_t offset, length;
-    uint32_t number = bhtf_lookup(copy->bytes, copy->length, key, key_size,
-                                  &offset, &length);
-
-    if (number == BHTF_ACCEPTED)
-        printf("%5lu %8lu ", (unsigned long)slot, (unsigned long)length);
-    else
-        printf("%5lu %8s ", (unsigned long)slot, "bad");
-    return number == BHTF_ACCEPTED ? DONE : REFUSED;
-}
-
-static int print_names(const struct buffer *copy, uint32_t key_size,
-                       int is_long)
-{
-    struct buffer shown = { NULL, 0, 0 };
-    uint32_t slot, place;
-    int status = DONE;
-    int done = 0;
-
-    bhtf_walk(copy->bytes, copy->length, 0, &slot, &place);
-    while (place != 0 && done == 0) {
-        const uint8_t *key = copy->bytes + place;
-
-        shown.length = 0;
-        done = name_show(&shown, key, key_size) | buffer_put_byte(&shown, '\n');
-        if (is_long && print_long(copy, slot, key, key_size) != DONE)
-            status = REFUSED;
-        fwrite(shown.bytes, 1, shown.length, stdout);
-        bhtf_walk(copy->bytes, copy->length, slot + 1, &slot, &place);
-    }
-    buffer_free(&shown);
-    return done == 0 ? finish_output(status) : out_of_memory();
-}
-
-int run_list(const struct options *o)
-{
-    struct buffer copy = { NULL, 0, 0 };
-    uint32_t key_size;
-    int status = copy_accepted(&copy, o, &key_size);
-
-    if (status == DONE)
-        status = print_names(&copy, key_size, (o->given & OPTION_LONG) != 0);
-    buffer_free(&copy);
-    return status;
 }
 
 /* ---- check ---- */

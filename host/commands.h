@@ -28,6 +28,17 @@
 #define OPTION_SKIP OPTION(15)
 #define OPTION_ANY_TEXT OPTION(16)
 #define OPTION_DRY_RUN OPTION(17)
+#define OPTION_AGAINST OPTION(32)
+#define OPTION_PAPER OPTION(33)
+#define OPTION_STATION OPTION(34)
+#define OPTION_SIGMA OPTION(35)
+#define OPTION_SVG OPTION(36)
+#define OPTION_BY OPTION(37)
+#define OPTION_TSV OPTION(38)
+#define OPTION_JSON OPTION(39)
+#define OPTION_GSI OPTION(40)
+#define OPTION_LANDXML OPTION(41)
+#define OPTION_DXF OPTION(42)
 
 /* In place of the largest number of words: as many as there are. */
 enum { ANY_NUMBER = -1 };
@@ -49,6 +60,11 @@ struct options {
     const char *columns;
     const char *delimiter;
     const char *decimal;
+    const char *against;
+    const char *paper;
+    const char *station;
+    const char *sigma;
+    const char *by;
     int quiet;
     int help;
     int version;
@@ -88,6 +104,9 @@ int run_import(const struct options *o);
 int run_export(const struct options *o);
 int run_dump(const struct options *o);
 int run_load(const struct options *o);
+int run_diff(const struct options *o);
+int run_plot(const struct options *o);
+int run_figure(const struct options *o);
 int run_scramble(const struct options *o);
 
 /* ---- shared by them ---- */
@@ -114,6 +133,9 @@ int copy_accepted(struct buffer *copy, const struct options *o,
 /* Says that a point is left out because of its damage; answers REFUSED. The
  * name is as it is shown. */
 int leave_out(const char *file, const struct buffer *name, uint32_t number);
+
+/* get for several points, or in another form. */
+int get_several(const struct options *o);
 
 /* The mode of add: new, replace or append. */
 uint32_t mode_of(const struct options *o);

@@ -58,7 +58,7 @@ build() {
 }
 
 out=$(cd host && realpath -m "${OUT:-build}")
-.ci/install gcc libc6-dev make
+.ci/install gcc libc6-dev make pkgconf libexpat1-dev
 build
 work=$(mktemp -d)
 trap 'rm -rf "$work"' EXIT
@@ -72,6 +72,8 @@ show bhtf create site.bhtf --key-size 12 --slots 100
 say "The site's control points, from a CSV file: first what would happen, then so."
 show bhtf import site.bhtf site.csv --dry-run
 show bhtf import site.bhtf site.csv
+
+cp site.bhtf before.bhtf
 
 say "Two points were destroyed by an excavator, and one was set anew."
 show bhtf delete site.bhtf CP-103
@@ -87,6 +89,12 @@ show bhtf get site.bhtf CP-103 || echo "status $?"
 
 say "All names, in the order of the table's slots."
 show bhtf list site.bhtf
+
+say "What became of the points since."
+show bhtf diff before.bhtf site.bhtf || true
+
+say "Would directions to these three determine a station there?"
+show bhtf figure site.bhtf --station 4482210,5351760 CP-101 CP-105 CP-107
 
 say "Is every point where its search finds it, and every text whole?"
 show bhtf check site.bhtf

@@ -5,6 +5,7 @@
 #include "commands.h"
 
 #include "columns.h"
+#include "foreign.h"
 #include "progress.h"
 
 #include <string.h>
@@ -161,6 +162,8 @@ int run_export(const struct options *o)
     uint32_t count;
     int status;
 
+    if (o->given & OPTION_FOREIGN)
+        return export_foreign(o);
     memset(&e, 0, sizeof e);
     status = copy_accepted(&copy, o, &e.key_size);
     if (status == DONE) {

@@ -51,21 +51,34 @@ static const struct command commands[] = {
       "bhtf delete FILE NAME\n"
       "Takes a point out.\n"
       WAITING NAMES },
-    { "get", 0, 2, 2, run_get,
-      "bhtf get FILE NAME\n"
-      "Prints a point's text, byte for byte.\n"
+    { "get", OPTION_TSV | OPTION_JSON, 2, ANY_NUMBER, run_get,
+      "bhtf get FILE NAME.. [--tsv | --json]\n"
+      "Prints a point's text, byte for byte. Of several points, each on a "
+      "line\n"
+      "behind its name and a tab.\n"
+      "      --tsv          fields with tabs between them, as list prints them\n"
+      "      --json         an object a line, as list prints them\n"
       QUIET WAITING NAMES },
     { "count", 0, 1, 1, run_count,
       "bhtf count FILE\n"
       "Prints the number of points.\n"
       WAITING },
-    { "list", OPTION_LONG, 1, 1, run_list,
-      "bhtf list FILE [--long]\n"
+    { "list", OPTION_LONG | OPTION_BY | OPTION_TSV | OPTION_JSON, 1, ANY_NUMBER,
+      run_list,
+      "bhtf list FILE [PATTERN..] [--by name | --by slot] [--long | --tsv | "
+      "--json]\n"
       "Prints the names, one a line, in the order of their slots: without "
       "their\n"
       "padding; bytes that do not print, the backslash, and blanks at either\n"
-      "end as \\xHH.\n"
+      "end as \\xHH. With patterns, the names that match one of them: * stands "
+      "for\n"
+      "anything, ? for one character, [..] for one of several.\n"
+      "  -b, --by ORDER     name, in the order of the names' bytes; or slot\n"
       "  -l, --long         slot and length of the text in front of each\n"
+      "      --tsv          name, slot, easting, northing, height and note "
+      "with\n"
+      "                     tabs between them, under a heading\n"
+      "      --json         the same, an object a line\n"
       WAITING },
     { "check", 0, 1, 1, run_check,
       "bhtf check FILE\n"
@@ -79,7 +92,7 @@ static const struct command commands[] = {
       WAITING },
     { "import", OPTION_REPLACE | OPTION_COLUMNS | OPTION_DELIMITER |
                 OPTION_DECIMAL | OPTION_SKIP | OPTION_ANY_TEXT |
-                OPTION_DRY_RUN, 2, 2, run_import,
+                OPTION_DRY_RUN | OPTION_GSI | OPTION_LANDXML, 2, 2, run_import,
       "bhtf import FILE CSV [--columns ORDER] [--replace] [--dry-run] ..\n"
       "Stores a point for each line of a CSV file; of standard input if CSV is "
       "-.\n"
@@ -98,13 +111,19 @@ static const struct command commands[] = {
       "  -r, --replace      replace points that are already there\n"
       "  -n, --dry-run      store nothing; say what would happen, and every\n"
       "                     line that would be refused\n"
+      "      --gsi          CSV is a Leica GSI-16 file\n"
+      "      --landxml      CSV is a LandXML file; its CgPoints are read\n"
       QUIET WAITING NAMES },
-    { "export", OPTION_CRLF, 1, 1, run_export,
-      "bhtf export FILE [--crlf]\n"
+    { "export", OPTION_CRLF | OPTION_GSI | OPTION_LANDXML | OPTION_DXF, 1, 1,
+      run_export,
+      "bhtf export FILE [--crlf | --gsi | --landxml | --dxf]\n"
       "Prints the points as import reads them, with a heading. Texts that are "
       "not\n"
       "easting,northing,height,note stand in a column text.\n"
       "      --crlf         end lines with carriage return and line feed\n"
+      "      --gsi          as Leica GSI-16\n"
+      "      --landxml      as CgPoints of LandXML 1.2\n"
+      "      --dxf          as points and names of DXF, release 12\n"
       QUIET WAITING },
     { "dump", 0, 1, 1, run_dump,
       "bhtf dump FILE\n"
@@ -124,6 +143,34 @@ static const struct command commands[] = {
       "      --seed S       number by which names are scattered\n"
       "  -S, --size BYTES   length of the file\n"
       QUIET },
+    { "diff", OPTION_TSV, 2, 2, run_diff,
+      "bhtf diff OLD NEW [--tsv]\n"
+      "Says point by point what became of OLD in NEW: new, gone, moved by how\n"
+      "many millimetres, or another text. Status 0 if nothing did, 1 if "
+      "something.\n"
+      "      --tsv          fields with tabs between them, under a heading\n"
+      QUIET WAITING },
+    { "plot", OPTION_AGAINST | OPTION_PAPER, 1, 1, run_plot,
+      "bhtf plot FILE [--against OLD] [--paper SIZE] > PLAN.svg\n"
+      "Prints a plan of the points to scale as SVG, with names, grid, north\n"
+      "and a scale bar.\n"
+      "      --against OLD  also show what is new, gone and moved since that "
+      "file\n"
+      "  -p, --paper SIZE   A4, A3, A2, A1 or A0; unless given, the smallest "
+      "on\n"
+      "                     which the names have room beside their points\n"
+      WAITING },
+    { "figure", OPTION_STATION | OPTION_SIGMA | OPTION_SVG, 2, ANY_NUMBER,
+      run_figure,
+      "bhtf figure FILE --station E,N NAME NAME NAME .. [--sigma MGON] "
+      "[--svg]\n"
+      "Says how well directions from a station at easting E and northing N to\n"
+      "the named points would determine it: good (status 0), weak or not\n"
+      "determined (status 1), and why. Geometry alone is judged.\n"
+      "  -s, --station E,N  where the station is, or will be, in metres\n"
+      "      --sigma MGON   standard deviation of a direction; 1 unless given\n"
+      "      --svg          print a picture instead of words\n"
+      WAITING NAMES },
     { "scramble", 0, 1, 1, run_scramble,
       "bhtf scramble SEED\n"
       "Prints the 95 numbers, one a line, by which names are scattered in a "
@@ -186,7 +233,7 @@ void help_print(FILE *to)
           "  bhtf create FILE            make an empty file\n"
           "  bhtf add FILE NAME [TEXT]   store a point\n"
           "  bhtf delete FILE NAME       take a point out\n"
-          "  bhtf get FILE NAME          print a point's text\n"
+          "  bhtf get FILE NAME..        print texts of points\n"
           "  bhtf count FILE             print the number of points\n"
           "  bhtf list FILE              print the names\n"
           "  bhtf check FILE             say whether the file is sound\n"
@@ -195,6 +242,10 @@ void help_print(FILE *to)
           "  bhtf export FILE            print all points as CSV\n"
           "  bhtf dump FILE              print all of it as text\n"
           "  bhtf load FILE DUMP         make a file of such a text\n"
+          "  bhtf diff OLD NEW           say what became of the points\n"
+          "  bhtf plot FILE              print a plan as SVG\n"
+          "  bhtf figure FILE --station E,N NAME..\n"
+          "                              judge the figure of a resection\n"
           "  bhtf scramble SEED          print the numbers of a seed\n"
           "\n"
           "bhtf help COMMAND says more about one of them; bhtf --version says "

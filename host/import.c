@@ -5,6 +5,7 @@
 #include "commands.h"
 
 #include "columns.h"
+#include "foreign.h"
 #include "neighbours.h"
 #include "progress.h"
 #include "utf8.h"
@@ -32,6 +33,7 @@ struct import {
     FILE *file;
     int decimal;
     struct csv csv;
+    struct arrivals arrivals; /* of another format, in place of the stream */
     struct columns columns;
     struct record record;
     struct record heading;   /* the first line, if it is one */
@@ -505,7 +507,7 @@ static int print_columns(struct import *m)
 {
     struct buffer words = { NULL, 0, 0 };
 
-    if (m->columns.fields == 0)
+    if (m->columns.fields == 0 || m->o->given & OPTION_FOREIGN)
         return DONE;
     if (columns_show(&m->columns, &words) != 0)
         return out_of_memory();
@@ -558,6 +560,8 @@ static int read_options(struct import *m)
     const struct options *o = m->o;
 
     m->decimal = '.';
+    if (foreign_options(o) != DONE)
+        return TROUBLE;
     if (o->columns != NULL &&
         columns_from_option(&m->columns, o->columns) != DONE)
         return TROUBLE;
@@ -647,10 +651,33 @@ static enum csv_answer read_head(struct import *m)
     return answer;
 }
 
+static int store_csv(struct import *m)
+{
+    enum csv_answer answer = read_head(m);
+
+    return answer == CSV_RECORD || interrupted
+        ? store_all(m) : complain_of_input(m, answer);
+}
+
+/* Points of another format are made lines of CSV first. */
+static int store_foreign(struct import *m)
+{
+    const struct buffer *csv = &m->arrivals.csv;
+    int status = columns_from_option(&m->columns, "PENZD");
+
+    m->arrivals.input = m->input;
+    if (status == DONE)
+        status = foreign_read(&m->arrivals, m->file, m->o);
+    if (status != DONE)
+        return status;
+    m->first = 0;
+    csv_from_bytes(&m->csv, csv->bytes, csv->length);
+    return store_all(m);
+}
+
 /* From the first byte of the input to its last. */
 static int read_input(struct import *m)
 {
-    enum csv_answer answer;
     int status;
 
     catch_interrupts();
@@ -658,9 +685,7 @@ static int read_input(struct import *m)
         tell_waiting(m->o->word[0], "lines of CSV", m->o->quiet);
     progress_begin(&m->progress, is_dry(m) ? "read" : "stored",
                    stream_length(m->file), m->o->quiet);
-    answer = read_head(m);
-    status = answer == CSV_RECORD || interrupted
-        ? store_all(m) : complain_of_input(m, answer);
+    status = m->o->given & OPTION_FOREIGN ? store_foreign(m) : store_csv(m);
     progress_end(&m->progress);
     if (status == DONE && interrupted) {
         complain("%s: import interrupted", m->input);
@@ -701,6 +726,7 @@ static void import_free(struct import *m)
     if (m->file != NULL && m->file != stdin)
         fclose(m->file);
     csv_free(&m->csv);
+    buffer_free(&m->arrivals.csv);
     buffer_free(&m->record.bytes);
     buffer_free(&m->heading.bytes);
     buffer_free(&m->apart.bytes);

@@ -1,4 +1,4 @@
-/* UTF-8: what of it prints. */
+/* UTF-8: its characters, and what of it prints. */
 #include "utf8.h"
 
 struct range {
@@ -45,8 +45,7 @@ static size_t announced(uint8_t byte, uint32_t *bits)
     return byte >= 0xF0 && byte <= 0xF4 ? 4 : 0;
 }
 
-/* Reads one character: its length, or 0 if there is none. */
-static size_t decode(const uint8_t *at, size_t left, uint32_t *character)
+size_t utf8_read(const uint8_t *at, size_t left, uint32_t *character)
 {
     static const uint32_t least[5] = { 0, 0, 0x80, 0x800, 0x10000 };
     size_t length = left == 0 ? 0 : announced(at[0], character);
@@ -67,7 +66,7 @@ static size_t decode(const uint8_t *at, size_t left, uint32_t *character)
 size_t utf8_prints(const uint8_t *at, size_t left)
 {
     uint32_t character = 0;
-    size_t length = decode(at, left, &character);
+    size_t length = utf8_read(at, left, &character);
 
     return length != 0 && has_shape(character) ? length : 0;
 }
@@ -77,7 +76,7 @@ int utf8_whole(const uint8_t *bytes, size_t length)
     uint32_t character = 0;
 
     while (length > 0) {
-        size_t step = decode(bytes, length, &character);
+        size_t step = utf8_read(bytes, length, &character);
 
         if (step == 0)
             return 0;

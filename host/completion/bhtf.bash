@@ -36,8 +36,11 @@ _bhtf() {
       --columns | -c) words=(PNEZD PENZD "name,easting,northing,height,note") ;;
       --delimiter | -d) words=(comma semicolon tab) ;;
       --decimal) words=(comma point) ;;
+      --by | -b) words=(name slot) ;;
+      --paper | -p) words=(A4 A3 A2 A1 A0) ;;
       *)
-        if [ "$place" -eq 3 ] && [[ $command =~ ^(get|delete|add)$ ]]; then
+        if { [ "$place" -eq 3 ] && [[ $command =~ ^(get|delete|add)$ ]]; } ||
+          { [ "$place" -gt 2 ] && [[ $command =~ ^(get|figure)$ ]]; }; then
           mapfile -t words < <("$program" list "${COMP_WORDS[2]}" --wait 0 2>/dev/null)
         else
           compopt -o default 2>/dev/null
