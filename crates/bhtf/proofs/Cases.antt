@@ -1,6 +1,6 @@
 -- Document 01, "The proved table", line by line, as theorems about the definitions. Each holds by computation.
 -- `CasesBase` names the modules with more cases.
---     used, bookTold     the space that calls take in a new book with K = 1, N = 4, L = 8,192; the numbers that it gives
+--     used, bookTold     the space that calls take in a new book with K = 1, N = 4, L = 8,192; their numbers there
 -- Assumes nothing.
 use mathlib.Core.Path.{_≡_, refl}
 use Prim.Native.Nat.{ℕ, _+_}

@@ -1,8 +1,8 @@
 -- What the cases compute with and look at. The cases stand in `Cases` (01's proved table), `CasesHeader` (create, hash
 -- and header), `CasesFile` (opened images and messages), `CasesBook` (file and book side by side) and `CasesInspect`
 -- (walk and check).
---     definitions        unfolding it unfolds all of `specs` that a file's calls compute with; book-definitions the book's
---                        too, inspect-definitions those of walk and check too
+--     definitions        unfolding it unfolds all of `specs` that a file's calls compute with; book-definitions the
+--                        book's too, inspect-definitions those of walk and check too
 --     fresh L N          the image that create leaves of L bytes: K = 1, seed 0
 --     headed K N L       create's header and zeros behind it, for names of bytes below 32, which are not scrambled
 --     after, told, answered     the image after a list of calls; the numbers, or the whole answers, that they gave
@@ -16,9 +16,9 @@ use Rattle.bhtf.specs.Bytes.{Bytes, part, store, number, digits, zeros, 
 use Rattle.bhtf.specs.Image.{field, setField, roundUp, dataStart, lastPage, hashStep, hashFrom, scramble, hash, layoutOf, home, slotSize, slotStart, slot, putSlot, keyOf, offsetOf, slotBytes, blank, vacant}
 use Rattle.bhtf.specs.Create.{step, state, drawn, drawnBytes, slotsAsked, freshHeader, freshImage}
 use Rattle.bhtf.specs.Search.{next, dist, probe, search, isMet, isEmpty, slotOf}
-use Rattle.bhtf.specs.Messages.{headSize, letterAt, lengthAt, textAt, isActive, shown, held, message, setFree, takeSpace, retire, overwrite, freshText, renewedText, placedText, enter, inserted, relocated, renewed, renewedAt, addedAt, added}
+use Rattle.bhtf.specs.Messages.{headSize, letterAt, lengthAt, textAt, isActive, shown, shownLength, held, message, setFree, takeSpace, retire, overwrite, freshText, renewedText, placedText, enter, inserted, relocated, renewed, renewedAt, addedAt, added}
 use Rattle.bhtf.specs.Delete.{among, moved, closeFrom, closed, deletedAt, deleted}
-use Rattle.bhtf.specs.Questions.{ask, firstNo, sizeAllowed, keyAllowed, slotsAllowed, tableFits, versionKnown, headerSound, nameAllowed, modeKnown, newInMode1, slotToTake, messageSound, metMessageSound, somePoint, lengthAllowed, spaceLeft, createAsks, opened, named, pointAsks, addAsks, lookupAsks, deleteAsks, createNumber, openNumber, addNumber, deleteNumber, lookupNumber}
+use Rattle.bhtf.specs.Questions.{ask, firstNo, sizeAllowed, keyAllowed, slotsAllowed, tableFits, versionKnown, headerSound, nameAllowed, modeKnown, newInMode1, slotToTake, messageSound, metMessageSound, somePoint, lengthAllowed, spaceLeft, createAsks, opened, named, pointAsks, addAsks, lookupAsks, deleteAsks, createNumber, openNumber, seekNumber, addNumber, deleteNumber, lookupNumber}
 use Rattle.bhtf.specs.Calls.{Call, adding, Answer, plain, settled, create, add, delete, lookupOffset, lookupStart, lookupLength, lookup, countOf, count, perform, answers, stateAfter}
 use Rattle.bhtf.specs.Inspect.{lowest, taken, takenFrom, nextTaken, stopAt, keyWalk, stopNumber, keyStart, keyLength, keyShown, endsAt, slotSound, slotFails, countSound, verdictOf, check, verdictNumber}
 use Rattle.bhtf.specs.Book.{newBook, find, without, withEntry, stepOf, roomAsks, entered, placed, addAbsent, replace, append, addPresent, addFound, guarded, bookAdd, deleteFound, bookDelete, lookupFound, bookLookup, bookCount, bookStep}
@@ -31,12 +31,12 @@ unfolding part store number digits zeros allZero same
     putSlot keyOf offsetOf slotBytes blank vacant
     step state drawn drawnBytes slotsAsked freshHeader freshImage
     next dist probe search isMet isEmpty slotOf
-    headSize letterAt lengthAt textAt isActive shown held message setFree takeSpace retire overwrite freshText
-    renewedText placedText enter inserted relocated renewed renewedAt addedAt added
+    headSize letterAt lengthAt textAt isActive shown shownLength held message setFree takeSpace retire overwrite
+    freshText renewedText placedText enter inserted relocated renewed renewedAt addedAt added
     among moved closeFrom closed deletedAt deleted
     ask firstNo sizeAllowed keyAllowed slotsAllowed tableFits versionKnown headerSound nameAllowed modeKnown newInMode1
     slotToTake messageSound metMessageSound somePoint lengthAllowed spaceLeft createAsks opened named pointAsks addAsks
-    lookupAsks deleteAsks createNumber openNumber addNumber deleteNumber lookupNumber
+    lookupAsks deleteAsks createNumber openNumber seekNumber addNumber deleteNumber lookupNumber
     plain settled create add delete lookupOffset lookupStart lookupLength lookup countOf count perform answers
     stateAfter
 definitions = 0

@@ -11,8 +11,8 @@ use Rattle.bhtf.specs.Limits.{minusOne, slotsField, pointsField, freeFie
 use Rattle.bhtf.specs.Bytes.{Bytes, part, store, zeros}
 use Rattle.bhtf.specs.Image.{Layout, field, setField, layoutOf, slotBytes}
 use Rattle.bhtf.specs.Search.{Probe, met, empty, exhausted, search}
-use Rattle.bhtf.specs.Messages.{setFree, retire, overwrite, renewedText}
-use Rattle.bhtf.specs.Questions.{firstNo, messageSound, pointAsks}
+use Rattle.bhtf.specs.Messages.{shownLength, setFree, retire, overwrite, renewedText}
+use Rattle.bhtf.specs.Questions.{firstNo, messageSound, pointAsks, seekNumber}
 use Rattle.bhtf.specs.Calls.{adding, deleting, looking, counting, lookupStart}
 use Rattle.bhtf.proofs.CasesBase.{definitions, headed, after, keys, table, one, two, point, done, refused, shows, counts, answered}
 
@@ -69,6 +69,13 @@ pub placed-active : renewedText shortLayout (short (97 ∷ 0 ∷ 0 ∷ 2 ∷ 80 
     ≡ some (80 ∷ 81 ∷ 82 ∷ [])
 unfolding short
 placed-active = refl
+
+-- the bytes that an active, an inactive and no message shows
+pub shown-lengths : shownLength shortLayout (short (97 ∷ 0 ∷ 0 ∷ 2 ∷ 80 ∷ 81 ∷ [])) 2053
+    ∷ shownLength shortLayout (short (100 ∷ 0 ∷ 0 ∷ 2 ∷ 80 ∷ 81 ∷ [])) 2053 ∷ shownLength shortLayout (short []) 0 ∷ []
+    ≡ 2 ∷ 0 ∷ 0 ∷ []
+unfolding short
+shown-lengths = refl
 
 -- In place of 3 bytes, also inactive ones, 3 take no new space; in place of 1, 2 do.
 pub placed-in-place : renewedText shortLayout (short (100 ∷ 0 ∷ 0 ∷ 3 ∷ 80 ∷ 81 ∷ 82 ∷ [])) 2053 (83 ∷ 84 ∷ 85 ∷ []) 2
@@ -171,6 +178,12 @@ unfolding three-kinds
 lookup-starts = refl
 
 -- ---- opened images that no create left
+
+-- 1, 5 and 6, then 7, then 8, before the table is looked at
+pub sought : seekNumber [] [] false ∷ seekNumber single [] false ∷ seekNumber single one false
+    ∷ seekNumber single one true ∷ [] ≡ 1 ∷ 7 ∷ 8 ∷ 0 ∷ []
+unfolding single
+sought = refl
 
 -- Byte 1 with an offset below D: 9 before 11 in mode 1, 11 before 13, 14 before 11 where the name is absent.
 pub unsound : answered (adding one [] 1 ∷ adding one (80 ∷ []) 3 ∷ looking one ∷ deleting one ∷ deleting two ∷ [])
