@@ -50,11 +50,12 @@ pub life : Both 8192 4
 unfolding filed booked fresh
 life = (refl, refl)
 
--- "Add, key absent" in modes 2 and 3: as in mode 1. The later of two points is deleted, the other is as it was.
+-- "Add, key absent" in modes 2 and 3: as in mode 1. Append of no data "changes nothing". The later of two points is
+-- deleted, the other is as it was.
 pub other-modes : Both 8192 4
-    (adding one (80 ∷ []) 2 ∷ adding two (81 ∷ 82 ∷ []) 3 ∷ looking two ∷ counting ∷ deleting two ∷ looking one
-    ∷ looking two ∷ [])
-    (done ∷ done ∷ shows 2 (81 ∷ 82 ∷ []) ∷ counts 2 ∷ done ∷ shows 1 (80 ∷ []) ∷ refused 14 ∷ [])
+    (adding one (80 ∷ []) 2 ∷ adding two (81 ∷ 82 ∷ []) 3 ∷ point 1 ∷ looking two ∷ counting ∷ deleting two
+    ∷ looking one ∷ looking two ∷ [])
+    (done ∷ done ∷ done ∷ shows 2 (81 ∷ 82 ∷ []) ∷ counts 2 ∷ done ∷ shows 1 (80 ∷ []) ∷ refused 14 ∷ [])
     11 (97 ∷ 0 ∷ 0 ∷ 1 ∷ 80 ∷ 100 ∷ 0 ∷ 0 ∷ 2 ∷ 81 ∷ 82 ∷ [])
 unfolding filed booked fresh
 other-modes = (refl, refl)

@@ -95,8 +95,8 @@ unfolding short
 bytes-shorter = refl
 
 -- "the old header, if there is one, becomes "d"": the letter alone changes, and nothing where there is no offset
-pub bytes-retired : (part (retire (short (97 ∷ 0 ∷ 0 ∷ 1 ∷ 80 ∷ [])) 2053) 2053 5 ≡ 100 ∷ 0 ∷ 0 ∷ 1 ∷ 80 ∷ [])
-    × (retire (97 ∷ 0 ∷ []) 0 ≡ 97 ∷ 0 ∷ [])
+pub bytes-retired : (part (retire (short (97 ∷ 1 ∷ 2 ∷ 3 ∷ 80 ∷ [])) 2053) 2053 5 ≡ 100 ∷ 1 ∷ 2 ∷ 3 ∷ 80 ∷ [])
+    × (retire (97 ∷ 1 ∷ []) 0 ≡ 97 ∷ 1 ∷ [])
 unfolding short
 bytes-retired = (refl, refl)
 
