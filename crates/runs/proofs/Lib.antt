@@ -1,2 +1,4 @@
+pub mod Little
 pub mod Compare
 pub mod Copied
+pub mod Moved
