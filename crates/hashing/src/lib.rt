@@ -16,11 +16,12 @@ pub fn hash_step(scramble: &[u8], multiplier: u32, first: u32, last: u32, h: u32
     if last < first {
         return x;
     }
-    let d = std::num::wrapping_sub_u32(c as u32, first);
-    if last - first < d {
+    let span = (last - first) as usize;
+    let d = std::num::wrapping_sub_usize(c as usize, first as usize);
+    if span < d {
         return x;
     }
-    x ^ read_u32(scramble, 4 * (d as usize))
+    x ^ read_u32(scramble, 4 * d)
 }
 
 // The hash of the key, from the start value on.

@@ -3,18 +3,18 @@
 --     same-lengths, same-end         runs of different lengths are not the same; nothing left is
 --     allZero-step, allZero-other    a zero byte at i leaves the rest; another one ends it
 --     same-block, block-differ, same-last              the same of a block, and of the last, which may overlap
---     another                                          a first block shows that neither holds
+--     other-key                                        a block shows that neither holds
 --     allZero-block, allZero-differ, allZero-last      the same for zeros
 -- Assumes nothing.
 use Prim.Native.Nat.{ℕ, zero, suc, _+_, _-_, _≤_, _<_}
 use native.Mathlib.Numerals.{add-one}
-use mathlib.Core.Bool.{Bool, true, false, _&&_, not, and-false, true≢false}
+use mathlib.Core.Bool.{Bool, true, false, _&&_, _||_, and-false, true≢false}
 use mathlib.Core.List.{[], _∷_, _++_}
 use mathlib.Core.Path.{_≡_, refl, sym, ap, ap₂, _∙_}
 use lib.ListN.{length, getD, take, drop, take-append-drop, length-drop}
 use lib.Seq.{drop-cons, drop-length, drop-drop, take-all}
 use lib.Dec.{eqb}
-use borrow.Author.Tests.{eq-eqb, ne-eqb, eqb-true, not-true}
+use borrow.Author.Tests.{eq-eqb, ne-eqb, eqb-true}
 use native.Mathlib.Omega.{arith}
 use Rattle.bhtf.specs.Bytes.{Bytes, part, same, allZero}
 use Rattle.bhtf.proofs.Tests.{by-bool, and-left, and-right}
@@ -161,12 +161,20 @@ allZero-last s j i w h f e =
         ∙ ap allZero (sym (drop-drop (i - j) j s))
         ∙ allZero-drop (i - j) (drop j s) (ap allZero (last-block s j w f) ∙ little-zero (part s j w) t)
 
--- ---- a first block that is neither the key's nor zero
-pub another : (a b : Bytes) (w x y : ℕ) → x ≡ little (part a 0 w) → y ≡ little (part b 0 w)
-    → (not (eqb x y) && not (eqb x 0)) ≡ true → (same a b ≡ false) × (allZero a ≡ false)
-another a b w x y p q e =
-    let differs = not-true (eqb x y) (and-left (not (eqb x y)) (not (eqb x 0)) e) in
-    let stands = not-true (eqb x 0) (and-right (not (eqb x y)) (not (eqb x 0)) e) in (
-      block-differ a b 0 w (λ h. true≢false (sym (eq-eqb x y (p ∙ h ∙ sym q)) ∙ differs)),
-      allZero-differ a 0 w (λ h. true≢false (sym (eq-eqb x 0 (p ∙ h)) ∙ stands)),
+-- ---- a block that is neither the key's nor zero
+pub other-key : (a b : Bytes) (i w x y : ℕ) → x ≡ little (part a i w) → y ≡ little (part b i w)
+    → (eqb x y || eqb x 0) ≡ false → (same a b ≡ false) × (allZero a ≡ false)
+other-key a b i w x y p q e =
+    let differs = or-left (eqb x y) (eqb x 0) e in
+    let stands = or-right (eqb x y) (eqb x 0) e in (
+      block-differ a b i w (λ h. true≢false (sym (eq-eqb x y (p ∙ h ∙ sym q)) ∙ differs)),
+      allZero-differ a i w (λ h. true≢false (sym (eq-eqb x 0 (p ∙ h)) ∙ stands)),
     )
+  where
+    or-left : (s t : Bool) → (s || t) ≡ false → s ≡ false
+    or-left true t e = e
+    or-left false t e = refl
+
+    or-right : (s t : Bool) → (s || t) ≡ false → t ≡ false
+    or-right true t e = absurd (true≢false e)
+    or-right false t e = e

@@ -10,9 +10,9 @@ use crate::blocks::move_eight;
 ghost use mathlib.Core.Path.{_≡_};
 ghost use mathlib.Core.Logic.{_⊎_};
 ghost use lib.ListN.{length};
-ghost use mathlib.Core.Bool.{true, false};
-ghost use Prim.Native.Nat.{_+_, _≤_, _<_};
+ghost use Prim.Native.Nat.{_+_, _-_, _≤_, _<_};
 ghost use Rattle.bhtf.specs.Bytes.{part, store, zeros, allZero, same};
+ghost use Rattle.runs.specs.Little.{little};
 
 // Makes every byte zero.
 pub fn zero(s: &mut [u8])
@@ -195,22 +195,11 @@ pub fn all_zero(s: &[u8]) -> bool
     eight(s, last) == 0
 }
 
-// Whether the first block shows that a slot's bytes are neither the key's nor all zero: most slots end here.
-pub fn is_another(held: &[u8], key: &[u8]) -> bool
-    ensures { λ r. ⌜ (r ≡ true
-        → (same (now (held .entry)) (now (key .entry)) ≡ false) × (allZero (now (held .entry)) ≡ false)) ⌝ }
+// The last four bytes as a number, to be compared only: names often begin alike, and differ in the end.
+pub fn tail(s: &[u8]) -> u32
+    requires { ⌜ 4 ≤ length (now s) ⌝ }
+    ensures { λ r. ⌜ r ≡ little (part (now (s .entry)) (length (now (s .entry)) - 4) 4) ⌝ }
 {
-    let n = held.len();
-    if n != key.len() {
-        return false;
-    }
-    if 8 <= n {
-        let block = eight(held, 0);
-        return (block != eight(key, 0)) & (block != 0);
-    }
-    if 4 <= n {
-        let block = four(held, 0);
-        return (block != four(key, 0)) & (block != 0);
-    }
-    false
+    let end = s.len();
+    four(s, end - 4)
 }

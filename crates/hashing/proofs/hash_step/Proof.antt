@@ -19,8 +19,11 @@ returns c =
     hashStep-outside (A .multiplier) (A .first) (A .last) (A .scramble .now) (A .h) (A .c) (m .result) (m .ensures)
     (λ p q. omega (arith, p, q))
 
-wrapping-sub-u32-requires : tie.Need-wrapping-sub-u32-requires
-wrapping-sub-u32-requires c κs = search needs
+cast-span : tie.Need-cast-span
+cast-span c = search needs
+
+wrapping-sub-usize-requires : tie.Need-wrapping-sub-usize-requires
+wrapping-sub-usize-requires c κs = search needs
 
 returns-2 : tie.Need-returns-2
 returns-2 c =
@@ -28,9 +31,6 @@ returns-2 c =
     let m = c .before .before .before .mul-u32 in
     hashStep-outside (A .multiplier) (A .first) (A .last) (A .scramble .now) (A .h) (A .c) (m .result) (m .ensures)
     (λ p q. omega (arith, p, q))
-
-cast-read-u32 : tie.Need-cast-read-u32
-cast-read-u32 c = search needs
 
 mul-read-u32 : tie.Need-mul-read-u32
 mul-read-u32 c = search needs
@@ -42,7 +42,7 @@ returns-3 : tie.Need-returns-3
 returns-3 c =
     let A = c .before .before .before .before .before .before .args in
     let m = c .before .before .before .before .mul-u32 in
-    let d : c .before .before .wrapping-sub-u32 .result ≡ A .c - A .first = omega arith in
+    let d : c .before .before .wrapping-sub-usize .result ≡ A .c - A .first = omega arith in
     hashStep-within (A .multiplier) (A .first) (A .last) (A .scramble .now) (A .h) (A .c)
     (m .result) (c .read-u32 .result) (m .ensures)
     (c .read-u32 .ensures ∙ ap (λ (k : ℕ). field (A .scramble .now) (4 * k)) d)
@@ -54,9 +54,9 @@ hash-step-spec =
     (tie.spec
     mul-u32-requires
     returns
-    wrapping-sub-u32-requires
+    cast-span
+    wrapping-sub-usize-requires
     returns-2
-    cast-read-u32
     mul-read-u32
     read-u32-requires
     returns-3)
