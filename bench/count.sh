@@ -2,7 +2,7 @@
 # Instructions and conditional branches of the calls alone, by callgrind: they
 # do not depend on what else the machine does. Prints lines
 #     counts 1 K N subject phase load 0 0 calls instructions branches missed
-# of the last sample of each phase; missed is by callgrind's simulated
+# of one sample of each phase; missed is by callgrind's simulated
 # predictor. The programs must have been built (run.sh does).
 #
 #   bench/count.sh [K,K.. [N,N.. [SUBJECT,SUBJECT.. [SEED]]]]
@@ -25,7 +25,7 @@ count() {
   # The words of the plan are meant to be split.
   # shellcheck disable=SC2086
   valgrind -q --tool=callgrind --branch-sim=yes "${toggles[@]}" --zero-before='phase_*' --dump-before=conclude \
-    --callgrind-out-file="$work/dump" "$bin/$3" --file "$work/image" --seed "$seed" --fewer 100 --key "$1" --slots "$2" \
+    --callgrind-out-file="$work/dump" "$bin/$3" --file "$work/image" --seed "$seed" --fewer 100 --once 1 --key "$1" --slots "$2" \
     $plan >"$work/lines" || { echo "$3, K = $1, N = $2: failed" >&2; return 1; }
   # Each phase has a dump; those that only fill the table have no line.
   local dump=0 word
@@ -34,7 +34,7 @@ count() {
     case $word in fill:*) continue ;; esac
     sed -n 's/^totals: //p' "$work/dump.$dump"
   done | paste -d ' ' "$work/lines" - |
-    awk -v place="counts 1 $1 $2 $3" '{ print place, $1, $2, 0, 0, $5, $9 + 0, $10 + 0, $11 + 0 }'
+    awk -v place="counts 1 $1 $2 $3" '{ print place, $1, $2, 0, 0, $5, $7 + 0, $8 + 0, $9 + 0 }'
 }
 
 status=0

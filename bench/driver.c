@@ -5,10 +5,11 @@
  * processor time for one call, one for each sample of so many calls.
  *
  * driver --file PATH --seed S --key K --slots N [--images DIRECTORY]
- *        [--turns 1] [--fewer F] PLAN..
+ *        [--turns 1] [--fewer F] [--once 1] PLAN..
  * A word of the plan is a phase below; fill:P, build:P go to P % load. With
  * --turns it works only when turns.c lets it, with --fewer it makes an F-th of
- * the calls. */
+ * the calls, with --once it takes one sample and asks only for the answers,
+ * not for what the subject then holds: count.sh has them counted. */
 #define _POSIX_C_SOURCE 200809L
 #include <inttypes.h>
 #include <stdio.h>
@@ -36,6 +37,7 @@ struct options {
     const char *images;
     int turns;
     uint32_t fewer;
+    int once;
 };
 
 struct bench {
@@ -46,6 +48,7 @@ struct bench {
     int wrong;
     int turns;
     uint32_t fewer;
+    int once;
 };
 
 static void take_turn(const struct bench *b)
@@ -326,7 +329,7 @@ static void print_line(const struct bench *b, const char *name,
 {
     printf("%s %u %016" PRIx64 " %016" PRIx64 " %u", name, (unsigned)b->load,
            common, exact, (unsigned)b->calls);
-    for (int i = 0; i < SAMPLES; i++)
+    for (int i = 0; i < (b->once ? 1 : SAMPLES); i++)
         printf(" %.1f", spent[i]);
     printf("\n");
 }
@@ -339,7 +342,8 @@ conclude(struct bench *b, const struct phase *phase, const char *images,
 {
     uint64_t exact = 0;
 
-    if (b->wrong || !model_holds(&b->model, &b->common, &exact)) {
+    if (b->wrong ||
+        (!b->once && !model_holds(&b->model, &b->common, &exact))) {
         fprintf(stderr, "%s at %u %%: a wrong answer or content\n",
                 phase->name, (unsigned)b->load);
         return 0;
@@ -358,7 +362,7 @@ static int run_phase(struct bench *b, const struct phase *phase,
     int good;
 
     b->common = 0;
-    for (int i = 0; i < (phase->sampled ? SAMPLES : 1); i++) {
+    for (int i = 0; i < (phase->sampled && !b->once ? SAMPLES : 1); i++) {
         take_turn(b);
         spent[i] = phase->run(b) / b->calls;
         end_turn(b);
@@ -412,6 +416,8 @@ static int read_options(struct options *o, char **argv)
             o->turns = 1;
         else if (strcmp(name, "--fewer") == 0)
             o->fewer = (uint32_t)strtoul(value, NULL, 10);
+        else if (strcmp(name, "--once") == 0)
+            o->once = 1;
         else
             return 0;
     }
@@ -435,7 +441,7 @@ static int prepare(struct bench *b, const struct options *o)
 
 int main(int argc, char **argv)
 {
-    struct options o = { 1, 0, 0, NULL, NULL, 0, 1 };
+    struct options o = { 1, 0, 0, NULL, NULL, 0, 1, 0 };
     struct bench b = { .load = 0 };
     int at = read_options(&o, argv), good;
 
@@ -446,6 +452,7 @@ int main(int argc, char **argv)
     }
     b.turns = o.turns;
     b.fewer = o.fewer;
+    b.once = o.once;
     take_turn(&b);
     good = prepare(&b, &o);
     end_turn(&b);
