@@ -199,7 +199,7 @@ pages=docs
 if [ "$quick" = 1 ] || [ "$self" = 1 ] || [ "$failed" -gt 0 ]; then pages=$bin; fi
 mkdir -p "$pages"
 cp "$results" "$bin/results"
-awk -v rounds="$rounds" -v head=bench/head.md -v command="$given" -v seed="$seed" -v files="$files_say" \
+awk -v rounds="$rounds" -v head=bench/head.md -v tried=bench/tried.md -v command="$given" -v seed="$seed" -v files="$files_say" \
   -v machine="Machine: $(nproc) cores, $(uname -m), gcc $(gcc -dumpfullversion)" \
   -v engines="Engines: gdbm $(version libgdbm-dev), tdb $(version libtdb-dev), LMDB $(version liblmdb-dev), Kyoto Cabinet $(version libkyotocabinet-dev)" \
   -f bench/table.awk "$results" >"$pages/PERFORMANCE.md" || fail "the page"

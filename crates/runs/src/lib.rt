@@ -1,5 +1,5 @@
-// Runs of bytes: zeroed, copied, compared; from eight bytes on in blocks of eight, the last of which may overlap the one
-// before.
+// Runs of bytes: zeroed, copied, compared; from eight bytes on in blocks of eight, the last of which may overlap the
+// one before.
 //     blocks   four and eight bytes at once
 mod blocks;
 

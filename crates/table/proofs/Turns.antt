@@ -45,7 +45,8 @@ module _ (g : Layout) (img key : Bytes) (left i : ℕ) (some′ : 0 < left) (k :
       ap (λ (n : ℕ). probe g img key n i) one-more
       ∙ turn-empty g img key (left - 1) i (ap (λ (b : Bytes). same b key) (sym is) ∙ e) (ap allZero (sym is) ∙ v)
 
-  pub read-on : same k key ≡ false → allZero k ≡ false → probe g img key left i ≡ probe g img key (left - 1) (next (g .N) i)
+  pub read-on : same k key ≡ false → allZero k ≡ false
+      → probe g img key left i ≡ probe g img key (left - 1) (next (g .N) i)
   unfolding vacant
   read-on e v =
       ap (λ (n : ℕ). probe g img key n i) one-more
@@ -57,7 +58,8 @@ pub stored-length : (img : Bytes) (s : Shape) → Open img s → (i : ℕ) → i
 stored-length img s o i l k e =
     let g = layoutOf img in
     let n = layout-slots img s (o .shape) in
-    ap length e ∙ length-keyOf g (slot g img i) (length-slot g img (room img (o .accepted)) i (omega arith)) ∙ layout-key img s (o .shape)
+    ap length e ∙ length-keyOf g (slot g img i) (length-slot g img (room img (o .accepted)) i (omega arith))
+    ∙ layout-key img s (o .shape)
 
 pub other-tail : (k key : Bytes) (x y : ℕ) → length k ≡ length key
     → x ≡ little (part k (length k - 4) 4) → y ≡ little (part key (length key - 4) 4)

@@ -55,8 +55,8 @@ copy-eight-requires-2 c κs = (omega arith, omega arith)
 
 -- after the last block
 whole : (c : tie.After-slice-known4 Inv-loop μ-loop)
-    → c .before .before .copy-eight2 .last .0
-    ≡ c .before .before .before .before .before .before .before .before .before .args .src .now
+    → let L = c .before .before .before .before .before in
+    c .before .before .copy-eight2 .last .0 ≡ L .before .before .before .before .args .src .now
 whole c =
     let L = c .before .before .before .before .before in
     let S = L .before .before .before .before in

@@ -70,12 +70,9 @@ move-eight-requires-2 c κs = (omega arith, omega arith)
 
 -- after the last block
 whole : (c : tie.After-slice-known4 Inv-loop μ-loop)
-    → c .before .before .move-eight2 .last .0
-    ≡ store (c .before .before .before .before .before .before .before .before .args .s .now)
-    (c .before .before .before .before .before .before .before .before .args .to)
-    (part (c .before .before .before .before .before .before .before .before .args .s .now)
-    (c .before .before .before .before .before .before .before .before .args .from)
-    (c .before .before .before .before .before .before .before .before .args .n))
+    → let A = c .before .before .before .before .before in
+    let S = A .before .before .before .args in
+    c .before .before .move-eight2 .last .0 ≡ store (S .s .now) (S .to) (part (S .s .now) (S .from) (S .n))
 whole c =
     let L = c .before .before .before .before .before in
     let S = L .before .before .before in
@@ -90,7 +87,8 @@ whole c =
 
 same-length-2 : tie.Need-same-length-2 Inv-loop μ-loop
 same-length-2 c =
-    let S = c .before .before .before .before .before .before .before .before in
+    let L = c .before .before .before .before .before in
+    let S = L .before .before .before in
     length-moved (S .args .s .now) (S .args .s .now) _ (S .args .to) (S .args .from) (S .args .n)
     (S .pre .1) (S .pre .2) (whole c)
 

@@ -44,7 +44,8 @@ loop-again c =
     let A = L .before .args in
     let i = L .loop .i in (
       ap (λ (t : List ℕ). set t (A .to + i) (getD t (A .from + i) 0)) (L .loop .inv .0)
-          ∙ copied-more-apart (A .s .now) (A .from) (A .to) (A .n) (L .before .pre .0) (L .before .pre .1) (L .before .pre .2) i (omega arith),
+          ∙ copied-more-apart (A .s .now) (A .from) (A .to) (A .n)
+          (L .before .pre .0) (L .before .pre .1) (L .before .pre .2) i (omega arith),
       omega arith,
       length-set (L .loop .s) (A .to + i) (getD (L .loop .s) (A .from + i) 0) ∙ L .loop .inv .2,
     )

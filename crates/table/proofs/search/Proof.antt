@@ -88,7 +88,8 @@ all-zero-requires c κs = tt
 returns-3 : tie.Need-returns-3 Inv-loop μ-loop
 unfolding probeOf
 returns-3 c =
-    let P = c .before .before .before .before .before .before .before .before in
+    let Z = c .before .before .before .before in
+    let P = Z .before .before .before .before in
     let L = P .before .before in
     let S = L .before .before .before .before in
     let img = S .args .image .now in
@@ -104,19 +105,23 @@ returns-3 c =
     (sym (c .before .all-zero .ensures) ∙ c .if3 .taken))
 
 next-requires : tie.Need-next-requires Inv-loop μ-loop
-next-requires c κs = c .before .before .before .before .before .before .before .before .pass-over .ensures .0
+next-requires c κs =
+    let Z = c .before .before .before .before in
+    Z .before .before .before .before .pass-over .ensures .0
 
 sub-left : tie.Need-sub-left Inv-loop μ-loop
 sub-left c = omega arith
 
 loop-less : tie.Need-loop-less Inv-loop μ-loop
 loop-less c =
-    let E = c .before .before .before .before .before .before .before .before in
+    let Z = c .before .before .before .before in
+    let E = Z .before .before .before .before in
     omega (arith, E .before .before .pass-over .ensures .1)
 
 loop-again : tie.Need-loop-again Inv-loop μ-loop
 loop-again c =
-    let E = c .before .before .before .before .before .before .before .before in
+    let Z = c .before .before .before .before in
+    let E = Z .before .before .before .before in
     let P = E .before .before in
     let L = P .before .before in
     let S = L .before .before .before .before in
