@@ -49,7 +49,8 @@ versionKnown img =
     same (part img 0 5) magic && eqb (getD img 5 0) major && eqb (getD img 6 0) minor && leb (getD img 7 0) patch
 
 -- "6. Is K from 1 to 32, N from 1 to 65,536, C at most N, F ≤ E ≤ 255, are the scramble and table offsets as above, is
--- D by its formula, and D ≤ X ≤ L?" 02: N from 1 to 1,048,576. After question 1 no field within these bounds has its top bit set: `top-bit`.
+-- D by its formula, and D ≤ X ≤ L?" 02: "N up to 1,048,576". After question 1 no field within these bounds has its top
+-- bit set: `top-bit`.
 unfoldable pub headerSound : Bytes → Bool
 headerSound img =
     keyAllowed (field img keyField)
