@@ -270,6 +270,7 @@ gives "stat: load" 0 'load: 4 points in 5507 slots, 0\.1 %' bhtf stat names
 gives "stat: histogram" 0 '^ +1 +4 #+$' bhtf stat names
 bhtf add names big 0123456789
 bhtf delete names big
+gives "stat: displacements" 0 '^displacements: 0 slots together$' bhtf stat names
 gives "stat: dead bytes" 0 'dead: 14 bytes' bhtf stat names
 
 # ---- import and export ----
