@@ -8,6 +8,7 @@ cd "$(dirname "$0")" || exit 2
 . ./tally.sh
 calls=${CALLS:-1000000}
 old=build/library-old
+lib=${LIB:-../target/staticlib/libstation.a}
 
 # differs PROGRAM WORDS..: the program finds a difference
 differs() {
@@ -15,22 +16,21 @@ differs() {
   [ $? -eq 1 ]
 }
 
+# built REVISION ROOM: before.o, that revision's library under plain C's names, the rest of it hidden
+built() {
+  git -C .. archive "$1" | tar -x -C "$2" && cd "$2" && rt staticlib station >log 2>&1 &&
+    for call in create add delete lookup count walk check; do echo "bhtf_$call plain_$call"; done >names &&
+    cut -d' ' -f2 names >shown && ar x target/staticlib/libstation.a && ld -r -o whole.o ./*.o &&
+    objcopy --redefine-syms=names --keep-global-symbols=shown whole.o before.o
+}
+
 # archive REVISION: the differential test with that revision's library in plain C's place
 archive() {
   local room status
   room=$(mktemp -d) || return 1
-  git archive "$1" .. | tar -x -C "$room" 2>/dev/null || git -C .. archive "$1" | tar -x -C "$room" || return 1
-  (cd "$room" && rt staticlib station) >"$room/log" 2>&1 || {
-    tail -n 3 "$room/log"
-    return 1
-  }
-  for call in create add delete lookup count walk check; do
-    echo "bhtf_$call plain_$call"
-  done >"$room/names"
-  (cd "$room" && ar x target/staticlib/libstation.a && ld -r -o whole.o ./*.o &&
-    objcopy --redefine-syms=names --keep-global-symbols=<(cut -d' ' -f2 names) whole.o before.o) || return 1
-  gcc build/differential.o build/differential/*.o build/subject.o build/book.o "$room/before.o" "${LIB:-../target/staticlib/libstation.a}" \
-    -o "$room/program" && "$room/program" --old-limits --calls "$calls" --quiet
+  (built "$1" "$room") &&
+    gcc build/differential.o build/differential/*.o build/subject.o build/book.o "$room/before.o" "$lib" -o "$room/program" &&
+    "$room/program" --old-limits --calls "$calls" --quiet
   status=$?
   rm -rf "$room"
   return $status
