@@ -236,6 +236,8 @@ fault "length of 1 GiB and a page accepted" \
     'length <= IMAGE_MAX' 'length <= IMAGE_MAX + PAGE'
 fault "length of 1 GiB refused" \
     'length <= IMAGE_MAX' 'length < IMAGE_MAX'
+fault "question 6 keeps the old limit of slots" \
+    'v->slots > SLOTS_MAX' 'v->slots > 65536'
 fault "length 0 accepted" \
     'length >= PAGE && ' ''
 fault "version 1.0.2 accepted" \
