@@ -7,7 +7,8 @@
  *     plain reference, answers and bytes.
  * In both, a refused or reading call must leave every byte.
  *
- * Options: --seed N, --calls N, --seconds N, --quiet, --strict.
+ * Options: --seed N, --calls N, --seconds N, --quiet, --strict, --old-limits.
+ * --old-limits keeps to images and tables within document 01's limits.
  * --strict also compares outputs the document leaves open: walk's slot at the
  * end, check's slot without a failing slot, both when refused (plain: 0).
  *
@@ -48,6 +49,10 @@ static void read_options(int argc, char **argv)
         }
         if (strcmp(argv[i], "--strict") == 0) {
             run.strict = 1;
+            continue;
+        }
+        if (strcmp(argv[i], "--old-limits") == 0) {
+            run.old_limits = 1;
             continue;
         }
         if (strcmp(argv[i], "--seed") == 0)
