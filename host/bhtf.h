@@ -33,9 +33,9 @@ extern "C" {
 /* ---- limits ---- */
 
 #define BHTF_PAGE 4096u             /* an image's length is a multiple of it */
-#define BHTF_IMAGE_MAX 16777216u    /* bytes in the longest image */
+#define BHTF_IMAGE_MAX 1073741824u  /* bytes in the longest image */
 #define BHTF_KEY_MAX 32u            /* bytes in the longest key */
-#define BHTF_SLOTS_MAX 65536u       /* slots in the largest table */
+#define BHTF_SLOTS_MAX 1048576u     /* slots in the largest table */
 #define BHTF_SLOTS_DEFAULT 5507u    /* what create makes of 0 slots */
 #define BHTF_MESSAGE_MAX 16777215u  /* bytes in the longest message */
 #define BHTF_MESSAGE_HEADER 4u      /* bytes that a message takes besides */
@@ -52,7 +52,7 @@ extern "C" {
 #define BHTF_BAD_LENGTH 1u     /* image not a multiple of a page, or not from
                                   one page to BHTF_IMAGE_MAX bytes long */
 #define BHTF_BAD_KEY_SIZE 2u   /* create: key size not from 1 to 32 */
-#define BHTF_BAD_SLOTS 3u      /* create: more than 65,536 slots */
+#define BHTF_BAD_SLOTS 3u      /* create: more than BHTF_SLOTS_MAX slots */
 #define BHTF_TABLE_TOO_BIG 4u  /* create: the table does not fit */
 #define BHTF_BAD_VERSION 5u    /* no such file, or a version unknown here */
 #define BHTF_BAD_HEADER 6u     /* the header's numbers do not fit */
@@ -99,7 +99,10 @@ uint32_t bhtf_add(uint8_t *image, size_t image_len, const uint8_t *key,
  * to other slots. Refused with 1, 5, 6, 7, 14 and 11.
  * Time: in a table of N slots made by these calls it inspects at most 2N - 1
  * slots. In an arbitrary full table, as a file made by others may hold (a
- * sound one too), it can be N * N - N + 1. */
+ * sound one too), it can be N * N - N + 1: some 4 * 10^9 at 65,536 slots, some
+ * 10^12 at 1,048,576, which is hours. In a full table it is exactly N + the
+ * sum of displacements before - the sum after; a key's displacement is how
+ * many slots behind the one that its hash names it stands, wrapping. */
 uint32_t bhtf_delete(uint8_t *image, size_t image_len, const uint8_t *key,
                      size_t key_len);
 

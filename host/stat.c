@@ -95,6 +95,17 @@ static void print_row(const struct figures *f, int row, uint32_t most)
     putchar('\n');
 }
 
+/* From it follows what a delete costs: see bhtf_delete. */
+static void print_displacements(const struct figures *f, uint32_t slots)
+{
+    uint64_t sum = f->total - f->points;
+
+    printf("displacements: %llu slots together\n", (unsigned long long)sum);
+    if (f->points == slots)
+        printf("the table is full: a delete looks at up to %llu slots\n",
+               (unsigned long long)(slots + sum));
+}
+
 static void print_searches(const struct figures *f)
 {
     uint32_t most = 0;
@@ -142,6 +153,7 @@ static int print_figures(const struct buffer *copy)
            100.0 * f.points / h.slots);
     print_space(&f, &h, copy->length);
     print_searches(&f);
+    print_displacements(&f, h.slots);
     if (f.points != h.count)
         printf("damaged: the header counts %lu points\n",
                (unsigned long)h.count);

@@ -182,22 +182,24 @@ gives "a new file has no points" 0 '^0$' bhtf count a
 gives "create leaves an existing file alone" 2 'already is a file' bhtf create a
 gives "the existing file is as it was" 0 '^sound: 0 points$' bhtf check a
 gives "refused 1 at create" 1 'refused \(1\)' bhtf create b --size 4095
-gives "refused 1 above the limit" 1 'refused \(1\)' bhtf create b --size 16781312
+gives "refused 1 above the limit" 1 'refused \(1\)' bhtf create b --size 1073745920
 gives "refused 2 at create" 1 'refused \(2\)' bhtf create b --key-size 33
 gives "refused 2 for key size 0" 1 'refused \(2\)' bhtf create b --key-size=0
-gives "refused 3 at create" 1 'refused \(3\)' bhtf create b --slots 65537
+gives "refused 3 at create" 1 'refused \(3\)' bhtf create b --slots 1048577
 gives "refused 4 at create" 1 'refused \(4\)' bhtf create b --slots 5507 --size 4096
 gives "create in no directory" 2 'cannot create' bhtf create no/b
 holds "no file is left behind" test ! -e b
 gives "create with every option" 0 '' \
   bhtf create b --key-size 4 --slots=256 --seed 0xFFFFFFFF --size 8192
 same "its length" 8192 "$(stat -c %s b)"
-gives "the largest file" 0 '' bhtf create big --slots 65536 --key-size 32
-same "its length" 16777216 "$(stat -c %s big)"
-gives "the largest file is sound" 0 'sound: 0' bhtf check big
+gives "the old limit of slots" 0 '' bhtf create old --slots 65536 --key-size 32
+same "its usual length" 19140608 "$(stat -c %s old)"
+gives "the largest table" 0 '' bhtf create big --slots 1048576 --key-size 32 --size 37752832
+same "its length" 37752832 "$(stat -c %s big)"
+gives "the largest table is sound" 0 'sound: 0' bhtf check big
 bhtf create c --key-size 4 --slots 256 --seed 4294967295 --size 8192
 holds "equal arguments make equal files" cmp b c
-rm -f b c big
+rm -f b c big old
 
 # ---- add, get, delete ----
 
@@ -270,6 +272,11 @@ gives "stat: load" 0 'load: 4 points in 5507 slots, 0\.1 %' bhtf stat names
 gives "stat: histogram" 0 '^ +1 +4 #+$' bhtf stat names
 bhtf add names big 0123456789
 bhtf delete names big
+gives "stat: displacements" 0 '^displacements: 0 slots together$' bhtf stat names
+bhtf create full --key-size 1 --slots 2 --size 8192
+bhtf add full a x
+bhtf add full b x
+gives "stat: a full table" 0 '^the table is full: a delete looks at up to [23] slots$' bhtf stat full
 gives "stat: dead bytes" 0 'dead: 14 bytes' bhtf stat names
 
 # ---- import and export ----
@@ -341,7 +348,6 @@ head -c 4095 a >short
 head -c 8192 /dev/zero >zeros
 head -c 8192 /dev/urandom >random
 head -c 114688 a >clipped
-head -c 16781312 /dev/zero >long
 cp a version
 printf '\001\000\002' | dd of=version bs=1 seek=5 conv=notrunc status=none
 cp a header
@@ -357,13 +363,17 @@ while read -r number file; do
 done <<'LIST'
 1 empty
 1 short
-1 long
 5 zeros
 5 random
 5 version
 6 clipped
 6 header
 LIST
+# A page more than 1 GiB, of which no block is written.
+truncate -s 1073745920 long
+gives "long: count refused 1" 1 'refused \(1\)' bhtf count long
+gives "long: add refused 1" 1 'refused \(1\)' bhtf add long n t
+same "no block of it is written" 0 "$(stat -c %b long)"
 # With standard error closed the file must not be opened in its place, and the
 # message written into it.
 cp header before

@@ -9,7 +9,8 @@
  *     is also held against its definition, pair by pair.
  * In all, a refused or reading call must leave every byte.
  *
- * Options: --seed N, --calls N, --seconds N, --quiet, --strict.
+ * Options: --seed N, --calls N, --seconds N, --quiet, --strict, --old-limits.
+ * --old-limits keeps to images and tables within document 01's limits.
  * --strict also compares outputs the document leaves open: walk's slot at the
  * end, check's slot without a failing slot, both when refused (plain: 0).
  *
@@ -50,6 +51,10 @@ static void read_options(int argc, char **argv)
         }
         if (strcmp(argv[i], "--strict") == 0) {
             run.strict = 1;
+            continue;
+        }
+        if (strcmp(argv[i], "--old-limits") == 0) {
+            run.old_limits = 1;
             continue;
         }
         if (strcmp(argv[i], "--seed") == 0)

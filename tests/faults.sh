@@ -225,17 +225,19 @@ fault "N of 0 is another number" \
 fault "K of 33 accepted" \
     'if (key_size < 1 || key_size > KEY_MAX)' \
     'if (key_size < 1 || key_size > 33)'
-fault "N of 65,537 accepted" \
+fault "N of 1,048,577 accepted" \
     'if (slots > SLOTS_MAX)' 'if (slots > SLOTS_MAX + 1)'
 fault "image that ends with its table refused" \
     'data_offset(key_size, slots) > image_len' \
     'data_offset(key_size, slots) >= image_len'
 
 # Opening.
-fault "length of 16 MiB and a page accepted" \
+fault "length of 1 GiB and a page accepted" \
     'length <= IMAGE_MAX' 'length <= IMAGE_MAX + PAGE'
-fault "length of 16 MiB refused" \
+fault "length of 1 GiB refused" \
     'length <= IMAGE_MAX' 'length < IMAGE_MAX'
+fault "question 6 keeps the old limit of slots" \
+    'v->slots > SLOTS_MAX' 'v->slots > 65536'
 fault "length 0 accepted" \
     'length >= PAGE && ' ''
 fault "version 1.0.2 accepted" \

@@ -1,13 +1,18 @@
-/* The control point file of 01-scope.md, in plain C on one image. */
+/* The control point file of 01-scope.md, in plain C on one image. The limits
+ * are those of 02-change-requests.md; a build may set 01's instead. */
 #include "plain.h"
 
 #include <stdlib.h>
 #include <string.h>
 
 #define PAGE 4096u
-#define IMAGE_MAX 16777216u
+#ifndef IMAGE_MAX
+#define IMAGE_MAX 1073741824u
+#endif
+#ifndef SLOTS_MAX
+#define SLOTS_MAX 1048576u
+#endif
 #define KEY_MAX 32u
-#define SLOTS_MAX 65536u
 #define SLOTS_DEFAULT 5507u
 #define MESSAGE_MAX 16777215u
 #define MESSAGE_HEADER 4u
