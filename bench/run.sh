@@ -184,6 +184,18 @@ if [ "$counts" = 1 ]; then
   echo "done: counts ($SECONDS s)"
 fi
 
+# The check beside plain C with a map on the heap, on small and large files; plain C in the library's place sorts, and is no measure.
+run_check() {
+  local last
+  "${pin[@]}" "$bin/check" "$([ "$quick" = 1 ] && echo 5 || echo 15)" >"$bin/check.txt"
+  sed '$d' "$bin/check.txt"
+  last=$(tail -n 1 "$bin/check.txt")
+  passed=$((passed + ${last%% *}))
+  last=${last##*, }
+  failed=$((failed + ${last%% *}))
+}
+[ "$self" = 1 ] || run_check
+
 read -r same different < <(awk -f bench/compare.awk "$results") || fail "the answers were not compared"
 passed=$((passed + same))
 failed=$((failed + different))
