@@ -1,8 +1,10 @@
-/* create, add, delete, get, count, list and check. */
+/* create, add, delete, get, count and check. */
 #include "commands.h"
 
-#include "bhtf.h"
 #include "header.h"
+#include "limits.h"
+#include "point.h"
+#include "progress.h"
 
 #include <errno.h>
 #include <string.h>
@@ -17,6 +19,16 @@ int refuse(const char *file, uint32_t number)
     return REFUSED;
 }
 
+/* What can be done about a refusal. */
+static const char *advice(uint32_t number)
+{
+    if (number == BHTF_TABLE_FULL)
+        return " (bhtf dump, and bhtf load with --slots, make a larger one)";
+    if (number == BHTF_NO_ROOM)
+        return " (bhtf dump, and bhtf load with --size, make a larger one)";
+    return "";
+}
+
 int refuse_point(const char *file, const char *name, uint32_t number,
                  uint32_t key_size)
 {
@@ -25,8 +37,15 @@ int refuse_point(const char *file, const char *name, uint32_t number,
                  "bytes, not all of them zero.", file, name,
                  (unsigned long)key_size);
     else
-        complain("%s: %s: refused (%lu): %s", file, name,
-                 (unsigned long)number, bhtf_message(number));
+        complain("%s: %s: refused (%lu): %s%s", file, name,
+                 (unsigned long)number, bhtf_message(number), advice(number));
+    return REFUSED;
+}
+
+int leave_out(const char *file, const struct buffer *name, uint32_t number)
+{
+    complain("%s: %.*s: left out: %s", file, (int)name->length,
+             (const char *)name->bytes, bhtf_message(number));
     return REFUSED;
 }
 
@@ -97,34 +116,30 @@ static int close_point(struct image *i, const struct options *o,
 
 /* ---- create ---- */
 
-/* Room for the table and 256 bytes a slot, if a file may be that long. */
-static uint64_t usual_size(uint64_t key_size, uint64_t slots)
+/* What was refused, with the numbers that it hangs on. */
+static int refuse_create(const char *file, uint32_t number, uint64_t key_size,
+                         uint64_t slots)
 {
-    uint64_t size;
-
     if (slots == 0)
         slots = BHTF_SLOTS_DEFAULT;
-    if (slots > BHTF_SLOTS_MAX || key_size > BHTF_KEY_MAX)
-        return BHTF_PAGE; /* create will refuse the slots or the key size */
-    size = table_end(key_size, slots) + slots * 256;
-    size = (size + BHTF_PAGE - 1) / BHTF_PAGE * BHTF_PAGE;
-    return size < BHTF_IMAGE_MAX ? size : BHTF_IMAGE_MAX;
-}
-
-static int size_fits(uint64_t size)
-{
-    return size >= BHTF_PAGE && size <= BHTF_IMAGE_MAX && size % BHTF_PAGE == 0;
+    if (number != BHTF_TABLE_TOO_BIG)
+        return refuse(file, number);
+    complain("%s: refused (4): A table of %lu slots for names of %lu bytes "
+             "needs a file of %lu bytes, and more for texts.", file,
+             (unsigned long)slots, (unsigned long)key_size,
+             (unsigned long)table_end(key_size, slots));
+    return REFUSED;
 }
 
 int run_create(const struct options *o)
 {
-    uint64_t key_size = o->given & OPTION_KEY_SIZE ? o->key_size : 16;
+    uint64_t key_size = o->given & OPTION_KEY_SIZE ? o->key_size
+                                                    : KEY_SIZE_USUAL;
     uint64_t size = o->given & OPTION_SIZE ? o->size
                                            : usual_size(key_size, o->slots);
     struct image i;
     uint32_t number;
 
-    /* The library's question 1, put before space is taken for it. */
     if (!size_fits(size))
         return refuse(o->word[0], BHTF_BAD_LENGTH);
     if (image_create(&i, o->word[0], (size_t)size) != 0)
@@ -133,29 +148,71 @@ int run_create(const struct options *o)
                          (uint32_t)o->slots, (uint32_t)o->seed);
     if (number != BHTF_ACCEPTED) {
         image_discard(&i);
-        return refuse(o->word[0], number);
+        return refuse_create(o->word[0], number, key_size, o->slots);
     }
     if (image_close(&i) == 0)
         return DONE;
-    unlink(o->word[0]);
+    image_forget(&i);
     return TROUBLE;
 }
 
 /* ---- add ---- */
 
-/* The text of add: its third word, or standard input up to one byte more than
- * any message may have. */
-static int read_text(struct buffer *text, const struct options *o)
+/* Options that give a text by its fields. */
+static const uint64_t by_fields = OPTION_EASTING | OPTION_NORTHING |
+                                  OPTION_HEIGHT | OPTION_NOTE;
+
+static struct piece piece_of(const char *word)
 {
-    if (o->words == 3) {
-        if (buffer_put(text, o->word[2], strlen(o->word[2])) != 0)
-            return out_of_memory();
-        return DONE;
+    struct piece p = { (const uint8_t *)"", 0 };
+
+    if (word != NULL) {
+        p.bytes = (const uint8_t *)word;
+        p.length = strlen(word);
     }
+    return p;
+}
+
+/* The text that --easting, --northing, --height and --note give. */
+static int text_of_fields(struct buffer *text, const struct options *o)
+{
+    const struct piece fields[POINT_FIELDS] = {
+        piece_of(o->easting), piece_of(o->northing), piece_of(o->height),
+        piece_of(o->note)
+    };
+    enum fault fault;
+    int field;
+
+    if (o->words == 3 || (o->given & OPTION_APPEND)) {
+        complain("add: --easting, --northing, --height and --note give the "
+                 "whole text; leave out %s",
+                 o->words == 3 ? "TEXT" : "--append");
+        return TROUBLE;
+    }
+    fault = point_fault(fields, '.', &field);
+    if (fault != NO_FAULT)
+        return complain_of_fault("add", fault, field, fields[field]);
+    return point_put(text, fields) == 0 ? DONE : out_of_memory();
+}
+
+/* Standard input, up to one byte more than any message may have. */
+static int text_of_input(struct buffer *text, const struct options *o)
+{
+    tell_waiting(o->word[0], "the point's text", o->quiet);
     if (buffer_read(text, stdin, (size_t)BHTF_MESSAGE_MAX + 1) == 0)
         return DONE;
     complain("standard input: cannot be read: %s", strerror(errno));
     return TROUBLE;
+}
+
+static int read_text(struct buffer *text, const struct options *o)
+{
+    if (o->given & by_fields)
+        return text_of_fields(text, o);
+    if (o->words == 2)
+        return text_of_input(text, o);
+    return buffer_put(text, o->word[2], strlen(o->word[2])) == 0
+        ? DONE : out_of_memory();
 }
 
 static int add_text(const struct options *o, const struct buffer *text)
@@ -228,8 +285,11 @@ int run_get(const struct options *o)
     struct buffer text = { NULL, 0, 0 };
     struct image i;
     uint32_t key_size, number, offset, length;
-    int status = open_for_point(&i, &key, o, 0, &key_size);
+    int status;
 
+    if (o->words > 2 || o->given != 0)
+        return get_several(o);
+    status = open_for_point(&i, &key, o, 0, &key_size);
     if (status == DONE) {
         number = bhtf_lookup(i.bytes, i.length, key.bytes, key.length, &offset,
                              &length);
@@ -262,55 +322,6 @@ int run_count(const struct options *o)
         return refuse(o->word[0], number);
     printf("%lu\n", (unsigned long)count);
     return finish_output(DONE);
-}
-
-/* ---- list ---- */
-
-/* Slot and length, in front of a name in a long list. */
-static void print_long(const struct buffer *copy, uint32_t slot,
-                       const uint8_t *key, uint32_t key_size)
-{
-    uint32_t offset, length;
-
-    if (bhtf_lookup(copy->bytes, copy->length, key, key_size, &offset,
-                    &length) == BHTF_ACCEPTED)
-        printf("%5lu %8lu ", (unsigned long)slot, (unsigned long)length);
-    else
-        printf("%5lu %8s ", (unsigned long)slot, "bad");
-}
-
-static int print_names(const struct buffer *copy, uint32_t key_size,
-                       int is_long)
-{
-    struct buffer shown = { NULL, 0, 0 };
-    uint32_t slot, place;
-    int done = 0;
-
-    bhtf_walk(copy->bytes, copy->length, 0, &slot, &place);
-    while (place != 0 && done == 0) {
-        const uint8_t *key = copy->bytes + place;
-
-        shown.length = 0;
-        done = name_show(&shown, key, key_size) | buffer_put_byte(&shown, '\n');
-        if (is_long)
-            print_long(copy, slot, key, key_size);
-        fwrite(shown.bytes, 1, shown.length, stdout);
-        bhtf_walk(copy->bytes, copy->length, slot + 1, &slot, &place);
-    }
-    buffer_free(&shown);
-    return done == 0 ? finish_output(DONE) : out_of_memory();
-}
-
-int run_list(const struct options *o)
-{
-    struct buffer copy = { NULL, 0, 0 };
-    uint32_t key_size;
-    int status = copy_accepted(&copy, o, &key_size);
-
-    if (status == DONE)
-        status = print_names(&copy, key_size, (o->given & OPTION_LONG) != 0);
-    buffer_free(&copy);
-    return status;
 }
 
 /* ---- check ---- */

@@ -8,36 +8,71 @@
 #include <stddef.h>
 #include <stdint.h>
 
-enum { WORDS = 3 };
+/* Options that not every command takes, as bits: one line each. */
+#define OPTION(n) (UINT64_C(1) << (n))
+#define OPTION_KEY_SIZE OPTION(0)
+#define OPTION_SLOTS OPTION(1)
+#define OPTION_SEED OPTION(2)
+#define OPTION_SIZE OPTION(3)
+#define OPTION_REPLACE OPTION(4)
+#define OPTION_APPEND OPTION(5)
+#define OPTION_LONG OPTION(6)
+#define OPTION_CRLF OPTION(7)
+#define OPTION_EASTING OPTION(8)
+#define OPTION_NORTHING OPTION(9)
+#define OPTION_HEIGHT OPTION(10)
+#define OPTION_NOTE OPTION(11)
+#define OPTION_COLUMNS OPTION(12)
+#define OPTION_DELIMITER OPTION(13)
+#define OPTION_DECIMAL OPTION(14)
+#define OPTION_SKIP OPTION(15)
+#define OPTION_ANY_TEXT OPTION(16)
+#define OPTION_DRY_RUN OPTION(17)
+#define OPTION_AGAINST OPTION(32)
+#define OPTION_PAPER OPTION(33)
+#define OPTION_STATION OPTION(34)
+#define OPTION_SIGMA OPTION(35)
+#define OPTION_SVG OPTION(36)
+#define OPTION_BY OPTION(37)
+#define OPTION_TSV OPTION(38)
+#define OPTION_JSON OPTION(39)
+#define OPTION_GSI OPTION(40)
+#define OPTION_LANDXML OPTION(41)
+#define OPTION_DXF OPTION(42)
 
-/* Options that not every command takes, as bits. */
-enum option {
-    OPTION_KEY_SIZE = 1,
-    OPTION_SLOTS = 2,
-    OPTION_SEED = 4,
-    OPTION_SIZE = 8,
-    OPTION_REPLACE = 16,
-    OPTION_APPEND = 32,
-    OPTION_LONG = 64,
-    OPTION_CRLF = 128
-};
+/* In place of the largest number of words: as many as there are. */
+enum { ANY_NUMBER = -1 };
 
 struct options {
-    const char *word[WORDS];
+    char **word;         /* what is no option, in its order */
     int words;
-    unsigned given;  /* enum option */
+    uint64_t given;      /* bits of OPTION */
     uint64_t key_size;
     uint64_t slots;
     uint64_t seed;
     uint64_t size;
+    uint64_t skip;
     uint64_t wait;
+    const char *easting;
+    const char *northing;
+    const char *height;
+    const char *note;
+    const char *columns;
+    const char *delimiter;
+    const char *decimal;
+    const char *against;
+    const char *paper;
+    const char *station;
+    const char *sigma;
+    const char *by;
     int quiet;
     int help;
+    int version;
 };
 
 struct command {
     const char *name;
-    unsigned takes;     /* enum option */
+    uint64_t takes;     /* bits of OPTION */
     int least;          /* words */
     int most;
     int (*run)(const struct options *);
@@ -47,12 +82,14 @@ struct command {
 /* The command of that name, or NULL. */
 const struct command *command_find(const char *name);
 
-/* Prints the overall help. */
+/* Prints the overall help, and that of a command. */
 void help_print(FILE *to);
+void help_print_command(const struct command *command, FILE *to);
 
-/* Reads the words behind a command's name: DONE or TROUBLE. */
+/* Reads the words behind a command's name: DONE or TROUBLE. The words are put
+ * in another order. */
 int options_read(struct options *o, const struct command *command, int count,
-                 char *const *words);
+                 char **words);
 
 /* Each answers an enum status. */
 int run_create(const struct options *o);
@@ -65,6 +102,11 @@ int run_check(const struct options *o);
 int run_stat(const struct options *o);
 int run_import(const struct options *o);
 int run_export(const struct options *o);
+int run_dump(const struct options *o);
+int run_load(const struct options *o);
+int run_diff(const struct options *o);
+int run_plot(const struct options *o);
+int run_figure(const struct options *o);
 int run_scramble(const struct options *o);
 
 /* ---- shared by them ---- */
@@ -87,6 +129,13 @@ uint32_t ask_header(const uint8_t *bytes, size_t length, uint32_t *key_size);
 /* A copy of an accepted file: DONE, or the status after a complaint. */
 int copy_accepted(struct buffer *copy, const struct options *o,
                   uint32_t *key_size);
+
+/* Says that a point is left out because of its damage; answers REFUSED. The
+ * name is as it is shown. */
+int leave_out(const char *file, const struct buffer *name, uint32_t number);
+
+/* get for several points, or in another form. */
+int get_several(const struct options *o);
 
 /* The mode of add: new, replace or append. */
 uint32_t mode_of(const struct options *o);

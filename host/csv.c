@@ -1,7 +1,5 @@
-/* Records of fields separated by commas, as RFC 4180 has them. */
+/* Records of fields between delimiters, as RFC 4180 has them. */
 #include "csv.h"
-
-#include "bhtf.h"
 
 #include <string.h>
 
@@ -31,6 +29,7 @@ static int next(struct csv *c)
         byte = getc(c->file);
     if (byte == '\n')
         c->line++;
+    c->taken += byte != EOF;
     return byte;
 }
 
@@ -43,32 +42,121 @@ static int skip(struct csv *c, int byte)
     return 1;
 }
 
-void csv_from_file(struct csv *c, FILE *file)
+void csv_from_bytes(struct csv *c, const uint8_t *bytes, size_t length)
 {
-    size_t got = fread(c->head, 1, sizeof c->head, file);
-    int mark = got == 3 && memcmp(c->head, "\xEF\xBB\xBF", 3) == 0;
-
-    c->file = file;
-    c->at = mark ? c->head + got : c->head;
-    c->end = c->head + got;
+    memset(c, 0, sizeof *c);
+    c->at = bytes;
+    c->end = length == 0 ? bytes : bytes + length;
+    c->delimiter = ',';
     c->line = 1;
 }
 
-void csv_from_bytes(struct csv *c, const uint8_t *bytes, size_t length)
+/* ---- the head of a stream ---- */
+
+/* UTF-16 and UTF-32, by their marks, or by the zero bytes of their first
+ * characters, which no name begins with. */
+static int is_wide(const struct buffer *head)
 {
-    c->file = NULL;
-    c->at = bytes;
-    c->end = bytes + length;
-    c->line = 1;
+    const uint8_t *b = head->bytes;
+
+    if (head->length < 2)
+        return 0;
+    return (b[0] == 0xFF && b[1] == 0xFE) || (b[0] == 0xFE && b[1] == 0xFF) ||
+           memchr(b, 0, head->length < 4 ? head->length : 4) != NULL;
+}
+
+/* Adds a line to the head. */
+static enum csv_answer read_line(struct csv *c)
+{
+    int byte = 0;
+
+    while (byte != '\n' && (byte = getc(c->file)) != EOF) {
+        if (c->head.length >= RECORD_MAX)
+            return CSV_TOO_LONG;
+        if (buffer_put_byte(&c->head, (uint8_t)byte) != 0)
+            return CSV_NO_MEMORY;
+        if (c->line == 1 && c->head.length == 4 && is_wide(&c->head))
+            return CSV_WIDE;
+    }
+    if (c->line == 1 && is_wide(&c->head))
+        return CSV_WIDE;
+    return ferror(c->file) ? CSV_NO_INPUT : CSV_RECORD;
+}
+
+static void pass_mark(struct csv *c)
+{
+    if (c->head.length < 3 || memcmp(c->head.bytes, "\xEF\xBB\xBF", 3) != 0)
+        return;
+    c->head.length -= 3;
+    memmove(c->head.bytes, c->head.bytes + 3, c->head.length);
+    c->taken += 3;
+}
+
+static int is_empty_line(const struct buffer *line)
+{
+    for (size_t i = 0; i < line->length; i++)
+        if (line->bytes[i] != '\r' && line->bytes[i] != '\n')
+            return 0;
+    return 1;
+}
+
+/* Passes over `skip` lines from the head on, and over empty ones. */
+static enum csv_answer pass_lines(struct csv *c, uint64_t skip)
+{
+    enum csv_answer answer = CSV_RECORD;
+
+    while (answer == CSV_RECORD && c->head.length > 0 &&
+           (skip > 0 || is_empty_line(&c->head))) {
+        skip -= skip > 0;
+        c->line++;
+        c->taken += c->head.length;
+        c->head.length = 0;
+        answer = read_line(c);
+    }
+    c->at = c->head.bytes;
+    c->end = c->head.length == 0 ? c->at : c->at + c->head.length;
+    return answer;
+}
+
+enum csv_answer csv_from_file(struct csv *c, FILE *file, uint64_t skip)
+{
+    enum csv_answer answer;
+
+    csv_from_bytes(c, NULL, 0);
+    c->file = file;
+    answer = read_line(c);
+    pass_mark(c);
+    return answer == CSV_RECORD ? pass_lines(c, skip) : answer;
+}
+
+enum csv_answer csv_pass_line(struct csv *c)
+{
+    return pass_lines(c, 1);
+}
+
+int csv_named_delimiter(const struct csv *c)
+{
+    size_t length = c->head.length;
+
+    while (length > 0 && (c->head.bytes[length - 1] == '\n' ||
+                          c->head.bytes[length - 1] == '\r'))
+        length--;
+    return length == 5 && same_word(c->head.bytes, 4, "sep=")
+        ? c->head.bytes[4] : 0;
+}
+
+void csv_free(struct csv *c)
+{
+    buffer_free(&c->head);
 }
 
 /* ---- records in ---- */
 
 static enum csv_answer put(struct record *r, int byte)
 {
-    if (r->bytes.length >= BHTF_MESSAGE_MAX)
+    if (r->bytes.length >= RECORD_MAX)
         return CSV_TOO_LONG;
-    if (r->fields >= CSV_FIELDS)
+    if (r->fields >= FIELDS_MAX)
         return CSV_RECORD;
     return buffer_put_byte(&r->bytes, (uint8_t)byte) == 0 ? CSV_RECORD
                                                           : CSV_NO_MEMORY;
@@ -76,7 +164,7 @@ static enum csv_answer put(struct record *r, int byte)
 
 static void end_field(struct record *r)
 {
-    if (r->fields < CSV_FIELDS)
+    if (r->fields < FIELDS_MAX)
         r->ends[r->fields] = r->bytes.length;
     r->fields++;
 }
@@ -103,7 +191,7 @@ static enum csv_answer read_quoted(struct csv *c, struct record *r)
     return answer;
 }
 
-/* Reads one field and what ends it; *more says whether it was a comma. */
+/* Reads one field and what ends it; *more says whether it was a delimiter. */
 static enum csv_answer read_field(struct csv *c, struct record *r, int *more)
 {
     int quoted = skip(c, '"');
@@ -112,7 +200,7 @@ static enum csv_answer read_field(struct csv *c, struct record *r, int *more)
     while (answer == CSV_RECORD) {
         int byte = next(c);
 
-        *more = byte == ',';
+        *more = byte == c->delimiter;
         if (*more || byte == EOF || at_line_end(c, byte)) {
             end_field(r);
             return CSV_RECORD;
@@ -151,6 +239,15 @@ enum csv_answer csv_read(struct csv *c, struct record *r)
     return answer == CSV_RECORD && r->fields == 0 ? CSV_END : answer;
 }
 
+enum csv_answer csv_look(const struct csv *c, struct record *r, int delimiter)
+{
+    struct csv look;
+
+    csv_from_bytes(&look, c->at, (size_t)(c->end - c->at));
+    look.delimiter = delimiter;
+    return csv_read(&look, r);
+}
+
 const char *csv_words(enum csv_answer answer)
 {
     switch (answer) {
@@ -159,7 +256,10 @@ const char *csv_words(enum csv_answer answer)
     case CSV_LATE_TEXT:
         return "there is text behind a closing quote";
     case CSV_TOO_LONG:
-        return "the record is longer than 16,777,215 bytes";
+        return "the record is longer than any point's text may be";
+    case CSV_WIDE:
+        return "this is UTF-16 or no text; save it as UTF-8 (spreadsheets "
+               "call it CSV UTF-8)";
     case CSV_NO_MEMORY:
         return "not enough memory";
     default:
@@ -169,54 +269,58 @@ const char *csv_words(enum csv_answer answer)
 
 /* ---- fields ---- */
 
-const uint8_t *record_field(const struct record *r, size_t field,
-                            size_t *length)
+struct piece record_field(const struct record *r, size_t field)
 {
     size_t start = field == 0 ? 0 : r->ends[field - 1];
+    struct piece p = { (const uint8_t *)"", r->ends[field] - start };
 
-    *length = r->ends[field] - start;
-    return r->bytes.bytes == NULL ? (const uint8_t *)""
-                                  : r->bytes.bytes + start;
+    if (r->bytes.bytes != NULL)
+        p.bytes = r->bytes.bytes + start;
+    return p;
 }
 
-static int lower(int c)
+static int is_blank(uint8_t byte)
 {
-    return c >= 'A' && c <= 'Z' ? c - 'A' + 'a' : c;
+    return byte == ' ' || byte == '\t';
 }
 
-int record_is(const struct record *r, size_t field, const char *word)
+struct piece piece_trim(struct piece p)
 {
-    size_t length;
-    const uint8_t *bytes = record_field(r, field, &length);
-
-    if (length != strlen(word))
-        return 0;
-    for (size_t i = 0; i < length; i++)
-        if (lower(bytes[i]) != word[i])
-            return 0;
-    return 1;
+    while (p.length > 0 && is_blank(p.bytes[p.length - 1]))
+        p.length--;
+    while (p.length > 0 && is_blank(p.bytes[0])) {
+        p.bytes++;
+        p.length--;
+    }
+    return p;
 }
 
-static int needs_quotes(const uint8_t *field, size_t length)
+int same_piece(struct piece a, struct piece b)
 {
-    for (size_t i = 0; i < length; i++)
-        if (field[i] == ',' || field[i] == '"' || field[i] == '\n' ||
-            field[i] == '\r')
+    return a.length == b.length &&
+           (a.length == 0 || memcmp(a.bytes, b.bytes, a.length) == 0);
+}
+
+static int needs_quotes(struct piece field)
+{
+    for (size_t i = 0; i < field.length; i++)
+        if (field.bytes[i] == ',' || field.bytes[i] == '"' ||
+            field.bytes[i] == '\n' || field.bytes[i] == '\r')
             return 1;
     return 0;
 }
 
-int csv_put(struct buffer *to, const uint8_t *field, size_t length)
+int csv_put(struct buffer *to, struct piece field)
 {
     int done = 0;
 
-    if (!needs_quotes(field, length))
-        return buffer_put(to, field, length);
+    if (!needs_quotes(field))
+        return buffer_put(to, field.bytes, field.length);
     done |= buffer_put_byte(to, '"');
-    for (size_t i = 0; i < length; i++) {
-        if (field[i] == '"')
+    for (size_t i = 0; i < field.length; i++) {
+        if (field.bytes[i] == '"')
             done |= buffer_put_byte(to, '"');
-        done |= buffer_put_byte(to, field[i]);
+        done |= buffer_put_byte(to, field.bytes[i]);
     }
     done |= buffer_put_byte(to, '"');
     return done == 0 ? 0 : -1;

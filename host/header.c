@@ -1,7 +1,7 @@
 /* The header's numbers, for what the library has no call for. */
 #include "header.h"
 
-#include "bhtf.h"
+#include "limits.h"
 
 enum { SCRAMBLE = 512, TABLE = 2048, OFFSET_SIZE = 4 };
 
@@ -9,6 +9,12 @@ uint32_t read_u32(const uint8_t *at)
 {
     return (uint32_t)at[0] << 24 | (uint32_t)at[1] << 16 |
            (uint32_t)at[2] << 8 | (uint32_t)at[3];
+}
+
+void write_u32(uint8_t *at, uint32_t number)
+{
+    for (int i = 0; i < 4; i++)
+        at[i] = (uint8_t)(number >> (24 - 8 * i));
 }
 
 struct header header_read(const uint8_t *image)
@@ -61,4 +67,22 @@ uint64_t table_end(uint64_t key_size, uint64_t slots)
     uint64_t end = TABLE + slots * (key_size + OFFSET_SIZE);
 
     return (end + BHTF_PAGE - 1) / BHTF_PAGE * BHTF_PAGE;
+}
+
+uint64_t usual_size(uint64_t key_size, uint64_t slots)
+{
+    uint64_t size;
+
+    if (slots == 0)
+        slots = BHTF_SLOTS_DEFAULT;
+    if (slots > BHTF_SLOTS_MAX || key_size > BHTF_KEY_MAX)
+        return BHTF_PAGE; /* create will refuse the slots or the key size */
+    size = table_end(key_size, slots) + slots * BYTES_A_SLOT;
+    size = (size + BHTF_PAGE - 1) / BHTF_PAGE * BHTF_PAGE;
+    return size < BHTF_IMAGE_MAX ? size : BHTF_IMAGE_MAX;
+}
+
+int size_fits(uint64_t size)
+{
+    return size >= BHTF_PAGE && size <= BHTF_IMAGE_MAX && size % BHTF_PAGE == 0;
 }

@@ -36,6 +36,14 @@ uint32_t home_slot(const uint8_t *image, const struct header *h,
 /* Bytes that the header and a table of these sizes take: the data offset. */
 uint64_t table_end(uint64_t key_size, uint64_t slots);
 
+/* The length of a file for such a table, with room for texts, if a file may be
+ * that long. */
+uint64_t usual_size(uint64_t key_size, uint64_t slots);
+
+/* The library's question 1, for when space is to be taken before it is put. */
+int size_fits(uint64_t size);
+
 uint32_t read_u32(const uint8_t *at);
+void write_u32(uint8_t *at, uint32_t number);
 
 #endif

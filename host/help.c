@@ -1,5 +1,10 @@
-/* The table of commands, and their help. */
+/* The table of commands, and their help.
+ *
+ * In a help, {slots}, {image}, {key} and the like stand for the limits of
+ * bhtf.h and limits.h. */
 #include "commands.h"
+
+#include "limits.h"
 
 #include <string.h>
 
@@ -8,50 +13,72 @@
     "longer ones are refused. \\xHH in a name stands for one byte.\n"
 
 #define WAITING \
-    "  --wait S      seconds to wait while others use the file; 10 unless " \
-    "given\n"
+    "  -w, --wait S       seconds to wait while others use the file; {wait}\n" \
+    "                     unless given\n"
 
-#define QUIET "  --quiet       say nothing but errors\n"
+#define QUIET "  -q, --quiet        say nothing but errors and warnings\n"
 
 static const struct command commands[] = {
     { "create", OPTION_KEY_SIZE | OPTION_SLOTS | OPTION_SEED | OPTION_SIZE, 1,
       1, run_create,
       "bhtf create FILE [--key-size K] [--slots N] [--seed S] [--size BYTES]\n"
       "Makes an empty file. An existing file is never overwritten.\n"
-      "  --key-size K  bytes in a name, from 1 to 32; 16 unless given\n"
-      "  --slots N     points that it can hold, at most 65536; 0, also if not\n"
-      "                given, for 5507\n"
-      "  --seed S      number from 0 to 4294967295 by which names are "
-      "scattered;\n"
-      "                0 unless given\n"
-      "  --size BYTES  length of the file, a multiple of 4096 up to 16777216;\n"
-      "                unless given, the table and 256 bytes a slot\n" },
-    { "add", OPTION_REPLACE | OPTION_APPEND, 2, 3, run_add,
+      "  -k, --key-size K   bytes in a name, from 1 to {key}; {key_usual} "
+      "unless given\n"
+      "  -s, --slots N      points that it can hold, at most {slots}; 0, also "
+      "if\n"
+      "                     not given, for {slots_usual}\n"
+      "      --seed S       number from 0 to 4294967295 by which names are\n"
+      "                     scattered; 0 unless given\n"
+      "  -S, --size BYTES   length of the file, a multiple of {page} up to\n"
+      "                     {image}, also as 64K or 16M; unless given, the\n"
+      "                     table and {slot_bytes} bytes a slot\n" },
+    { "add", OPTION_REPLACE | OPTION_APPEND | OPTION_EASTING |
+             OPTION_NORTHING | OPTION_HEIGHT | OPTION_NOTE, 2, 3, run_add,
       "bhtf add FILE NAME [TEXT] [--replace | --append]\n"
-      "Stores a point with a text: TEXT, or all of standard input. A point\n"
-      "that is already there is refused, but for\n"
-      "  --replace     put the text in place of its own; an empty one "
-      "withdraws it\n"
-      "  --append      put the text behind its own\n"
-      WAITING NAMES },
+      "bhtf add FILE NAME --easting E --northing N [--height H] [--note TEXT]\n"
+      "Stores a point with a text: TEXT, or all of standard input, or one of\n"
+      "  -E, --easting E    a number, with a decimal point\n"
+      "  -N, --northing N\n"
+      "  -H, --height H\n"
+      "  -t, --note TEXT    whatever is to be said of the point\n"
+      "A point that is already there is refused, but for\n"
+      "  -r, --replace      put the text in place of its own; an empty one\n"
+      "                     withdraws it\n"
+      "  -a, --append       put the text behind its own\n"
+      QUIET WAITING NAMES },
     { "delete", 0, 2, 2, run_delete,
       "bhtf delete FILE NAME\n"
       "Takes a point out.\n"
       WAITING NAMES },
-    { "get", 0, 2, 2, run_get,
-      "bhtf get FILE NAME\n"
-      "Prints a point's text, byte for byte.\n"
+    { "get", OPTION_TSV | OPTION_JSON, 2, ANY_NUMBER, run_get,
+      "bhtf get FILE NAME.. [--tsv | --json]\n"
+      "Prints a point's text, byte for byte. Of several points, each on a "
+      "line\n"
+      "behind its name and a tab.\n"
+      "      --tsv          fields with tabs between them, as list prints them\n"
+      "      --json         an object a line, as list prints them\n"
       QUIET WAITING NAMES },
     { "count", 0, 1, 1, run_count,
       "bhtf count FILE\n"
       "Prints the number of points.\n"
       WAITING },
-    { "list", OPTION_LONG, 1, 1, run_list,
-      "bhtf list FILE [--long]\n"
+    { "list", OPTION_LONG | OPTION_BY | OPTION_TSV | OPTION_JSON, 1, ANY_NUMBER,
+      run_list,
+      "bhtf list FILE [PATTERN..] [--by name | --by slot] [--long | --tsv | "
+      "--json]\n"
       "Prints the names, one a line, in the order of their slots: without "
       "their\n"
-      "padding, bytes that are not printable and the backslash as \\xHH.\n"
-      "  --long        slot and length of the text in front of each\n"
+      "padding; bytes that do not print, the backslash, and blanks at either\n"
+      "end as \\xHH. With patterns, the names that match one of them: * stands "
+      "for\n"
+      "anything, ? for one character, [..] for one of several.\n"
+      "  -b, --by ORDER     name, in the order of the names' bytes; or slot\n"
+      "  -l, --long         slot and length of the text in front of each\n"
+      "      --tsv          name, slot, easting, northing, height and note "
+      "with\n"
+      "                     tabs between them, under a heading\n"
+      "      --json         the same, an object a line\n"
       WAITING },
     { "check", 0, 1, 1, run_check,
       "bhtf check FILE\n"
@@ -63,20 +90,87 @@ static const struct command commands[] = {
       "points\n"
       "and how many bytes of its data are dead.\n"
       WAITING },
-    { "import", OPTION_REPLACE, 2, 2, run_import,
-      "bhtf import FILE CSV [--replace]\n"
-      "Stores points from lines of name,easting,northing,height,note; from\n"
-      "standard input if CSV is -. Such a heading is passed over. Stops at "
-      "the\n"
-      "first line that is refused and says how many points were stored.\n"
-      "  --replace     replace points that are already there\n"
+    { "import", OPTION_REPLACE | OPTION_COLUMNS | OPTION_DELIMITER |
+                OPTION_DECIMAL | OPTION_SKIP | OPTION_ANY_TEXT |
+                OPTION_DRY_RUN | OPTION_GSI | OPTION_LANDXML, 2, 2, run_import,
+      "bhtf import FILE CSV [--columns ORDER] [--replace] [--dry-run] ..\n"
+      "Stores a point for each line of a CSV file; of standard input if CSV is "
+      "-.\n"
+      "A heading says which column is which: name, easting, northing, height,\n"
+      "note or the usual other words, in any order. Stops at the first line "
+      "that\n"
+      "is refused and says how many points were stored.\n"
+      "  -c, --columns ORDER  the columns of a file without a heading: PNEZD,\n"
+      "                     PENZD, or words as above, with commas between "
+      "them;\n"
+      "                     - for one to pass over\n"
+      "  -d, --delimiter D  comma, semicolon or tab; found out unless given\n"
+      "      --decimal C    , where numbers have a decimal comma\n"
+      "      --skip N       pass over the first N lines\n"
+      "      --any-text     take coordinates that are not numbers\n"
+      "  -r, --replace      replace points that are already there\n"
+      "  -n, --dry-run      store nothing; say what would happen, and every\n"
+      "                     line that would be refused\n"
+      "      --gsi          CSV is a Leica GSI-16 file\n"
+      "      --landxml      CSV is a LandXML file; its CgPoints are read\n"
       QUIET WAITING NAMES },
-    { "export", OPTION_CRLF, 1, 1, run_export,
-      "bhtf export FILE [--crlf]\n"
-      "Prints the points as import reads them, with a heading. A text that is\n"
-      "not easting,northing,height,note comes out as a note.\n"
-      "  --crlf        end lines with carriage return and line feed\n"
+    { "export", OPTION_CRLF | OPTION_GSI | OPTION_LANDXML | OPTION_DXF, 1, 1,
+      run_export,
+      "bhtf export FILE [--crlf | --gsi | --landxml | --dxf]\n"
+      "Prints the points as import reads them, with a heading. Texts that are "
+      "not\n"
+      "easting,northing,height,note stand in a column text.\n"
+      "      --crlf         end lines with carriage return and line feed\n"
+      "      --gsi          as Leica GSI-16\n"
+      "      --landxml      as CgPoints of LandXML 1.2\n"
+      "      --dxf          as points and names of DXF, release 12\n"
+      QUIET WAITING },
+    { "dump", 0, 1, 1, run_dump,
+      "bhtf dump FILE\n"
+      "Prints all of a file as text, a line for each point in the order of "
+      "their\n"
+      "names. load makes an equal file of it.\n"
+      QUIET WAITING },
+    { "load", OPTION_KEY_SIZE | OPTION_SLOTS | OPTION_SEED | OPTION_SIZE, 1,
+      2, run_load,
+      "bhtf load FILE [DUMP] [--size BYTES] [--slots N] ..\n"
+      "Makes a file of what dump printed; of standard input if DUMP is - or "
+      "not\n"
+      "given. An existing file is never overwritten. In place of what the dump "
+      "says:\n"
+      "  -k, --key-size K   bytes in a name\n"
+      "  -s, --slots N      points that it can hold\n"
+      "      --seed S       number by which names are scattered\n"
+      "  -S, --size BYTES   length of the file\n"
+      QUIET },
+    { "diff", OPTION_TSV, 2, 2, run_diff,
+      "bhtf diff OLD NEW [--tsv]\n"
+      "Says point by point what became of OLD in NEW: new, gone, moved by how\n"
+      "many millimetres, or another text. Status 0 if nothing did, 1 if "
+      "something.\n"
+      "      --tsv          fields with tabs between them, under a heading\n"
+      QUIET WAITING },
+    { "plot", OPTION_AGAINST | OPTION_PAPER, 1, 1, run_plot,
+      "bhtf plot FILE [--against OLD] [--paper SIZE] > PLAN.svg\n"
+      "Prints a plan of the points to scale as SVG, with names, grid, north\n"
+      "and a scale bar.\n"
+      "      --against OLD  also show what is new, gone and moved since that "
+      "file\n"
+      "  -p, --paper SIZE   A4, A3, A2, A1 or A0; unless given, the smallest "
+      "on\n"
+      "                     which the names have room beside their points\n"
       WAITING },
+    { "figure", OPTION_STATION | OPTION_SIGMA | OPTION_SVG, 2, ANY_NUMBER,
+      run_figure,
+      "bhtf figure FILE --station E,N NAME NAME NAME .. [--sigma MGON] "
+      "[--svg]\n"
+      "Says how well directions from a station at easting E and northing N to\n"
+      "the named points would determine it: good (status 0), weak or not\n"
+      "determined (status 1), and why. Geometry alone is judged.\n"
+      "  -s, --station E,N  where the station is, or will be, in metres\n"
+      "      --sigma MGON   standard deviation of a direction; 1 unless given\n"
+      "      --svg          print a picture instead of words\n"
+      WAITING NAMES },
     { "scramble", 0, 1, 1, run_scramble,
       "bhtf scramble SEED\n"
       "Prints the 95 numbers, one a line, by which names are scattered in a "
@@ -92,6 +186,46 @@ const struct command *command_find(const char *name)
     return NULL;
 }
 
+/* Prints a limit that stands in braces, and answers what is behind it. */
+static const char *print_limit(const char *at, FILE *to)
+{
+    static const struct {
+        const char *name;
+        unsigned long value;
+    } all[] = {
+        { "{key}", BHTF_KEY_MAX },
+        { "{key_usual}", KEY_SIZE_USUAL },
+        { "{slots}", BHTF_SLOTS_MAX },
+        { "{slots_usual}", BHTF_SLOTS_DEFAULT },
+        { "{page}", BHTF_PAGE },
+        { "{image}", BHTF_IMAGE_MAX },
+        { "{slot_bytes}", BYTES_A_SLOT },
+        { "{wait}", WAIT_USUAL }
+    };
+
+    for (size_t i = 0; i < sizeof all / sizeof all[0]; i++)
+        if (strncmp(at, all[i].name, strlen(all[i].name)) == 0) {
+            fprintf(to, "%lu", all[i].value);
+            return at + strlen(all[i].name);
+        }
+    fputc(*at, to);
+    return at + 1;
+}
+
+void help_print_command(const struct command *command, FILE *to)
+{
+    const char *at = command->help;
+
+    while (*at != '\0') {
+        size_t plain = strcspn(at, "{");
+
+        fwrite(at, 1, plain, to);
+        at += plain;
+        if (*at != '\0')
+            at = print_limit(at, to);
+    }
+}
+
 void help_print(FILE *to)
 {
     fputs("bhtf keeps named control points with their texts in one file.\n"
@@ -99,18 +233,24 @@ void help_print(FILE *to)
           "  bhtf create FILE            make an empty file\n"
           "  bhtf add FILE NAME [TEXT]   store a point\n"
           "  bhtf delete FILE NAME       take a point out\n"
-          "  bhtf get FILE NAME          print a point's text\n"
+          "  bhtf get FILE NAME..        print texts of points\n"
           "  bhtf count FILE             print the number of points\n"
           "  bhtf list FILE              print the names\n"
           "  bhtf check FILE             say whether the file is sound\n"
           "  bhtf stat FILE              load, searches and dead bytes\n"
           "  bhtf import FILE CSV        store points from a CSV file\n"
           "  bhtf export FILE            print all points as CSV\n"
+          "  bhtf dump FILE              print all of it as text\n"
+          "  bhtf load FILE DUMP         make a file of such a text\n"
+          "  bhtf diff OLD NEW           say what became of the points\n"
+          "  bhtf plot FILE              print a plan as SVG\n"
+          "  bhtf figure FILE --station E,N NAME..\n"
+          "                              judge the figure of a resection\n"
           "  bhtf scramble SEED          print the numbers of a seed\n"
           "\n"
-          "bhtf COMMAND --help says more about one of them; bhtf --version "
-          "says\n"
-          "which this is. Status: 0 done; 1 refused, no such point, or not "
-          "sound;\n"
-          "2 wrong usage, or the system failed.\n", to);
+          "bhtf help COMMAND says more about one of them; bhtf --version says "
+          "which\n"
+          "this is. Status: 0 done; 1 refused, no such point, or not sound; 2 "
+          "wrong\n"
+          "usage, input that is wrong, or the system failed.\n", to);
 }

@@ -402,6 +402,11 @@ void image_discard(struct image *i)
     release(i);
 }
 
+void image_forget(const struct image *i)
+{
+    unlink(i->path);
+}
+
 int image_copy(struct buffer *copy, const char *path, unsigned wait)
 {
     struct image i;

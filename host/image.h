@@ -41,6 +41,9 @@ int image_close(struct image *i);
 /* Closes and removes a file just created. */
 void image_discard(struct image *i);
 
+/* Removes a file just created, when its closing failed. */
+void image_forget(const struct image *i);
+
 /* A copy of a whole file, taken under the lock, which is given back. */
 int image_copy(struct buffer *copy, const char *path, unsigned wait);
 

@@ -9,18 +9,44 @@
 #define VERSION "unknown"
 #endif
 
-/* Words that stand in a command's place; -1 if the word is none of them. */
-static int run_word(const char *word)
+static int print_version(void)
 {
-    if (strcmp(word, "--help") == 0 || strcmp(word, "-h") == 0 ||
-        strcmp(word, "help") == 0) {
+    puts("bhtf " VERSION ", file format 1.0.1");
+    return finish_output(DONE);
+}
+
+static int no_such_command(const char *name)
+{
+    complain("there is no command %s; see bhtf --help", name);
+    return TROUBLE;
+}
+
+/* help, and help COMMAND. */
+static int run_help(int count, char **words)
+{
+    const struct command *command;
+
+    if (count == 0) {
         help_print(stdout);
         return finish_output(DONE);
     }
-    if (strcmp(word, "--version") == 0) {
-        puts("bhtf " VERSION ", file format 1.0.1");
-        return finish_output(DONE);
-    }
+    command = command_find(words[0]);
+    if (command == NULL)
+        return no_such_command(words[0]);
+    help_print_command(command, stdout);
+    return finish_output(DONE);
+}
+
+/* Words that stand in a command's place; -1 if the first is none of them. */
+static int run_word(int count, char **words)
+{
+    const char *word = words[0];
+
+    if (strcmp(word, "--help") == 0 || strcmp(word, "-h") == 0 ||
+        strcmp(word, "help") == 0)
+        return run_help(count - 1, words + 1);
+    if (strcmp(word, "--version") == 0 || strcmp(word, "-V") == 0)
+        return print_version();
     return -1;
 }
 
@@ -31,8 +57,10 @@ static int run_command(const struct command *command, int count, char **words)
 
     if (status != DONE)
         return status;
+    if (o.version)
+        return print_version();
     if (o.help) {
-        fputs(command->help, stdout);
+        help_print_command(command, stdout);
         return finish_output(DONE);
     }
     return command->run(&o);
@@ -64,13 +92,11 @@ int main(int argc, char **argv)
         help_print(stderr);
         return TROUBLE;
     }
-    status = run_word(argv[1]);
+    status = run_word(argc - 1, argv + 1);
     if (status >= 0)
         return status;
     command = command_find(argv[1]);
-    if (command == NULL) {
-        complain("there is no command %s; see bhtf --help", argv[1]);
-        return TROUBLE;
-    }
+    if (command == NULL)
+        return no_such_command(argv[1]);
     return run_command(command, argc - 2, argv + 2);
 }

@@ -6,8 +6,8 @@
 
 #include <string.h>
 
-/* Rows of the histogram: 1, 2, 3-4, 5-8 and so on up to 65,536. */
-enum { ROWS = 17, BAR = 40 };
+/* Rows of the histogram: 1, 2, 3-4, 5-8 and so on, for any number of slots. */
+enum { ROWS = 32, BAR = 40 };
 
 struct figures {
     uint32_t points;          /* taken slots */

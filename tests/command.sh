@@ -93,12 +93,20 @@ holds "the header is C++" header_compiles .cc g++ -std=c++98
 installs() {
   make -C host OUT="$work/gcc" "${settings[@]}" install PREFIX="$work/usr" || return 1
   local file
-  for file in bin/bhtf include/bhtf.h lib/libbhtf.a lib/pkgconfig/bhtf.pc share/man/man1/bhtf.1; do
+  for file in bin/bhtf include/bhtf.h lib/libbhtf.a lib/pkgconfig/bhtf.pc share/man/man1/bhtf.1 \
+    share/bash-completion/completions/bhtf share/zsh/site-functions/_bhtf; do
     [ -s "$work/usr/$file" ] || { echo "no $file"; return 1; }
   done
   "$work/usr/bin/bhtf" --version
 }
 holds "installs" installs
+uninstalls() {
+  make -C host OUT="$work/gcc" "${settings[@]}" install PREFIX="$work/usr2" || return 1
+  echo keep >"$work/usr2/bin/other"
+  make -C host OUT="$work/gcc" "${settings[@]}" uninstall PREFIX="$work/usr2" || return 1
+  [ "$(find "$work/usr2" -type f)" = "$work/usr2/bin/other" ] || { find "$work/usr2" -type f; return 1; }
+}
+holds "uninstalls what it installed" uninstalls
 through_pkg_config() {
   # shellcheck disable=SC2046
   gcc -std=c99 "$work/uses.c" -o "$work/uses" \
@@ -117,6 +125,29 @@ holds "the man page has no warnings" man_is_clean
 gives "the demonstration runs" 0 '^sound: 11 points$' \
   env LIB="$work/gcc/libbhtf.a" OUT="$work/demo" host/demo.sh
 
+# The demonstration from nothing, with a program in rt's place.
+mkdir "$work/tree" && cp -r host crates.txt .ci "$work/tree" && mkdir "$work/tree/crates"
+stand_in() { # STATUS: what rt says, and the archive
+  cat >"$work/rt" <<EOF
+#!/bin/sh
+printf 'rt: words proved (13 s)\nfn words::a: proved\nlibrary words: modules loaded=1\nrt: table proved (2 s)\n'
+echo 'words of an error' >&2
+mkdir -p target/staticlib && cp "$work/gcc/libbhtf.a" target/staticlib/libstation.a
+exit $1
+EOF
+  chmod 755 "$work/rt"
+}
+gives "the demonstration without rt says what to get" 2 'no command no-such-rt. It comes with the Rattle kit' \
+  env -u LIB RT=no-such-rt "$work/tree/host/demo.sh"
+stand_in 1
+gives "a proof that fails ends it, with all that was said" 1 'words of an error' env -u LIB RT="$work/rt" "$work/tree/host/demo.sh"
+rm -r "$work/tree/target"
+stand_in 0
+gives "proving shows a line for each crate" 0 '^rt: table proved' \
+  env -u LIB RT="$work/rt" OUT="$work/demo2" "$work/tree/host/demo.sh"
+same "and no more" 'rt: words proved (13 s)
+rt: table proved (2 s)' "$(grep -E 'proved|loaded|error' "$work/out")"
+
 cd "$work" || exit 2
 
 # ---- help and usage ----
@@ -125,11 +156,12 @@ gives "--help" 0 'bhtf create FILE' bhtf --help
 gives "--version" 0 '^bhtf [0-9.]+, file format 1\.0\.1$' bhtf --version
 gives "no command" 2 'bhtf create FILE' bhtf
 gives "unknown command" 2 'no command frob' bhtf frob
-for command in create add delete get count list check stat import export; do
+for command in create add delete get count list check stat import export dump load; do
   gives "$command --help" 0 "^bhtf $command FILE" bhtf $command --help
   gives "$command without arguments" 2 'too few arguments' bhtf $command
   gives "$command with an unknown option" 2 'unknown option --frob' bhtf $command x --frob
-  gives "$command with too many arguments" 2 'too many' bhtf $command a b c d
+  [[ $command =~ ^(get|list)$ ]] || # these take any number
+    gives "$command with too many arguments" 2 'too many' bhtf $command a b c d
 done
 gives "an option of another command" 2 'unknown option --slots' bhtf count x --slots 4
 gives "a number that is none" 2 'needs a number' bhtf create x --slots 4x
@@ -258,7 +290,8 @@ bhtf import csv2 out1 --quiet
 bhtf export csv2 >out2
 holds "export, import, export" cmp out1 out2
 bhtf add csv note 'free, text'
-gives "another text comes out as a note" 0 '^note,,,,"free, text"$' bhtf export csv
+gives "another text comes out in a column of its own" 0 '^note,,,,,"free, text"$' bhtf export csv
+bhtf delete csv note
 bhtf create csv3
 gives "import from standard input" 0 '5 points' sh -c 'bhtf import csv3 - <out1'
 same "import --quiet" '' "$(bhtf import csv3 out1 --replace --quiet)"
@@ -266,35 +299,33 @@ printf '\357\273\277name,easting,northing,height,note\nB1,1,2,3,last line withou
 gives "a byte order mark" 0 '^1 point stored$' bhtf import csv3 bom.csv
 same "the last line" '1,2,3,last line without end' "$(bhtf get csv3 B1)"
 printf 'A1,1,2,3,\nA2,1,2,3,\nP1,9,9,9,\nA3,1,2,3,\n' >half.csv
-gives "an import stops at a refused line" 1 'line 3: P1: refused \(9\)' bhtf import csv half.csv
+gives "an import stops at a refused line" 1 'line 3: P1: refused \(9\)' bhtf import csv half.csv -c PENZD
 gives "what it stored is there" 0 '1,2,3,' bhtf get csv A2
 gives "what is behind is not" 1 'refused \(14\)' bhtf get csv A3
 bhtf create half
 bhtf add half P1 x
-gives "the number of points stored" 1 'stopped: 2 points stored in half' bhtf import half half.csv
-gives "import --replace" 0 '4 points' bhtf import csv half.csv --replace
+gives "the number of points stored" 1 'stopped: 2 points stored in half' bhtf import half half.csv -c PENZD
+gives "import --replace" 0 '^4 points stored: 1 new, 3 in place of others$' bhtf import csv half.csv --replace -c PENZD
 same "the replaced text" '9,9,9,' "$(bhtf get csv P1)"
 printf 'A1,1,2,3,"open\n' >bad.csv
 gives "a quote left open" 2 'line 1: .*no closing quote' bhtf import csv bad.csv
 printf 'X1,1,2,3,\nA1,1,2,3,"a"b\n' >bad.csv
-gives "text behind a quote" 2 'line 2: .*behind a closing quote' bhtf import csv bad.csv
+gives "text behind a quote" 2 'line 2: .*behind a closing quote' bhtf import csv bad.csv -c PENZD
 gives "the line in front of it is stored" 0 '1,2,3,' bhtf get csv X1
 printf 'A1,1,2,3\n' >bad.csv
-gives "four fields" 2 'line 1: .*five fields' bhtf import csv bad.csv
+gives "four fields" 2 'line 1: the line has 4 fields, and not the 5 of name,easting' bhtf import csv bad.csv -c PENZD
 printf 'A1,1,2,3,4,5\n' >bad.csv
-gives "six fields" 2 'line 1: .*five fields' bhtf import csv bad.csv
-printf 'name,northing,easting,height,note\n' >bad.csv
-gives "another heading" 2 'heading must be' bhtf import csv bad.csv
+gives "six fields" 2 'line 1: the line has 6 fields, and not the 5' bhtf import csv bad.csv -c PENZD
 printf 'a name that is too long,1,2,3,\n' >bad.csv
-gives "a name too long" 1 'line 1: a name that is too long: refused \(7\)' bhtf import csv bad.csv
+gives "a name too long" 1 'line 1: a name that is too long: refused \(7\)' bhtf import csv bad.csv -c PENZD
 gives "no such CSV" 2 'No such file' bhtf import csv nowhere.csv
 gives "a file into itself" 2 'into itself' bhtf import csv csv
 : >empty.csv
 gives "an empty CSV" 0 '^0 points stored$' bhtf import csv empty.csv
 gives "after all this the file is sound" 0 '^sound' bhtf check csv
-seq 5507 | sed 's/.*/N&,&.125,-&.5,1e3,"n, ""&"""/' >full.csv
+seq 5507 | sed 's/.*/N&,&.125,-&.5,1000,"n, ""&"""/' >full.csv
 bhtf create full --slots 5507
-gives "import fills a table" 0 '^5507 points' bhtf import full full.csv
+gives "import fills a table" 0 '^5507 points' bhtf import full full.csv -c PENZD
 bhtf export full | tail -n +2 | LC_ALL=C sort >got
 LC_ALL=C sort full.csv >expected
 holds "a full table comes back" cmp expected got
@@ -316,7 +347,7 @@ printf '\001\000\002' | dd of=version bs=1 seek=5 conv=notrunc status=none
 cp a header
 printf '\377' | dd of=header bs=1 seek=16 conv=notrunc status=none
 while read -r number file; do
-  for words in 'count' 'list' 'check' 'stat' 'export' 'get:n' 'delete:n' 'add:n:t' 'import:out1'; do
+  for words in 'count' 'list' 'check' 'stat' 'export' 'dump' 'get:n' 'delete:n' 'add:n:t' 'import:out1'; do
     IFS=: read -r command one two <<<"$words"
     cp "$file" before
     gives "$file: $command refused $number" 1 "refused \\($number\\)" \
@@ -340,7 +371,7 @@ gives "refused with standard error closed" 1 '' sh -c 'bhtf delete header n 2>&-
 holds "it is as it was" cmp before header
 cp a one
 cp a two
-printf 'new,1,2,3,\nCP-1,1,2,3,\n' >lines.csv
+printf 'P,E,N,Z,D\nnew,1,2,3,\nCP-1,1,2,3,\n' >lines.csv
 bhtf import one lines.csv 2>/dev/null
 gives "a refused line with standard error closed" 1 '' sh -c 'bhtf import two - <lines.csv 2>&-'
 holds "only the point in front of it is stored" cmp one two
@@ -353,7 +384,8 @@ for words in get delete; do
 done
 gives "refused 11 at add" 1 'refused \(11\)' bhtf add damaged a x --replace
 gives "check names the slot" 1 "unsound: slot $slot \\(a\\)" bhtf check damaged
-gives "list --long says bad" 0 'bad a$' bhtf list damaged --long
+gives "list --long says bad, with export's status" 1 'bad a$' bhtf list damaged --long
+gives "list looks at names alone" 0 '^a$' bhtf list damaged
 gives "export leaves it out" 1 'a: left out' bhtf export damaged
 gives "stat says damaged" 1 'damaged' bhtf stat damaged
 cp a damaged
@@ -385,7 +417,7 @@ damage() {
       printf '%b' "\\x$(printf %02x $((RANDOM % 256)))" |
         dd of=hurt bs=1 seek=$place conv=notrunc status=none
     done
-    for words in 'count' 'list:--long' 'check' 'stat' 'export' 'get:CP-101' 'add:CP-102:more:--append' \
+    for words in 'count' 'list:--long' 'check' 'stat' 'export' 'dump' 'get:CP-101' 'add:CP-102:more:--append' \
       'add:CP-104:0:--replace' 'add:new:text' 'delete:CP-105' 'delete:BM-1' 'import:'"$root/host/site.csv"':--replace'; do
       IFS=: read -r command one two three <<<"$words"
       clean_status "$command" hurt ${one:+"$one"} ${two:+"$two"} ${three:+"$three"} || return 1
@@ -402,10 +434,17 @@ refused_cleanly() {
 }
 holds "refused files under the sanitizers" refused_cleanly
 csv_cleanly() {
-  clean_status import csv full.csv --replace && clean_status export csv &&
-    clean_status import site bad.csv && clean_status create fresh --size 16384 --slots 9
+  clean_status import csv full.csv --replace -c PENZD && clean_status export csv &&
+    clean_status import site bad.csv -c PENZD && clean_status create fresh --size 16384 --slots 9
 }
 holds "import and export under the sanitizers" csv_cleanly
+
+# ---- parts in files of their own ----
+
+for part in import roundtrip habits completion; do
+  # shellcheck source=/dev/null
+  . "$root/tests/command/$part.sh"
+done
 
 # ---- locks ----
 
@@ -457,7 +496,7 @@ same "and has status 2" 2 "$(tail -n 1 waited)"
 
 mkfifo feed
 start_import() { # FILE [OPTION..]: an import that waits for its input
-  bhtf import "$1" feed "${@:2}" >import.out 2>import.err &
+  bhtf import "$1" feed -c PENZD "${@:2}" >import.out 2>import.err &
   importer=$!
   helpers+=("$importer")
   exec 9>feed
@@ -501,7 +540,7 @@ writer() {
     bhtf add busy both "$a_text" --replace || return 1
     [ $((i % 10)) -ne 0 ] || bhtf delete busy "W$((i - 5))" || return 1
   done
-  seq 3000 | sed 's/.*/I&,&,&,&,/' | bhtf import busy - --quiet
+  seq 3000 | sed 's/.*/I&,&,&,&,/' | bhtf import busy - --quiet -c PENZD
 }
 reader() {
   local text
@@ -549,7 +588,7 @@ hot_kills() {
   for i in $(seq 12); do
     rm -f hot
     bhtf create hot --slots 65536 --key-size 8 || return 1
-    bhtf import hot hot.csv --quiet 2>/dev/null &
+    bhtf import hot hot.csv --quiet -c PENZD 2>/dev/null &
     pid=$!
     sleep "0.0$((RANDOM % 60 + 10))"
     kill -KILL $pid 2>/dev/null
@@ -636,11 +675,11 @@ mkfifo slow.in slow.in2
 slowly() { seq 300 | sed 's/.*/S&,&,&,&,/'; sleep 0.8; seq 301 900 | sed 's/.*/S&,&,&,&,/'; }
 slowly >slow.in &
 helpers+=($!)
-script -qec "bhtf import slow slow.in" /dev/null >progress </dev/null
+script -qec "bhtf import slow slow.in -c PENZD" /dev/null >progress </dev/null
 gives "a long import shows its progress on a terminal" 0 $'\rbhtf: [0-9]+ points stored' cat progress
 slowly >slow.in2 &
 helpers+=($!)
-script -qec "bhtf import slow slow.in2 --replace --quiet" /dev/null >progress </dev/null
+script -qec "bhtf import slow slow.in2 --replace --quiet -c PENZD" /dev/null >progress </dev/null
 same "but not with --quiet" '0 900' "$? $(bhtf count slow)$(cat progress)"
 
 # ---- a file that may only be read ----

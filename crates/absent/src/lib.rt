@@ -41,7 +41,8 @@ fn insert(image: &mut [u8], shape: Shape, slot: Slot, key: &[u8], bytes: &[u8])
     requires { ⌜ Open (now image) shape × (slot .0 < shape .slots)
         × (length (now key) ≡ shape .keylen) × Fits (now image) shape (length (now bytes)) ⌝ }
     ensures { λ _. ⌜ now (image .exit)
-        ≡ inserted (layoutOf (now (image .entry))) (now (image .entry)) (slot .0) (now (key .entry)) (some (now (bytes .entry))) ⌝ }
+        ≡ inserted (layoutOf (now (image .entry))) (now (image .entry)) (slot .0) (now (key .entry))
+        (some (now (bytes .entry))) ⌝ }
 {
     let free = Offset::new(read_u32(image, FREE_FIELD) as usize);
     take_space(image, shape, Offset::new(0), 0, bytes);
@@ -58,10 +59,12 @@ fn insert_fresh(
     mode: u32,
 ) -> u32
     requires { ⌜ Open (now image) shape × (slot .0 < shape .slots) × (length (now key) ≡ shape .keylen) ⌝ }
-    ensures { λ r. ⌜ (r ≡ placeNumber (layoutOf (now (image .entry))) (now (image .entry)) (freshText (now (bytes .entry)) mode))
+    ensures { λ r. ⌜ (r ≡ placeNumber (layoutOf (now (image .entry))) (now (image .entry))
+        (freshText (now (bytes .entry)) mode))
         × (now (image .exit)
         ≡ settled r (now (image .entry))
-        (inserted (layoutOf (now (image .entry))) (now (image .entry)) (slot .0) (now (key .entry)) (freshText (now (bytes .entry)) mode))) ⌝ }
+        (inserted (layoutOf (now (image .entry))) (now (image .entry)) (slot .0) (now (key .entry))
+        (freshText (now (bytes .entry)) mode))) ⌝ }
 {
     if bytes.len() == 0 {
         enter(image, shape, slot, key, Offset::new(0));
@@ -86,10 +89,12 @@ pub fn add_absent(
 ) -> u32
     requires { ⌜ Open (now image) shape × Within (shape .slots) (probeOf found)
         × (length (now key) ≡ shape .keylen) × (isMet (probeOf found) ≡ false) ⌝ }
-    ensures { λ r. ⌜ (r ≡ firstNo (pointAsks (layoutOf (now (image .entry))) (now (image .entry)) (probeOf found) (now (bytes .entry)) mode))
+    ensures { λ r. ⌜ (r ≡ firstNo (pointAsks (layoutOf (now (image .entry))) (now (image .entry)) (probeOf found)
+        (now (bytes .entry)) mode))
         × (now (image .exit)
         ≡ settled r (now (image .entry))
-        (addedAt (layoutOf (now (image .entry))) (now (image .entry)) (probeOf found) (now (key .entry)) (now (bytes .entry)) mode)) ⌝ }
+        (addedAt (layoutOf (now (image .entry))) (now (image .entry)) (probeOf found) (now (key .entry))
+        (now (bytes .entry)) mode)) ⌝ }
 {
     let Found::Empty(slot) = found else {
         return 10;

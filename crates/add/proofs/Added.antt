@@ -21,10 +21,12 @@ module _ (img key bytes : Bytes) (mode : ℕ) (known : Bool) (is-known : known �
       → (n ≡ add img key bytes mode .answer .number) × (img ≡ add img key bytes mode .after)
   unfolding add plain
   refused-answer n e z =
-      let is : n ≡ addNumber img key bytes mode = e ∙ asked ∙ sym (add-stop img key bytes mode (λ q. z (e ∙ asked ∙ q))) in
+      let is : n ≡ addNumber img key bytes mode =
+      e ∙ asked ∙ sym (add-stop img key bytes mode (λ q. z (e ∙ asked ∙ q))) in
       (is, sym (add-refused img key bytes mode (λ q. z (is ∙ q))))
 
-  pub found-answer : seekNumber img key known ≡ 0 → (n : ℕ) (after : Bytes) (p : Probe) → p ≡ search (layoutOf img) img key
+  pub found-answer : seekNumber img key known ≡ 0 → (n : ℕ) (after : Bytes) (p : Probe)
+      → p ≡ search (layoutOf img) img key
       → n ≡ firstNo (pointAsks (layoutOf img) img p bytes mode)
       → after ≡ settled n img (addedAt (layoutOf img) img p key bytes mode)
       → (n ≡ add img key bytes mode .answer .number) × (after ≡ add img key bytes mode .after)
@@ -32,5 +34,6 @@ module _ (img key bytes : Bytes) (mode : ℕ) (known : Bool) (is-known : known �
   found-answer a n after p e is h =
       let g = layoutOf img in
       let number : n ≡ addNumber img key bytes mode =
-      is ∙ ap (λ (q : Probe). firstNo (pointAsks g img q bytes mode)) e ∙ sym (add-on img key bytes mode (sym asked ∙ a)) in
+      is ∙ ap (λ (q : Probe). firstNo (pointAsks g img q bytes mode)) e
+      ∙ sym (add-on img key bytes mode (sym asked ∙ a)) in
       (number, h ∙ ap₂ (λ (m : ℕ) (q : Probe). settled m img (addedAt g img q key bytes mode)) number e)

@@ -27,10 +27,12 @@ fn add_found(
 ) -> u32
     requires { ⌜ Open (now image) shape × Within (shape .slots) (probeOf found)
         × (length (now key) ≡ shape .keylen) × (modeKnown mode ≡ true) ⌝ }
-    ensures { λ r. ⌜ (r ≡ firstNo (pointAsks (layoutOf (now (image .entry))) (now (image .entry)) (probeOf found) (now (bytes .entry)) mode))
+    ensures { λ r. ⌜ (r ≡ firstNo (pointAsks (layoutOf (now (image .entry))) (now (image .entry)) (probeOf found)
+        (now (bytes .entry)) mode))
         × (now (image .exit)
         ≡ settled r (now (image .entry))
-        (addedAt (layoutOf (now (image .entry))) (now (image .entry)) (probeOf found) (now (key .entry)) (now (bytes .entry)) mode)) ⌝ }
+        (addedAt (layoutOf (now (image .entry))) (now (image .entry)) (probeOf found) (now (key .entry))
+        (now (bytes .entry)) mode)) ⌝ }
 {
     let Found::Met(slot) = found else {
         return add_absent(image, shape, found, key, bytes, mode);
@@ -38,8 +40,8 @@ fn add_found(
     add_present(image, shape, slot, key, bytes, mode)
 }
 
-// Stores the bytes under the key: mode 1 for a key that is absent only, 2 replaces its message, 3 appends to it. Answers 0;
-// or the number of the first question answered no, and then changes no byte.
+// Stores the bytes under the key: mode 1 for a key that is absent only, 2 replaces its message, 3 appends to it.
+// Answers 0; or the number of the first question answered no, and then changes no byte.
 pub fn add(image: &mut [u8], key: &[u8], bytes: &[u8], mode: u32) -> u32
     ensures { λ r. ⌜ (r ≡ add (now (image .entry)) (now (key .entry)) (now (bytes .entry)) mode .answer .number)
         × (now (image .exit) ≡ add (now (image .entry)) (now (key .entry)) (now (bytes .entry)) mode .after) ⌝ }

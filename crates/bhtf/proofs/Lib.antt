@@ -1,6 +1,6 @@
 -- Laws of the definitions in ../specs, of any image bytes. The code's crates rest on them, and the theorem over lists.
 -- In this order each module rests on those above it. To begin with: the heads of Bytes, Slots and Table, then Probe;
--- for the calls Opened, Kept and Outcomes. Cases can be read beside document 01 with nothing else.
+-- for the calls Opened, Kept and Outcomes. The cases can be read beside document 01 with nothing else.
 
 -- ---- bytes and numbers
 pub mod Tests  -- tests on Bools and numbers, as facts and case splits
@@ -30,6 +30,11 @@ pub mod Texts  -- the text that each mode of add places
 pub mod Effects  -- the effects of a call, one by one
 pub mod Sought  -- the questions that every call on a name puts first
 pub mod Outcomes  -- each call's number, case by case, and the image that it leaves
--- ---- document 01's proved table, and more cases, by computation
-pub mod Cases
-pub mod CasesStretches
+-- ---- cases, by computation
+pub mod CasesBase  -- what they compute with and look at
+pub mod Cases  -- document 01's proved table
+pub mod CasesHeader  -- create, the hash, the header
+pub mod CasesFile  -- messages, the table, images that no create left
+pub mod CasesBook  -- the book, and file and book side by side
+pub mod CasesInspect  -- walk and check
+pub mod CasesStretches  -- two points on one message

@@ -1,5 +1,6 @@
 -- What a call answers, case by case, on any image whose header is accepted; and the image that it leaves.
---     lookup-7, lookup-14, lookup-11, lookup-0, and so for delete; add-7 to add-11, and add-renewed, add-fresh, where 12 and 13 decide
+--     lookup-7, lookup-14, lookup-11, lookup-0, and so for delete; add-7 to add-11
+--     add-renewed, add-fresh      add's number where 12 and 13 decide
 --     room-none    12 and 13 where nothing is placed
 --     offset-refused, offset-met, lookup-shows, lookup-refused      lookup's answer
 --     add-refused, delete-refused, delete-accepted      the image afterwards
@@ -197,7 +198,8 @@ module _ (img key : Bytes) (open₀ : openNumber img ≡ 0) where
           let o = opened-facts img open₀ in
           let q : lookupOffset img key ≡ at = offset-is ∙ ap (λ (t : Bool). cond t at 0) h in
           let len : length (part img (at + headSize g) (lengthAt g img at)) ≡ lengthAt g img at =
-          part-length img (at + headSize g) (lengthAt g img at) (omega (arith, message-end img o at s z, o .free-high)) in
+          part-length img (at + headSize g) (lengthAt g img at)
+          (omega (arith, message-end img o at s z, o .free-high)) in
           rw (lookup-0 s, q, ne-eqb at 0 z, h, len) refl)
           (λ h.
           let q : lookupOffset img key ≡ 0 = offset-is ∙ ap (λ (t : Bool). cond t at 0) h in
@@ -222,10 +224,12 @@ module _ (img key : Bytes) (open₀ : openNumber img ≡ 0) where
     unfolding deleteAsks
     delete-met = delete-asks ∙ firstNo-yes 7 _ _ a ∙ ap (λ (s : Probe). firstNo (removedAsks g img s)) m
 
-    pub delete-11 : (messageSound g img (offsetOf g (slot g img i)) && somePoint img) ≡ false → deleteNumber img key ≡ 11
+    pub delete-11 : (messageSound g img (offsetOf g (slot g img i)) && somePoint img) ≡ false
+        → deleteNumber img key ≡ 11
     delete-11 h = delete-met ∙ removed-11 g img i h
 
-    pub delete-0 : messageSound g img (offsetOf g (slot g img i)) ≡ true → somePoint img ≡ true → deleteNumber img key ≡ 0
+    pub delete-0 : messageSound g img (offsetOf g (slot g img i)) ≡ true → somePoint img ≡ true
+        → deleteNumber img key ≡ 0
     delete-0 h k = delete-met ∙ removed-0 g img i h k
 
     pub delete-accepted : deleteNumber img key ≡ 0 → delete img key .after ≡ deletedAt g img i
@@ -260,11 +264,13 @@ module _ (img key : Bytes) (open₀ : openNumber img ≡ 0) where
         pub add-9 : eqb mode 1 ≡ true → addNumber img key bytes mode ≡ 9
         add-9 h = ended (met i) m ∙ point-9 g img bytes mode i h
 
-        pub add-11 : eqb mode 1 ≡ false → messageSound g img (offsetOf g (slot g img i)) ≡ false → addNumber img key bytes mode ≡ 11
+        pub add-11 : eqb mode 1 ≡ false → messageSound g img (offsetOf g (slot g img i)) ≡ false
+            → addNumber img key bytes mode ≡ 11
         add-11 h s = ended (met i) m ∙ point-11 g img bytes mode i h s
 
         pub add-renewed : eqb mode 1 ≡ false → messageSound g img (offsetOf g (slot g img i)) ≡ true
-            → addNumber img key bytes mode ≡ placeNumber g img (renewedText g img (offsetOf g (slot g img i)) bytes mode)
+            → addNumber img key bytes mode
+            ≡ placeNumber g img (renewedText g img (offsetOf g (slot g img i)) bytes mode)
         add-renewed h s = ended (met i) m ∙ point-renewed g img bytes mode i h s
 
       -- a point that is absent
@@ -275,16 +281,19 @@ module _ (img key : Bytes) (open₀ : openNumber img ≡ 0) where
         pub add-10-full : ltb (field img pointsField) (g .N) ≡ false → addNumber img key bytes mode ≡ 10
         add-10-full h = ended (empty i) m ∙ point-10-full g img bytes mode i h
 
-        pub add-fresh : ltb (field img pointsField) (g .N) ≡ true → addNumber img key bytes mode ≡ placeNumber g img (freshText bytes mode)
+        pub add-fresh : ltb (field img pointsField) (g .N) ≡ true
+            → addNumber img key bytes mode ≡ placeNumber g img (freshText bytes mode)
         add-fresh h = ended (empty i) m ∙ point-fresh g img bytes mode i h
 
 -- a refused lookup shows the image's first 0 bytes
-pub lookup-refused : (img key : Bytes) → (lookupNumber img key ≡ 0 → ⊥) → lookup img key .answer ≡ plain (lookupNumber img key)
+pub lookup-refused : (img key : Bytes) → (lookupNumber img key ≡ 0 → ⊥)
+    → lookup img key .answer ≡ plain (lookupNumber img key)
 unfolding lookup lookupLength lookupStart lookupOffset plain held part
 lookup-refused img key z = rw (ne-eqb (lookupNumber img key) 0 z) refl
 
 -- a refused call leaves the image
-pub add-refused : (img key bytes : Bytes) (mode : ℕ) → (addNumber img key bytes mode ≡ 0 → ⊥) → add img key bytes mode .after ≡ img
+pub add-refused : (img key bytes : Bytes) (mode : ℕ) → (addNumber img key bytes mode ≡ 0 → ⊥)
+    → add img key bytes mode .after ≡ img
 unfolding add
 add-refused img key bytes mode z = settled-no (addNumber img key bytes mode) img _ z
 

@@ -1,4 +1,4 @@
--- The questions that every call on a name puts before it looks at the table, 1, 5, 6, 7 and 8, and a call's number behind them.
+-- What every call on a name asks before it looks at the table, questions 1, 5, 6, 7 and 8; and a call's number then.
 --     seek-closed, seek-7, seek-8, seek-0      their number, by the first no
 --     seek-opened, seek-allowed                what a 0 says
 --     lookup-.., delete-.., add-.., with -stop and -on      a call's number where they refuse it, and where they do not
@@ -98,11 +98,13 @@ module _ (img key : Bytes) where
   delete-on z = no-mode img _ _ ∙ on img key true z _
 
   module _ (bytes : Bytes) (mode : ℕ) where
-    pub add-stop : (seekNumber img key (modeKnown mode) ≡ 0 → ⊥) → addNumber img key bytes mode ≡ seekNumber img key (modeKnown mode)
+    pub add-stop : (seekNumber img key (modeKnown mode) ≡ 0 → ⊥)
+        → addNumber img key bytes mode ≡ seekNumber img key (modeKnown mode)
     unfolding addNumber addAsks named
     add-stop n = stop img key (modeKnown mode) n _
 
     pub add-on : seekNumber img key (modeKnown mode) ≡ 0
-        → addNumber img key bytes mode ≡ firstNo (pointAsks (layoutOf img) img (search (layoutOf img) img key) bytes mode)
+        → addNumber img key bytes mode
+        ≡ firstNo (pointAsks (layoutOf img) img (search (layoutOf img) img key) bytes mode)
     unfolding addNumber addAsks named
     add-on z = on img key (modeKnown mode) z _

@@ -157,7 +157,7 @@ createNumber L K N = firstNo (createAsks L K N)
 unfoldable pub openNumber : Bytes → ℕ
 openNumber img = firstNo (opened img [])
 
--- 1, 5, 6 and 7, and add's 8 (yes where a call has no mode): what every call on a name puts before it looks at the table
+-- 1, 5, 6 and 7, and add's 8 (yes where a call has no mode): what every call on a name asks before the table is read
 unfoldable pub seekNumber : Bytes → Bytes → Bool → ℕ
 seekNumber img key known = firstNo (opened img (ask 7 (nameAllowed (layoutOf img .K) key) ∷ ask 8 known ∷ []))
 

@@ -46,7 +46,8 @@ module _ (img : Bytes) (s : Shape) (is : s ≡ shapeOf img) (hole j : ℕ) (from
   copied-slot =
       ap₂ (λ (p q : ℕ). store img p (part img q (s .keylen + 4)))
       (to-at ∙ sym (slot-place img s is hole)) (from-at ∙ sym (slot-place img s is j))
-      ∙ ap (λ (m : ℕ). store img (slotStart (layoutOf img) hole) (part img (slotStart (layoutOf img) j) m)) (sym (slot-room img s is))
+      ∙ ap (λ (m : ℕ). store img (slotStart (layoutOf img) hole) (part img (slotStart (layoutOf img) j) m))
+      (sym (slot-room img s is))
 
 -- the image half way, b, and after slot j was zeroed by b's own layout
 pub moved-code : (img b : Bytes) (s : Shape) (hole j : ℕ) → Open img s → Beside s hole j
@@ -55,7 +56,9 @@ pub moved-code : (img b : Bytes) (s : Shape) (hole j : ℕ) → Open img s → B
 unfolding moved
 moved-code img b s hole j o d e =
     let n = layout-slots img s (o .shape) in
-    let half = head-half (layoutOf img) img (o .accepted) (room img (o .accepted)) hole j (omega (arith, d .hole-lt)) (omega (arith, d .slot-lt)) in
+    let half =
+    head-half (layoutOf img) img (o .accepted) (room img (o .accepted)) hole j (omega (arith, d .hole-lt))
+    (omega (arith, d .slot-lt)) in
     ap (λ (x : Bytes). putSlot (layoutOf x) x j (blank (layoutOf x))) e
     ∙ ap (λ (g : Layout). putSlot g (putSlot (layoutOf img) img hole (slot (layoutOf img) img j)) j (blank g))
     (half .layout)
@@ -64,7 +67,9 @@ pub placed-code : (img b : Bytes) (s : Shape) (hole j : ℕ) → Open img s → 
     → b ≡ putSlot (layoutOf img) img hole (slot (layoutOf img) img j) → Placed b s
 placed-code img b s hole j o d e =
     let n = layout-slots img s (o .shape) in
-    let half = head-half (layoutOf img) img (o .accepted) (room img (o .accepted)) hole j (omega (arith, d .hole-lt)) (omega (arith, d .slot-lt)) in
+    let half =
+    head-half (layoutOf img) img (o .accepted) (room img (o .accepted)) hole j (omega (arith, d .hole-lt))
+    (omega (arith, d .slot-lt)) in
     subst (λ (x : Bytes). Placed x s) (sym e) (placed-opened _ s (same-open half o))
 
 -- ---- a look
@@ -78,7 +83,8 @@ module _ (g : Layout) (img : Bytes) (hole j : ℕ) where
   looked-stays e =
       (ap (λ (b : Bool). cond b hole j) e, ap (λ (b : Bool). cond b img (moved g img hole j)) e)
 
-  pub looked-moves : stays g img hole j ≡ false → (lookedHole g img hole j ≡ j) × (lookedImage g img hole j ≡ moved g img hole j)
+  pub looked-moves : stays g img hole j ≡ false
+      → (lookedHole g img hole j ≡ j) × (lookedImage g img hole j ≡ moved g img hole j)
   unfolding lookedHole lookedImage
   looked-moves e =
       (ap (λ (b : Bool). cond b hole j) e, ap (λ (b : Bool). cond b img (moved g img hole j)) e)
@@ -114,9 +120,11 @@ module _ {start : Bytes} {s : Shape} {h₀ j₀ : ℕ} {img : Bytes} {h j : ℕ}
 
   -- the state after a look, and the measure
   abbrev pub After : Bytes → ℕ → ℕ → Type 0
-  After img′ h′ j′ = Walking start s h₀ j₀ img′ h′ j′ × (left (layoutOf start) img′ h′ j′ < left (layoutOf start) img h j)
+  After img′ h′ j′ =
+      Walking start s h₀ j₀ img′ h′ j′ × (left (layoutOf start) img′ h′ j′ < left (layoutOf start) img h j)
 
-  after-stays : Taken (layoutOf start) img j → stays (layoutOf start) img h j ≡ true → After img h (next (layoutOf start .N) j)
+  after-stays : Taken (layoutOf start) img j → stays (layoutOf start) img h j ≡ true
+      → After img h (next (layoutOf start .N) j)
   after-stays t a = (
     record {
       head = w .head;
@@ -162,7 +170,8 @@ module _ {start : Bytes} {s : Shape} {h₀ j₀ : ℕ} {img : Bytes} {h j : ℕ}
   pub walking-end : vacant (layoutOf img) (slot (layoutOf img) img j) ≡ true
       → img ≡ closeFrom (looks (layoutOf start) start h₀ j₀) (layoutOf start) start h₀ j₀ .image
   walking-end v =
-      sym (w .same ∙ turn-image (layoutOf start) img h j (sym (ap (λ (g : Layout). vacant g (slot g img j)) (w .head .layout)) ∙ v))
+      sym (w .same ∙ turn-image (layoutOf start) img h j
+      (sym (ap (λ (g : Layout). vacant g (slot g img j)) (w .head .layout)) ∙ v))
 
 -- ---- the start: slot i was zeroed
 module _ (img : Bytes) (s : Shape) (o : Open img s) (i : ℕ) (l : i < s .slots) where
@@ -174,14 +183,18 @@ module _ (img : Bytes) (s : Shape) (o : Open img s) (i : ℕ) (l : i < s .slots)
 
   cleared-head : SameHead img cleared
   unfolding cleared
-  cleared-head = head-putSlot (layoutOf img) img (o .accepted) (room img (o .accepted)) i (blank (layoutOf img)) slot-lt (length-blank (layoutOf img))
+  cleared-head =
+      head-putSlot (layoutOf img) img (o .accepted) (room img (o .accepted)) i (blank (layoutOf img)) slot-lt
+      (length-blank (layoutOf img))
 
-  pub walking-start : (b : Bytes) (j : ℕ) → b ≡ putSlot (layoutOf img) img i (blank (layoutOf img)) → j ≡ next (s .slots) i
+  pub walking-start : (b : Bytes) (j : ℕ) → b ≡ putSlot (layoutOf img) img i (blank (layoutOf img))
+      → j ≡ next (s .slots) i
       → Walking b s i j b i j
   unfolding cleared
   walking-start b j e ej =
       subst (λ (x : Bytes). Walking x s i j x i j) (sym e)
-      (subst (λ (k : ℕ). Walking cleared s i k cleared i k) (sym (ej ∙ ap (λ (n : ℕ). next n i) (sym (layout-slots img s (o .shape)))))
+      (subst (λ (k : ℕ). Walking cleared s i k cleared i k)
+      (sym (ej ∙ ap (λ (n : ℕ). next n i) (sym (layout-slots img s (o .shape)))))
       (record {
         head = record { opened = cleared-head .opened; layout = refl; shape = refl; size = refl };
         opened = same-open cleared-head o;
@@ -191,12 +204,14 @@ module _ (img : Bytes) (s : Shape) (o : Open img s) (i : ℕ) (l : i < s .slots)
         same = refl;
       }))
 
-  pub walking-closed : (b : Bytes) (j : ℕ) → b ≡ putSlot (layoutOf img) img i (blank (layoutOf img)) → j ≡ next (s .slots) i
+  pub walking-closed : (b : Bytes) (j : ℕ) → b ≡ putSlot (layoutOf img) img i (blank (layoutOf img))
+      → j ≡ next (s .slots) i
       → closeFrom (looks (layoutOf b) b i j) (layoutOf b) b i j .image ≡ closed (layoutOf img) img i
   unfolding cleared
   walking-closed b j e ej =
       ap₂ (λ (x : Bytes) (k : ℕ). closeFrom (looks (layoutOf x) x i k) (layoutOf x) x i k .image) e
       (ej ∙ ap (λ (n : ℕ). next n i) (sym (layout-slots img s (o .shape))))
-      ∙ ap (λ (g : Layout). closeFrom (looks g cleared i (next (layoutOf img .N) i)) g cleared i (next (layoutOf img .N) i) .image)
+      ∙ ap (λ (g : Layout). closeFrom (looks g cleared i (next (layoutOf img .N) i)) g cleared i
+      (next (layoutOf img .N) i) .image)
       (cleared-head .layout)
       ∙ sym (closed-looks (layoutOf img) img (room img (o .accepted)) i slot-lt)

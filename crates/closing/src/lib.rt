@@ -1,5 +1,5 @@
-// Delete's walk: the gap that an entry leaves is closed by entries that a search would no longer find (Knuth's Algorithm R,
-// run upwards).
+// Delete's walk: the gap that an entry leaves is closed by entries that a search would no longer find (Knuth's
+// Algorithm R, run upwards).
 use layout::places::Slot;
 use layout::shape::Shape;
 use runs::copy_apart;

@@ -1,5 +1,6 @@
 -- Delete's steps on an image whose header is accepted, and what delete answers.
---     head-counted              the message made inactive and C written: layout, shape and length stay, the header is accepted
+--     head-counted              the message made inactive and C written: layout, shape and length stay, the header is
+--                               accepted
 --     removed                   the steps together are the definition's image
 --     refused-answer, found-answer      the number and the image, from `seek`'s answer and the search's end
 --     unsound, no-point, some-point     question 11 with C
@@ -39,10 +40,13 @@ module _ (img : Bytes) (h : openNumber img ≡ 0) (at : ℕ) (s : messageSound (
   pub head-counted : SameHead img (setField (retire img at) pointsField n)
   head-counted =
       head-opened img (setField (retire img at) pointsField n) facts
-      (kept-trans (retire-kept img facts at s) (points-kept (retire img at) facts′ n few)) (points-opened (retire img at) facts′ n few)
+      (kept-trans (retire-kept img facts at s) (points-kept (retire img at) facts′ n few))
+      (points-opened (retire img at) facts′ n few)
 
-pub removed : (img : Bytes) (i at p : ℕ) (counted after : Bytes) → at ≡ offsetOf (layoutOf img) (slot (layoutOf img) img i)
-    → p ≡ field img pointsField → counted ≡ setField (retire img at) pointsField (p - 1) → layoutOf counted ≡ layoutOf img
+pub removed : (img : Bytes) (i at p : ℕ) (counted after : Bytes)
+    → at ≡ offsetOf (layoutOf img) (slot (layoutOf img) img i)
+    → p ≡ field img pointsField → counted ≡ setField (retire img at) pointsField (p - 1)
+    → layoutOf counted ≡ layoutOf img
     → after ≡ closed (layoutOf counted) counted i → after ≡ deletedAt (layoutOf img) img i
 unfolding deletedAt
 removed img i at p counted after ea ep ec el e =
@@ -72,7 +76,8 @@ module _ (img key : Bytes) where
       let is : n ≡ deleteNumber img key = e ∙ sym (delete-stop img key (λ q. z (e ∙ q))) in
       (is, sym (delete-refused img key (λ q. z (is ∙ q))))
 
-  pub found-answer : seekNumber img key true ≡ 0 → (n : ℕ) (after : Bytes) (p : Probe) → p ≡ search (layoutOf img) img key
+  pub found-answer : seekNumber img key true ≡ 0 → (n : ℕ) (after : Bytes) (p : Probe)
+      → p ≡ search (layoutOf img) img key
       → n ≡ firstNo (removedAsks (layoutOf img) img p) → after ≡ settled n img (deleted (layoutOf img) img p)
       → (n ≡ delete img key .answer .number) × (after ≡ delete img key .after)
   unfolding delete plain

@@ -43,7 +43,8 @@ fn delete_found(image: &mut [u8], shape: Shape, found: Found) -> u32
     requires { ⌜ Open (now image) shape × Within (shape .slots) (probeOf found) ⌝ }
     ensures { λ r. ⌜ (r ≡ firstNo (removedAsks (layoutOf (now (image .entry))) (now (image .entry)) (probeOf found)))
         × (now (image .exit)
-        ≡ settled r (now (image .entry)) (deleted (layoutOf (now (image .entry))) (now (image .entry)) (probeOf found))) ⌝ }
+        ≡ settled r (now (image .entry))
+        (deleted (layoutOf (now (image .entry))) (now (image .entry)) (probeOf found))) ⌝ }
 {
     let Found::Met(slot) = found else {
         return 14;

@@ -1,6 +1,6 @@
 -- The shape's numbers are the layout's; and those of a message's header by the width that the code reads and writes.
 --     shape-area, area-field, shape-head, shape-most      D, the header's size, the largest length
---     head-width, most-width                  the header is a letter and lengthWidth bytes, which can tell the largest length
+--     head-width, most-width      the header is a letter and lengthWidth bytes, which can tell the largest length
 -- Assumes nothing.
 use mathlib.Core.Path.{_≡_, ap}
 use Prim.Native.Nat.{_+_, _<_, _^_}

@@ -1,4 +1,4 @@
-// A slot's number and an absolute offset are two types; only the functions here turn one into a number or into the other.
+// A slot's number and an absolute offset are two types; only the functions here turn one into a number or the other.
 use words::limits::TABLE_START;
 ghost use mathlib.Core.Path.{_≡_};
 ghost use Prim.Native.Nat.{_+_, _*_, _≤_, _<_};

@@ -16,7 +16,8 @@ ghost use lib.ListN.{length};
 ghost use Rattle.bhtf.specs.Limits.{headerSize};
 ghost use Rattle.layout.specs.Shapes.{shapeOf};
 
-// K, N and D; the size of a message's header and a message's largest length; the hash's numbers (its basis is 01's start value).
+// K, N and D; the size of a message's header and a message's largest length; the hash's numbers (its basis is 01's
+// start value).
 pub struct Shape {
     pub keylen: usize,
     pub slots: usize,

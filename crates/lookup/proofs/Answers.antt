@@ -1,6 +1,6 @@
 -- What count and lookup answer, case by case, as the code comes to it; and that lookup's part lies in the image.
 --     count-refused, count-accepted      the number and C
---     shows-refused, shows-inactive, shows-active      what the search's end shows, by question 11 and the message's letter
+--     shows-refused, shows-inactive, shows-active      what the search's end shows, by question 11 and the letter
 --     located-refused, located-found     lookup's number, start and length, from `seek`'s answer
 --     start-none, length-none            where no message is shown
 --     inside                             the part that lookup shows ends in the image
@@ -30,7 +30,8 @@ use Rattle.lookup.specs.Shown.{shownOffset, Shows}
 
 -- ---- count
 module _ (img : Bytes) (n : ℕ) where
-  pub count-refused : n ≡ openNumber img → (n ≡ 0 → ⊥) → (n ≡ count img .answer .number) × (0 ≡ count img .answer .amount)
+  pub count-refused : n ≡ openNumber img → (n ≡ 0 → ⊥)
+      → (n ≡ count img .answer .number) × (0 ≡ count img .answer .amount)
   unfolding count countOf
   count-refused e z = (e, rw (ne-eqb (openNumber img) 0 (λ q. z (e ∙ q))) refl)
 
@@ -68,9 +69,11 @@ module _ (g : Layout) (img : Bytes) (i : ℕ) (s : messageSound g img (offsetOf 
   module _ (n start m : ℕ) (e : n ≡ 0) where
     pub shows-inactive : isActive img at ≡ false → start ≡ 0 → m ≡ 0 → Shows g img (met i) n start m
     shows-inactive a es em =
-        none-shown g img (met i) n start m (e ∙ sym (shown-0 g img i s)) (offset-is ∙ ap (λ (b : Bool). cond b at 0) a) es em
+        none-shown g img (met i) n start m (e ∙ sym (shown-0 g img i s))
+        (offset-is ∙ ap (λ (b : Bool). cond b at 0) a) es em
 
-    pub shows-active : isActive img at ≡ true → start ≡ at + headSize g → m ≡ lengthAt g img at → Shows g img (met i) n start m
+    pub shows-active : isActive img at ≡ true → start ≡ at + headSize g → m ≡ lengthAt g img at
+        → Shows g img (met i) n start m
     shows-active a es em =
         let o : shownOffset g img (met i) ≡ at = offset-is ∙ ap (λ (b : Bool). cond b at 0) a in
         let z : at ≡ 0 → ⊥ = active-some img at a in
@@ -102,7 +105,8 @@ module _ (img key : Bytes) where
   unfolding lookupLength
   length-none z = held-none g img (lookupOffset img key) z
 
-  pub located-refused : (n start m : ℕ) → n ≡ seekNumber img key true → (n ≡ 0 → ⊥) → start ≡ 0 → m ≡ 0 → Located n start m
+  pub located-refused : (n start m : ℕ) → n ≡ seekNumber img key true → (n ≡ 0 → ⊥) → start ≡ 0 → m ≡ 0
+      → Located n start m
   located-refused n start m e z es em =
       let refused : lookupNumber img key ≡ n = lookup-stop img key (λ q. z (e ∙ q)) ∙ sym e in
       let o = offset-refused img key (λ q. z (sym refused ∙ q)) in
@@ -158,14 +162,16 @@ module _ (img key : Bytes) where
           let at′ : lookupOffset img key ≡ cond (isActive img o) o 0 =
           offset-shown a ∙ ap (shownOffset g img) e ∙ offset-is g img i s in
           by-bool (isActive img o)
-          (λ b. inside-active o (at′ ∙ ap (λ (t : Bool). cond t o 0) b) (opened-facts img (seek-opened img key true a)) s (active-some img o b))
+          (λ b. inside-active o (at′ ∙ ap (λ (t : Bool). cond t o 0) b)
+          (opened-facts img (seek-opened img key true a)) s (active-some img o b))
           (λ b. inside-none (at′ ∙ ap (λ (t : Bool). cond t o 0) b)))
           (λ s. refused (met i) e a (λ q. omega (arith, shown-11 g img i s)))
       by-probe (empty i) e a = absent (empty i) e a refl
       by-probe exhausted e a = absent exhausted e a refl
 
   -- ---- lookup's answer by start and length
-  pub lookup-answer : (n : ℕ) (t : Bytes) → n ≡ lookupNumber img key → t ≡ part img (lookupStart img key) (lookupLength img key)
+  pub lookup-answer : (n : ℕ) (t : Bytes) → n ≡ lookupNumber img key
+      → t ≡ part img (lookupStart img key) (lookupLength img key)
       → (n ≡ lookup img key .answer .number) × (t ≡ lookup img key .answer .text)
       × (length t ≡ lookup img key .answer .amount)
   unfolding lookup

@@ -100,7 +100,7 @@ pub fn locate(image: &[u8], key: &[u8]) -> Located
     }
 }
 
-// The active message of the key's point, as a part of the image: its first 0 bytes where there is none, or when refused.
+// The active message of the key's point, as a part of the image: its first 0 bytes where there is none or when refused.
 pub fn lookup<'a>(image: &'a [u8], key: &[u8], number: &mut u32) -> &'a [u8]
     ensures { λ r. ⌜ (now (number .exit) ≡ lookup (now (image .entry)) (now (key .entry)) .answer .number)
         × (now r ≡ lookup (now (image .entry)) (now (key .entry)) .answer .text)

@@ -95,7 +95,8 @@ unfolding isActive
 active-letter img o n h = rw (ne-eqb o 0 n, letter-byte img o h)
 
 -- ---- how much text an offset shows
-pub length-shown-yes : (g : Layout) (img : Bytes) (o : ℕ) → isActive img o ≡ true → shownLength g img o ≡ lengthAt g img o
+pub length-shown-yes : (g : Layout) (img : Bytes) (o : ℕ) → isActive img o ≡ true
+    → shownLength g img o ≡ lengthAt g img o
 unfolding shownLength
 length-shown-yes g img o h = rw h refl
 

@@ -23,7 +23,8 @@ both-ways true y f g = sym (f refl)
 both-ways false true f g = g refl
 both-ways false false f g = refl
 
-module _ (a b c d e f g h : ℕ) (la : a < 256) (lb : b < 256) (lc : c < 256) (ld : d < 256) (le : e < 256) (lf : f < 256) (lg : g < 256) (lh : h < 256) where
+module _ (a b c d e f g h : ℕ) (la : a < 256) (lb : b < 256) (lc : c < 256) (ld : d < 256) (le : e < 256) (lf : f < 256)
+    (lg : g < 256) (lh : h < 256) where
   abbrev first : ℕ
   first = a * 16777216 + (b * 65536 + (c * 256 + d))
 
@@ -39,10 +40,14 @@ module _ (a b c d e f g h : ℕ) (la : a < 256) (lb : b < 256) (lc : c < 256) (l
   forth : words ≡ true → bytes ≡ true
   unfolding same
   forth t =
-      let n : first ≡ 0x42485446 = eqb-true first 0x42485446 (and-left (eqb first 0x42485446) (leb 0x76010000 second && leb second 0x76010001) t) in
-      let r : (leb 0x76010000 second && leb second 0x76010001) ≡ true = and-right (eqb first 0x42485446) (leb 0x76010000 second && leb second 0x76010001) t in
-      let l : 0x76010000 ≤ second = leb-true 0x76010000 second (and-left (leb 0x76010000 second) (leb second 0x76010001) r) in
-      let u : second ≤ 0x76010001 = leb-true second 0x76010001 (and-right (leb 0x76010000 second) (leb second 0x76010001) r) in
+      let n : first ≡ 0x42485446 =
+      eqb-true first 0x42485446 (and-left (eqb first 0x42485446) (leb 0x76010000 second && leb second 0x76010001) t) in
+      let r : (leb 0x76010000 second && leb second 0x76010001) ≡ true =
+      and-right (eqb first 0x42485446) (leb 0x76010000 second && leb second 0x76010001) t in
+      let l : 0x76010000 ≤ second =
+      leb-true 0x76010000 second (and-left (leb 0x76010000 second) (leb second 0x76010001) r) in
+      let u : second ≤ 0x76010001 =
+      leb-true second 0x76010001 (and-right (leb 0x76010000 second) (leb second 0x76010001) r) in
       let ea : a ≡ 66 = omega arith in
       let eb : b ≡ 72 = omega arith in
       let ec : c ≡ 84 = omega arith in
@@ -67,14 +72,17 @@ module _ (a b c d e f g h : ℕ) (la : a < 256) (lb : b < 256) (lc : c < 256) (l
       let ef : f ≡ 1 = eqb-true f 1 (and-right S (eqb f 1) two) in
       let eg : g ≡ 0 = eqb-true g 0 (and-right (S && eqb f 1) (eqb g 0) three) in
       let eh : h ≤ 1 = leb-true h 1 (and-right (S && eqb f 1 && eqb g 0) (leb h 1) t) in
-      and-true (eqb first 0x42485446) (leb 0x76010000 second && leb second 0x76010001) (eq-eqb first 0x42485446 (omega arith))
-      (and-true (leb 0x76010000 second) (leb second 0x76010001) (le-leb 0x76010000 second (omega arith)) (le-leb second 0x76010001 (omega arith)))
+      and-true (eqb first 0x42485446) (leb 0x76010000 second && leb second 0x76010001)
+      (eq-eqb first 0x42485446 (omega arith))
+      (and-true (leb 0x76010000 second) (leb second 0x76010001) (le-leb 0x76010000 second (omega arith))
+      (le-leb second 0x76010001 (omega arith)))
 
   words-bytes : words ≡ bytes
   words-bytes = both-ways words bytes forth back
 
 pub version-words : (img : Bytes) → AreBytes img → 8 ≤ length img
-    → (eqb (field img 0) 0x42485446 && (leb 0x76010000 (field img 4) && leb (field img 4) 0x76010001)) ≡ versionKnown img
+    → (eqb (field img 0) 0x42485446 && (leb 0x76010000 (field img 4) && leb (field img 4) 0x76010001))
+    ≡ versionKnown img
 unfolding field versionKnown
 version-words img bytes l =
     let at : ℕ → ℕ = λ i. getD img i 0 in
@@ -83,4 +91,5 @@ version-words img bytes l =
     let p : part img 0 5 ≡ at 0 ∷ at 1 ∷ at 2 ∷ at 3 ∷ at 4 ∷ [] =
     part-cons img 0 4 (omega arith) ∙ ap (λ (t : Bytes). at 0 ∷ t) (part-four img 1 (omega arith)) in
     rw (p₀, p₄, p, number-four (at 0) (at 1) (at 2) (at 3), number-four (at 4) (at 5) (at 6) (at 7))
-    (words-bytes (at 0) (at 1) (at 2) (at 3) (at 4) (at 5) (at 6) (at 7) (bytes 0) (bytes 1) (bytes 2) (bytes 3) (bytes 4) (bytes 5) (bytes 6) (bytes 7))
+    (words-bytes (at 0) (at 1) (at 2) (at 3) (at 4) (at 5) (at 6) (at 7) (bytes 0) (bytes 1) (bytes 2) (bytes 3)
+    (bytes 4) (bytes 5) (bytes 6) (bytes 7))

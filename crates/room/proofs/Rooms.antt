@@ -34,7 +34,8 @@ module _ (g : Layout) (img : Bytes) where
     pub place-0 : length t ≤ g .most → ends ≤ length img → placeNumber g img (some t) ≡ 0
     unfolding lengthAllowed spaceLeft
     place-0 a h =
-        firstNo-yes 12 _ _ (le-leb (length t) (g .most) a) ∙ firstNo-yes 13 _ _ (le-leb ends (length img) h) ∙ firstNo-none
+        firstNo-yes 12 _ _ (le-leb (length t) (g .most) a) ∙ firstNo-yes 13 _ _ (le-leb ends (length img) h)
+        ∙ firstNo-none
 
   -- ---- the number r of the text p to be placed, if any, and the image then: x where it is accepted
   module _ (p : Option Bytes) (x : Bytes) where

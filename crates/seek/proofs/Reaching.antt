@@ -30,7 +30,8 @@ module _ (img key : Bytes) (known : Bool) {r : Sought} (is : SoughtIs img key kn
   unfolding SoughtIs
   reached-is e = subst (SoughtIs img key known) e is
 
-pub reached-key : {img key : Bytes} {known : Bool} {s : Shape} {f : Found} → Reached img key known s f → length key ≡ s .keylen
+pub reached-key : {img key : Bytes} {known : Bool} {s : Shape} {f : Found} → Reached img key known s f
+    → length key ≡ s .keylen
 unfolding nameAllowed
 reached-key {img} {key} {known} {s} r =
     eqb-true (length key) (layoutOf img .K)

@@ -1,6 +1,6 @@
 -- What `seek` answers, of any image and key.
---     SoughtIs img key known r      r is a refusal with the first no's number; or the header is accepted, and r tells its shape
---                                   and how the search ended
+--     SoughtIs img key known r      r is a refusal with the first no's number; or the header is accepted, and r tells
+--                                   its shape and how the search ended
 -- Assumes nothing.
 use mathlib.Core.Path.{_≡_}
 use mathlib.Core.Bool.{Bool}

@@ -38,7 +38,8 @@ pub walks-end : (img : Bytes) (s : Stop) → end ≡ s → Walks img s 0 0 0
 unfolding stopNumber stopSlot keyStart
 walks-end img s e = subst (λ (t : Stop). Walks img t 0 0 0) e (refl, refl, refl)
 
-pub walks-stopped : (img : Bytes) (s : Stop) (j i p k : ℕ) → stopped j ≡ s → i ≡ j → k ≡ field img keyField → p ≡ 2048 + j * (k + 4)
+pub walks-stopped : (img : Bytes) (s : Stop) (j i p k : ℕ) → stopped j ≡ s → i ≡ j → k ≡ field img keyField
+    → p ≡ 2048 + j * (k + 4)
     → Walks img s 0 i p
 unfolding stopNumber stopSlot keyStart slotStart slotSize layoutOf
 walks-stopped img s j i p k e q r h =
@@ -100,6 +101,7 @@ pub check-slot : (img : Bytes) (i : ℕ) → check img ≡ slotBad i → i < mos
 unfolding check layoutOf
 check-slot img i e =
     let p = bad-open (eqb (openNumber img) 0)
-    (verdictOf (countSound (layoutOf img) img) (lowest (slotFails (layoutOf img) img) (field img slotsField) 0)) (openNumber img) i e in
+    (verdictOf (countSound (layoutOf img) img) (lowest (slotFails (layoutOf img) img) (field img slotsField) 0))
+    (openNumber img) i e in
     let f = lowest-some (slotFails (layoutOf img) img) (field img slotsField) 0 i (bad-some _ _ i (p .1)) in
     omega (arith, f .1, opened-facts img (eqb-true _ _ (p .0)) .slots-high)

@@ -1,5 +1,5 @@
-// The exports for the station host, on numbers and byte slices: each call answers document 01's number, 0 when accepted.
-// host/bhtf.h declares them for C.
+// The exports for the station host, on numbers and byte slices: each call answers document 01's number, 0 when
+// accepted. host/bhtf.h declares them for C.
 use inspect::Verdict;
 use inspect::check;
 use lookup::count;
@@ -41,7 +41,7 @@ pub extern "C" fn bhtf_delete(image: &mut [u8], key: &[u8]) -> u32
     delete::delete(image, key)
 }
 
-// Where the key's message stands: the offset of its first byte and its length, both 0 with no active message or when refused.
+// Where the key's message stands: its text's offset and its length, both 0 with no active message or when refused.
 #[no_mangle]
 pub extern "C" fn bhtf_lookup(image: &[u8], key: &[u8], offset: &mut u32, length: &mut u32) -> u32
     ensures { λ r. ⌜ (r ≡ lookup (now (image .entry)) (now (key .entry)) .answer .number)
@@ -68,8 +68,8 @@ pub extern "C" fn bhtf_count(image: &[u8], points: &mut u32) -> u32
     counted.number
 }
 
-// The lowest taken slot at or above `from`, and where its key stands; both 0 at the end or when refused. A key never stands
-// at offset 0, so the offset tells a slot from the end.
+// The lowest taken slot at or above `from`, and where its key stands; both 0 at the end or when refused. A key never
+// stands at offset 0, so the offset tells a slot from the end.
 #[no_mangle]
 pub extern "C" fn bhtf_walk(image: &[u8], from: u32, slot: &mut u32, place: &mut u32) -> u32
     ensures { λ r. ⌜ (r ≡ stopNumber (keyWalk (now (image .entry)) from))

@@ -44,7 +44,8 @@ unfolding message header
 length-written W t = length-append (header W (length t)) t ∙ ap (λ (n : ℕ). n + length t) (length-header W (length t))
 
 -- the letter and the length are one header
-header-steps : (W : ℕ) (s : Bytes) (m : ℕ) → W + 1 ≤ length s → store (set s 0 active) 1 (digits W m) ≡ store s 0 (header W m)
+header-steps : (W : ℕ) (s : Bytes) (m : ℕ) → W + 1 ≤ length s
+    → store (set s 0 active) 1 (digits W m) ≡ store s 0 (header W m)
 unfolding header
 header-steps W s m h =
     ap (λ (t : Bytes). store t 1 (digits W m)) (set-store s 0 active (omega arith))
@@ -81,10 +82,12 @@ written-at s v n head e =
     ≡ message lengthWidth (part s h n ++ v)) (sym e) (written-steps lengthWidth s v n)
 
 -- ---- a message written over an old one, in the image of layout g; its header has `head` bytes
-module _ (g : Layout) (img v : Bytes) (o m head : ℕ) (is-head : head ≡ g .W + 1) (some′ : 0 < o) (is-m : m ≡ lengthAt g img o)
+module _ (g : Layout) (img v : Bytes) (o m head : ℕ) (is-head : head ≡ g .W + 1) (some′ : 0 < o)
+    (is-m : m ≡ lengthAt g img o)
     (short : length v ≤ m) (room : o + head + m ≤ length img) where
   -- the message, and zeros up to the old end, are one store
-  overwrite-store : store (store img o (message (g .W) v)) (o + head + length v) (zeros (m - length v)) ≡ overwrite g img o v
+  overwrite-store : store (store img o (message (g .W) v)) (o + head + length v) (zeros (m - length v))
+      ≡ overwrite g img o v
   unfolding overwrite
   overwrite-store =
       let new′ = message (g .W) v in
@@ -98,8 +101,10 @@ module _ (g : Layout) (img v : Bytes) (o m head : ℕ) (is-head : head ≡ g .W 
   -- as the two lent parts come back
   pub overwrite-steps : (w z : Bytes) (at : ℕ) → at ≡ o → w ≡ message (g .W) v
       → z
-      ≡ zeros (length (midOf (at + head + length v) (at + head + m - (at + head + length v)) (putMid at (at + head + length v - at) img w)))
-      → putMid (at + head + length v) (at + head + m - (at + head + length v)) (putMid at (at + head + length v - at) img w) z
+      ≡ zeros (length (midOf (at + head + length v) (at + head + m - (at + head + length v))
+      (putMid at (at + head + length v - at) img w)))
+      → putMid (at + head + length v) (at + head + m - (at + head + length v))
+      (putMid at (at + head + length v - at) img w) z
       ≡ overwrite g img o v
   overwrite-steps w z at ea ew ez =
       let new′ = message (g .W) v in
@@ -151,6 +156,7 @@ module _ (g : Layout) (img v : Bytes) (x from n head : ℕ) (is-head : head ≡ 
   unfolding takeSpace headSize
   takeSpace-set d ed ex =
       let t = part img from n ++ v in
-      let end : x + head + (n + length v) ≡ field img freeField + (g .W + 1) + length t = omega (arith, length-placed) in
+      let end : x + head + (n + length v) ≡ field img freeField + (g .W + 1) + length t =
+      omega (arith, length-placed) in
       ap (λ (e : ℕ). setFree e (store img x (message (g .W) t)) (x + head + (n + length v))) ed
       ∙ ap₂ (setFree (g .D)) (ap (λ (p : ℕ). store img p (message (g .W) t)) ex) end

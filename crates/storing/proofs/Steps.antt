@@ -53,11 +53,13 @@ module _ {img : Bytes} {s : Shape} (open₀ : Open img s) (img₁ : Bytes) where
       let f = opened-facts img (open₀ .accepted) in
       subst (SameHead img) (sym e) (head-opened img (retire img o) f (retire-kept img f o m) (retire-opened img f o m))
 
-  pub head-space : (t : Bytes) → field img freeField + s .head + length t ≤ length img → img₁ ≡ takeSpace (layoutOf img) img t
+  pub head-space : (t : Bytes) → field img freeField + s .head + length t ≤ length img
+      → img₁ ≡ takeSpace (layoutOf img) img t
       → SameHead img img₁
   head-space t l e =
       let f = opened-facts img (open₀ .accepted) in
-      let fits : field img freeField + headSize (layoutOf img) + length t ≤ length img = omega (arith, shape-head open₀) in
+      let fits : field img freeField + headSize (layoutOf img) + length t ≤ length img =
+      omega (arith, shape-head open₀) in
       subst (SameHead img) (sym e)
       (head-opened img (takeSpace (layoutOf img) img t) f (space-kept img f t fits) (space-opened img f t fits))
 
@@ -69,7 +71,8 @@ unfolding inserted
 inserted-steps img img₁ after key bytes i x e g ex h = h ∙ rw (g, e, ex) refl
 
 -- ---- a point that is present: retired, placed, and its entry put
-module _ {img : Bytes} {s : Shape} (open₀ : Open img s) (img₁ : Bytes) (o : ℕ) (m : messageSound (layoutOf img) img o ≡ true)
+module _ {img : Bytes} {s : Shape} (open₀ : Open img s) (img₁ : Bytes) (o : ℕ)
+    (m : messageSound (layoutOf img) img o ≡ true)
     (e₁ : img₁ ≡ retire img o) where
   pub retired-free : field img₁ freeField ≡ field img freeField
   retired-free =
@@ -82,7 +85,8 @@ module _ {img : Bytes} {s : Shape} (open₀ : Open img s) (img₁ : Bytes) (o : 
       ∙ retire-behind img (opened-facts img (open₀ .accepted)) o m (o + s .head) n (omega (arith, head-width open₀))
 
   module _ (img₂ bytes : Bytes) (from n : ℕ) (ef : from ≡ o + s .head) (below : o + s .head + n ≤ field img freeField)
-      (fits : Fits img s (n + length bytes)) (e₂ : img₂ ≡ takeSpace (layoutOf img₁) img₁ (part img₁ from n ++ bytes)) where
+      (fits : Fits img s (n + length bytes))
+      (e₂ : img₂ ≡ takeSpace (layoutOf img₁) img₁ (part img₁ from n ++ bytes)) where
     abbrev text : Bytes
     text = part img (o + s .head) n ++ bytes
 

@@ -1,7 +1,8 @@
 -- What the shape of an opened image says of places: bounds on its numbers, and a slot's bytes as parts of the image.
 --     Header img s        the bounds, by name; `header` gives them of an opened image
 --     layout-key, layout-slots, slot-place, slot-room      the layout's numbers are the shape's
---     Placed, placed-opened, placed-room      the table lies in the image; Spot, spot: what a function that goes to slot i needs
+--     Placed, placed-opened, placed-room      the table lies in the image
+--     Spot, spot          what a function that goes to slot i needs
 --     key-part, offset-part, put-slot      the part that code cuts out is the slot's key, offset, bytes
 -- Assumes nothing.
 use mathlib.Core.Path.{_≡_, refl, sym, ap, ap₂, _∙_, subst}
@@ -150,12 +151,14 @@ module _ (img : Bytes) (s : Shape) (is : s ≡ shapeOf img) (i a : ℕ) (at : a 
 
 -- ---- the hash of a key
 pub home-is : (img : Bytes) (s : Shape) → s ≡ shapeOf img → (key : Bytes) (h : ℕ)
-    → h ≡ hashFrom (s .multiplier) (s .first) (s .last) (take (scrambleStart + 4 * (s .last - s .first + 1) - scrambleStart) (drop scrambleStart img)) (s .basis) key
+    → h ≡ hashFrom (s .multiplier) (s .first) (s .last)
+    (take (scrambleStart + 4 * (s .last - s .first + 1) - scrambleStart) (drop scrambleStart img)) (s .basis) key
     → h % s .slots ≡ home (layoutOf img) key
 unfolding home layoutOf hash scramble part shapeOf
 home-is img s is key h =
     subst (λ (t : Shape). h ≡ hashFrom (t .multiplier) (t .first) (t .last)
-    (take (scrambleStart + 4 * (t .last - t .first + 1) - scrambleStart) (drop scrambleStart img)) (t .basis) key → h % t .slots ≡ home (layoutOf img) key)
+    (take (scrambleStart + 4 * (t .last - t .first + 1) - scrambleStart) (drop scrambleStart img)) (t .basis) key
+    → h % t .slots ≡ home (layoutOf img) key)
     (sym is) (λ e. ap (λ (n : ℕ). n % field img slotsField) (e ∙ whole))
   where
     count : ℕ
@@ -171,7 +174,8 @@ home-is img s is key h =
         (take n (drop scrambleStart img)) (field img startField) key) m
 
 -- ---- an entry: the key, and the offset behind it
-pub entry-written : (key rest : Bytes) (o : ℕ) → length rest ≡ 4 → setField (key ++ rest) (length key) o ≡ slotBytes key o
+pub entry-written : (key rest : Bytes) (o : ℕ) → length rest ≡ 4
+    → setField (key ++ rest) (length key) o ≡ slotBytes key o
 unfolding setField store slotBytes
 entry-written key rest o l =
     ap₂ (λ (a b : Bytes). a ++ (digits 4 o ++ drop (length (digits 4 o)) b))

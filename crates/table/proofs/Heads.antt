@@ -66,7 +66,8 @@ module _ (g : Layout) (img : Bytes) (h : openNumber img ≡ 0) (r : Room g (leng
       (field-putSlot g img r i v freeField l e (omega arith))
     where
       kept : Kept img (putSlot g img i v)
-      kept = unfold putSlot in kept-store img (slotStart g i) v (omega (arith, slot-end g r i l, r .area)) (slot-above g i)
+      kept =
+          unfold putSlot in kept-store img (slotStart g i) v (omega (arith, slot-end g r i l, r .area)) (slot-above g i)
 
   pub head-half : (a j : ℕ) → a < g .N → j < g .N → SameHead img (putSlot g img a (slot g img j))
   head-half a j la lj = head-putSlot a (slot g img j) la (length-slot g img r j lj)
@@ -77,4 +78,5 @@ unfolding moved
 head-moved g img h r a j la lj =
     let half = head-half g img h r a j la lj in
     head-trans half
-    (head-putSlot g (putSlot g img a (slot g img j)) (half .opened) (room-half g img r a j la lj) j (blank g) lj (length-blank g))
+    (head-putSlot g (putSlot g img a (slot g img j)) (half .opened) (room-half g img r a j la lj) j (blank g) lj
+    (length-blank g))

@@ -35,7 +35,8 @@ other-met (Met s) h = absurd (by-either h (λ (z : _≡_ {A = ℕ} 0 1). omega a
 other-met (Empty s) h = refl
 other-met Exhausted h = refl
 
-pub other-empty : (f : Found) → OneOf (0 ∷ 2 ∷ []) (tagOf the-type f) → isMet (probeOf f) ≡ false → probeOf f ≡ exhausted
+pub other-empty : (f : Found) → OneOf (0 ∷ 2 ∷ []) (tagOf the-type f) → isMet (probeOf f) ≡ false
+    → probeOf f ≡ exhausted
 unfolding probeOf isMet
 other-empty (Met s) h n = absurd (true≢false n)
 other-empty (Empty s) h n =
@@ -63,7 +64,8 @@ module _ (img key : Bytes) (s : Shape) (is : s ≡ shapeOf img) where
   pub named-no : {r : Bool} → r ≡ nameAllowed (s .keylen) key → not r ≡ true → nameAllowed (layoutOf img .K) key ≡ false
   named-no {r} e t = ap (λ (k : ℕ). nameAllowed k key) (layout-key img s is) ∙ sym e ∙ not-true r t
 
-  pub named-yes : {r : Bool} → r ≡ nameAllowed (s .keylen) key → not r ≡ false → nameAllowed (layoutOf img .K) key ≡ true
+  pub named-yes : {r : Bool} → r ≡ nameAllowed (s .keylen) key → not r ≡ false
+      → nameAllowed (layoutOf img .K) key ≡ true
   named-yes {r} e t = ap (λ (k : ℕ). nameAllowed k key) (layout-key img s is) ∙ sym e ∙ not-false r t
 
   -- ---- the search

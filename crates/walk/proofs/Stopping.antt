@@ -31,9 +31,11 @@ pub walk-closed : (img : Bytes) (from n : ℕ) → n ≡ openNumber img → (n �
 unfolding keyWalk
 walk-closed img from n q h =
     ap Stop.refused q
-    ∙ sym (zero-no (openNumber img) (stopAt (nextTaken (layoutOf img) img from)) (Stop.refused (openNumber img)) (λ z. h (q ∙ z)))
+    ∙ sym (zero-no (openNumber img) (stopAt (nextTaken (layoutOf img) img from)) (Stop.refused (openNumber img))
+    (λ z. h (q ∙ z)))
 
-pub walk-open : (img : Bytes) (from : ℕ) → openNumber img ≡ 0 → stopAt (nextTaken (layoutOf img) img from) ≡ keyWalk img from
+pub walk-open : (img : Bytes) (from : ℕ) → openNumber img ≡ 0
+    → stopAt (nextTaken (layoutOf img) img from) ≡ keyWalk img from
 unfolding keyWalk
 walk-open img from h =
     sym (zero-yes (openNumber img) (stopAt (nextTaken (layoutOf img) img from)) (Stop.refused (openNumber img)) h)
@@ -108,7 +110,8 @@ pub record Shown (img : Bytes) (s : Stop) (part′ : Bytes) (number slot′ : �
 module _ (img : Bytes) (s : Stop) where
   pub shown-refused : (n : ℕ) → Stop.refused n ≡ s → Shown img s [] n 0
   unfolding keyShown keyStart keyLength stopNumber stopSlot part
-  shown-refused n e = subst (λ (t : Stop). Shown img t [] n 0) e (record { key = refl; number-is = refl; slot-is = refl })
+  shown-refused n e =
+      subst (λ (t : Stop). Shown img t [] n 0) e (record { key = refl; number-is = refl; slot-is = refl })
 
   pub shown-stopped : (i : ℕ) → stopped i ≡ s → (k : Bytes) → k ≡ keyAt (layoutOf img) img i → Shown img s k 0 i
   unfolding keyShown keyStart keyLength stopNumber stopSlot

@@ -1,4 +1,5 @@
--- The slot that the search ended at is taken where C is below N. Else, and where no slot was empty, the answer is 10. Assumes nothing.
+-- The slot that the search ended at is taken where C is below N. Else, and where no slot was empty, the answer is 10.
+-- Assumes nothing.
 use Prim.Native.Nat.{ℕ, _≤_, _<_}
 use native.Mathlib.Omega.{arith}
 use mathlib.Core.Path.{_≡_, refl, sym, ap, ap₂, _∙_}
@@ -20,10 +21,13 @@ use Rattle.absent.proofs.add_absent.Tie as tie
 
 -- ---- the number and the image, of a search that ended so
 abbrev number : tie.Start → Probe → ℕ
-number c p = firstNo (pointAsks (layoutOf (c .args .image .now)) (c .args .image .now) p (c .args .bytes .now) (c .args .mode))
+number c p =
+    firstNo (pointAsks (layoutOf (c .args .image .now)) (c .args .image .now) p (c .args .bytes .now) (c .args .mode))
 
 abbrev after : tie.Start → Probe → Bytes
-after c p = addedAt (layoutOf (c .args .image .now)) (c .args .image .now) p (c .args .key .now) (c .args .bytes .now) (c .args .mode)
+after c p =
+    addedAt (layoutOf (c .args .image .now)) (c .args .image .now) p (c .args .key .now) (c .args .bytes .now)
+    (c .args .mode)
 
 ten : (c : tie.Start) (p q : Probe) → p ≡ q → number c q ≡ 10
     → (10 ≡ number c p) × (c .args .image .now ≡ settled 10 (c .args .image .now) (after c p))
@@ -38,7 +42,8 @@ start-at-match-keys2 c = c .before .before .before .before
 returns : tie.Need-returns
 returns c =
     let S = (start-at-match-keys2 c) in
-    ten S _ _ (other-empty (S .args .found) (c .match .keys2) (S .pre .3)) (point-10-exhausted _ _ (S .args .bytes .now) (S .args .mode))
+    ten S _ _ (other-empty (S .args .found) (c .match .keys2) (S .pre .3))
+    (point-10-exhausted _ _ (S .args .bytes .now) (S .args .mode))
 
 abbrev start-at-read-u32-arg : tie.After-read-u32-arg → tie.Start
 start-at-read-u32-arg c = c .before .before .before .before .before .before .before
@@ -68,7 +73,8 @@ returns-2 c =
     let full : layoutOf img .N ≤ field img pointsField =
     omega (arith, c .if1 .taken, c .before .read-u32 .ensures, layout-slots img (S .args .shape) (S .pre .0 .shape)) in
     ten S _ _ (empty-is ((found-at-then1 c) .found .given .1))
-    (point-10-full (layoutOf img) img (S .args .bytes .now) (S .args .mode) _ (le-ltb (field img pointsField) (layoutOf img .N) full))
+    (point-10-full (layoutOf img) img (S .args .bytes .now) (S .args .mode) _
+    (le-ltb (field img pointsField) (layoutOf img .N) full))
 
 abbrev shared-slice-known2-at-insert-fresh-arg : tie.After-insert-fresh-arg → tie.After-shared-slice-known2
 shared-slice-known2-at-insert-fresh-arg c = c .before .before .before .before .before .before .before
@@ -114,10 +120,16 @@ returns-3 c =
     let d = c .before .before .insert-fresh in
     let is = empty-is ((found-at-slice-known2 c) .found .given .1) in
     let less : field img pointsField < layoutOf img .N =
-    omega (arith, (else1-at-slice-known2 c) .if1 .left, (read-u32-at-slice-known2 c) .read-u32 .ensures, layout-slots img (A .shape) (S .pre .0 .shape)) in (
+    omega (
+      arith,
+      (else1-at-slice-known2 c) .if1 .left,
+      (read-u32-at-slice-known2 c) .read-u32 .ensures,
+      layout-slots img (A .shape) (S .pre .0 .shape),
+    ) in (
       d .ensures .0
           ∙ sym (ap (number S) is
-          ∙ point-fresh (layoutOf img) img (A .bytes .now) (A .mode) _ (lt-ltb (field img pointsField) (layoutOf img .N) less)),
+          ∙ point-fresh (layoutOf img) img (A .bytes .now) (A .mode) _
+          (lt-ltb (field img pointsField) (layoutOf img .N) less)),
       d .ensures .1 ∙ ap (settled (d .result) img) (sym (ap (after S) is)),
     )
 

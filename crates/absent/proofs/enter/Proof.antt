@@ -39,7 +39,11 @@ add-write-u32 c =
 
 write-u32-requires : tie.Need-write-u32-requires
 write-u32-requires c κs =
-    omega (arith, c .before .before .before .put-entry .kept .0, opened-facts _ ((start-at-write-u32-arg c) .pre .0 .accepted) .size-low)
+    omega (
+      arith,
+      c .before .before .before .put-entry .kept .0,
+      opened-facts _ ((start-at-write-u32-arg c) .pre .0 .accepted) .size-low,
+    )
 
 same-length : tie.Need-same-length
 same-length c = search needs
@@ -57,7 +61,8 @@ returns : tie.Need-returns
 unfolding enter
 returns c =
     c .before .before .write-u32 .ensures
-    ∙ ap₂ (λ (b : Bytes) (n : ℕ). setField b pointsField (n + 1)) ((put-entry-at-slice-known3 c) .put-entry .ensures) ((read-u32-at-slice-known3 c) .read-u32 .ensures)
+    ∙ ap₂ (λ (b : Bytes) (n : ℕ). setField b pointsField (n + 1)) ((put-entry-at-slice-known3 c) .put-entry .ensures)
+    ((read-u32-at-slice-known3 c) .read-u32 .ensures)
 
 pub enter-spec : {M : Type 1} → statement M
 enter-spec =

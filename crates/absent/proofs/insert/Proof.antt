@@ -42,14 +42,19 @@ start-at-take-space c = (shared-slice-known-at-take-space c) .before .before
 
 -- ---- with the bytes placed
 placed : (c : tie.After-take-space)
-    → c .take-space .last .0 ≡ takeSpace (layoutOf ((start-at-take-space c) .args .image .now)) ((start-at-take-space c) .args .image .now) ((start-at-take-space c) .args .bytes .now)
+    → c .take-space .last .0
+    ≡ takeSpace (layoutOf ((start-at-take-space c) .args .image .now)) ((start-at-take-space c) .args .image .now)
+    ((start-at-take-space c) .args .bytes .now)
 placed c =
     let A = (start-at-take-space c) .args in
     c .take-space .ensures
-    ∙ ap (λ (t : Bytes). takeSpace (layoutOf (A .image .now)) (A .image .now) (t ++ A .bytes .now)) (part-zero (A .image .now) _)
+    ∙ ap (λ (t : Bytes). takeSpace (layoutOf (A .image .now)) (A .image .now) (t ++ A .bytes .now))
+    (part-zero (A .image .now) _)
 
 head : (c : tie.After-take-space) → SameHead ((start-at-take-space c) .args .image .now) (c .take-space .last .0)
-head c = head-space ((start-at-take-space c) .pre .0) (c .take-space .last .0) ((start-at-take-space c) .args .bytes .now) ((start-at-take-space c) .pre .3 .room) (placed c)
+head c =
+    head-space ((start-at-take-space c) .pre .0) (c .take-space .last .0) ((start-at-take-space c) .args .bytes .now)
+    ((start-at-take-space c) .pre .3 .room) (placed c)
 
 abbrev start-at-new : tie.After-new → tie.Start
 start-at-new c = c .before .before .before .before .before .before
@@ -104,7 +109,8 @@ returns : tie.Need-returns
 returns c =
     let A = (start-at-slice-known3 c) .args in
     let T = (take-space-at-slice-known3 c) in
-    inserted-steps (A .image .now) (T .take-space .last .0) (c .before .before .enter .last .0) (A .key .now) (A .bytes .now) (A .slot .0) _
+    inserted-steps (A .image .now) (T .take-space .last .0) (c .before .before .enter .last .0) (A .key .now)
+    (A .bytes .now) (A .slot .0) _
     (placed T) (head T .layout) (free (new-at-slice-known3 c)) (c .before .before .enter .ensures)
 
 pub insert-spec : {M : Type 1} → statement M

@@ -64,7 +64,8 @@ returns-2 c =
     let A = S .args in
     let img = A .image .now in
     place-refused (layoutOf img) img (text S) (entered S (text S)) (A .bytes .now)
-    (fresh-some (A .bytes .now) (A .mode) (c .before .before .before .if1 .left)) _ (c .before .room-number .ensures (A .bytes .now) refl) (c .if2 .taken)
+    (fresh-some (A .bytes .now) (A .mode) (c .before .before .before .if1 .left)) _
+    (c .before .room-number .ensures (A .bytes .now) refl) (c .if2 .taken)
 
 abbrev slice-known-at-insert-arg : tie.After-insert-arg → tie.After-slice-known
 slice-known-at-insert-arg c = c .before .before .before .before .before .before .before
@@ -78,7 +79,8 @@ insert-requires c κs =
       S .pre .0,
       S .pre .1,
       S .pre .2,
-      place-fits (S .pre .0) (S .args .bytes .now) (sym (c .before .before .room-number .ensures (S .args .bytes .now) refl) ∙ c .before .if2 .left),
+      place-fits (S .pre .0) (S .args .bytes .now)
+          (sym (c .before .before .room-number .ensures (S .args .bytes .now) refl) ∙ c .before .if2 .left),
     )
 
 same-length-3 : tie.Need-same-length-3
@@ -106,7 +108,8 @@ returns-3 c =
     let img = A .image .now in
     let some′ = fresh-some (A .bytes .now) (A .mode) ((else1-at-slice-known3 c) .if1 .left) in
     place-done (layoutOf img) img (text S) (entered S (text S)) (A .bytes .now) some′ _
-    ((room-number-at-slice-known3 c) .room-number .ensures (A .bytes .now) refl) ((else2-at-slice-known3 c) .if2 .left) (c .before .before .insert .last .0)
+    ((room-number-at-slice-known3 c) .room-number .ensures (A .bytes .now) refl) ((else2-at-slice-known3 c) .if2 .left)
+    (c .before .before .insert .last .0)
     (c .before .before .insert .ensures ∙ ap (entered S) (sym some′))
 
 pub insert-fresh-spec : {M : Type 1} → statement M

@@ -35,7 +35,9 @@ add-found-requires : tie.Need-add-found-requires
 add-found-requires c κs =
     let A = (start-at-add-found-arg c) .args in
     let k = (mode-known-at-add-found-arg c) .mode-known in
-    let r = reached-is (A .image .now) (A .key .now) (k .result) ((seek-at-add-found-arg c) .seek .ensures) (c .before .before .sought2 .given .1) in (
+    let r =
+    reached-is (A .image .now) (A .key .now) (k .result) ((seek-at-add-found-arg c) .seek .ensures)
+    (c .before .before .sought2 .given .1) in (
       r .opened,
       r .within,
       reached-key r,
@@ -58,7 +60,9 @@ returns : tie.Need-returns
 returns c =
     let A = (start-at-known-told c) .args in
     let k = (mode-known-at-known-told c) .mode-known in
-    let r = refused-is (A .image .now) (A .key .now) (k .result) (c .before .before .before .seek .ensures) (c .before .sought .given .1) in
+    let r =
+    refused-is (A .image .now) (A .key .now) (k .result) (c .before .before .before .seek .ensures)
+    (c .before .sought .given .1) in
     refused-answer (A .image .now) (A .key .now) (A .bytes .now) (A .mode) (k .result) (k .ensures) _ (r .0) (r .1)
 
 same-length-2 : tie.Need-same-length-2
@@ -83,9 +87,12 @@ returns-2 : tie.Need-returns-2
 returns-2 c =
     let A = (start-at-slice-known2 c) .args in
     let k = (mode-known-at-slice-known2 c) .mode-known in
-    let r = reached-is (A .image .now) (A .key .now) (k .result) ((seek-at-slice-known2 c) .seek .ensures) ((sought2-at-slice-known2 c) .sought2 .given .1) in
+    let r =
+    reached-is (A .image .now) (A .key .now) (k .result) ((seek-at-slice-known2 c) .seek .ensures)
+    ((sought2-at-slice-known2 c) .sought2 .given .1) in
     let d = c .before .before .add-found in
-    found-answer (A .image .now) (A .key .now) (A .bytes .now) (A .mode) (k .result) (k .ensures) (r .asked) (d .result) (d .last .0) _
+    found-answer (A .image .now) (A .key .now) (A .bytes .now) (A .mode) (k .result) (k .ensures) (r .asked) (d .result)
+    (d .last .0) _
     (r .ended) (d .ensures .0) (d .ensures .1)
 
 pub add-spec : {M : Type 1} → statement M

@@ -55,7 +55,8 @@ returns-2 c =
     let p = c .before .before .add-present in
     let is = sym (met-is ((found-at-slice-known3 c) .found .given .1)) in (
       p .ensures .0 ∙ ap (λ (s : Probe). firstNo (pointAsks g img s (A .bytes .now) (A .mode))) is,
-      p .ensures .1 ∙ ap (λ (s : Probe). settled (p .result) img (addedAt g img s (A .key .now) (A .bytes .now) (A .mode))) is,
+      p .ensures .1 ∙ ap (λ (s : Probe). settled (p .result) img
+          (addedAt g img s (A .key .now) (A .bytes .now) (A .mode))) is,
     )
 
 pub add-found-spec : {M : Type 1} → statement M

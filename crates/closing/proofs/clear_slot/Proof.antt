@@ -56,7 +56,8 @@ returns c =
     let p = spot-placed img s (S .args .i .0) (S .pre .0) (S .pre .1) in
     let a = c .before .before .before .before .at .result in
     let e = a + (s .keylen + 4) in
-    let at = c .before .before .before .before .at .ensures ∙ c .before .before .before .before .before .start .ensures in
+    let at =
+    c .before .before .before .before .at .ensures ∙ c .before .before .before .before .before .start .ensures in
     let m : e - a ≡ s .keylen + 4 = omega arith in
     let size = mid-len a e img (omega arith) ∙ m in
     ap (λ (v : Bytes). putMid a (e - a) img v)

@@ -57,15 +57,19 @@ next-requires-2 c κs =
     let w = c .before .before .before .before .before .before .before .loop .inv in
     omega (arith, walking-slots w, w .going .slot-lt)
 
+abbrev then1-at-next2 : tie.After-next2 Inv-loop μ-loop → tie.Then1 Inv-loop μ-loop
+then1-at-next2 c = c .before .before .before .before .before
+
 -- a turn: the state at its end, and the measure
 turn : (c : tie.After-next2 Inv-loop μ-loop)
-    → After (c .before .before .before .before .before .before .before .before .loop .inv)
-    (c .before .before .before .look .last .0) (c .before .before .before .look .result .0) (c .next2 .result .0)
+    → After ((then1-at-next2 c) .before .before .before .loop .inv) (c .before .before .before .look .last .0)
+    (c .before .before .before .look .result .0) (c .next2 .result .0)
 turn c =
-    let T = c .before .before .before .before .before in
+    let T = then1-at-next2 c in
     let looked = c .before .before .before .look in
     walking-turn (T .before .before .before .loop .inv) _ _ _
-    (was-no (T .before .is-vacant .ensures) (T .if1 .taken)) (looked .ensures .image-is) (looked .ensures .hole-is) (c .next2 .ensures)
+    (was-no (T .before .is-vacant .ensures) (T .if1 .taken)) (looked .ensures .image-is) (looked .ensures .hole-is)
+    (c .next2 .ensures)
 
 loop-less : tie.Need-loop-less Inv-loop μ-loop
 loop-less c = turn c .1

@@ -13,7 +13,8 @@ home-requires : tie.Need-home-requires
 home-requires c κs = search needs
 
 returns : tie.Need-returns
-returns c = c .home .ensures ∙ ap (home (layoutOf (c .before .before .before .args .image .now))) (c .before .key-of .ensures)
+returns c =
+    c .home .ensures ∙ ap (home (layoutOf (c .before .before .before .args .image .now))) (c .before .key-of .ensures)
 
 pub home-of-spec : {M : Type 1} → statement M
 home-of-spec = tie.close (tie.spec key-of-requires home-requires returns)

@@ -32,7 +32,8 @@ returns c =
     let img = S .args .image .now in
     let s = S .args .shape in
     let e = looked-stays (layoutOf img) img (S .args .hole .0) (S .args .j .0)
-    (sym (stays-code img s (S .pre .0 .shape) (S .args .hole .0) (S .args .j .0) _ (c .before .before .home-of .ensures))
+    (sym (stays-code img s (S .pre .0 .shape) (S .args .hole .0) (S .args .j .0) _
+    (c .before .before .home-of .ensures))
     ∙ sym (c .before .stays .ensures) ∙ c .if1 .taken) in
     record { hole-is = sym (e .0); image-is = sym (e .1) }
 
@@ -42,14 +43,19 @@ move-slot-requires c κs = search needs
 same-length-2 : tie.Need-same-length-2
 same-length-2 c = search needs
 
+abbrev else1-at-slice-known2 : tie.After-slice-known2 → tie.Else1
+else1-at-slice-known2 c = c .before .before .before .before
+
 returns-2 : tie.Need-returns-2
 returns-2 c =
-    let S = c .before .before .before .before .before .before .before .before .before in
+    let E = else1-at-slice-known2 c in
+    let S = E .before .before .before .before .before in
     let img = S .args .image .now in
     let s = S .args .shape in
     let e = looked-moves (layoutOf img) img (S .args .hole .0) (S .args .j .0)
-    (sym (stays-code img s (S .pre .0 .shape) (S .args .hole .0) (S .args .j .0) _ (c .before .before .before .before .before .before .home-of .ensures))
-    ∙ sym (c .before .before .before .before .before .stays .ensures) ∙ c .before .before .before .before .if1 .left) in
+    (sym (stays-code img s (S .pre .0 .shape) (S .args .hole .0) (S .args .j .0) _
+    (E .before .before .home-of .ensures))
+    ∙ sym (E .before .stays .ensures) ∙ E .if1 .left) in
     record { hole-is = sym (e .0); image-is = c .before .before .move-slot .ensures ∙ sym (e .1) }
 
 pub look-spec : {M : Type 1} → statement M

@@ -59,7 +59,8 @@ half : (c : tie.After-copy-apart)
     (c .before .before .before .before .before .before .before .args .j .0))
 half c =
     let S = c .before .before .before .before .before .before .before in
-    let ej = c .before .before .before .before .at .ensures ∙ c .before .before .before .before .before .start .ensures in
+    let ej =
+    c .before .before .before .before .at .ensures ∙ c .before .before .before .before .before .start .ensures in
     let eh = c .before .before .at2 .ensures ∙ c .before .before .before .start2 .ensures in
     c .copy-apart .ensures
     ∙ copied-slot (S .args .image .now) (S .args .shape) (S .pre .0 .shape) (S .args .hole .0) (S .args .j .0) _ _ ej eh
@@ -68,7 +69,8 @@ clear-slot-requires : tie.Need-clear-slot-requires
 clear-slot-requires c κs =
     let C = c .before .before .before in
     let S = C .before .before .before .before .before .before .before in (
-      placed-code (S .args .image .now) _ (S .args .shape) (S .args .hole .0) (S .args .j .0) (S .pre .0) (S .pre .1) (half C),
+      placed-code (S .args .image .now) _ (S .args .shape) (S .args .hole .0) (S .args .j .0) (S .pre .0) (S .pre .1)
+          (half C),
       S .pre .1 .slot-lt,
     )
 
@@ -80,7 +82,8 @@ returns c =
     let C = c .before .before .before .before .before .before in
     let S = C .before .before .before .before .before .before .before in
     c .before .before .clear-slot .ensures
-    ∙ moved-code (S .args .image .now) _ (S .args .shape) (S .args .hole .0) (S .args .j .0) (S .pre .0) (S .pre .1) (half C)
+    ∙ moved-code (S .args .image .now) _ (S .args .shape) (S .args .hole .0) (S .args .j .0) (S .pre .0) (S .pre .1)
+    (half C)
 
 pub move-slot-spec : {M : Type 1} → statement M
 move-slot-spec =

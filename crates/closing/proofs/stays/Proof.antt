@@ -29,7 +29,8 @@ unfolding among
 returns c =
     let S = c .before .before .before in
     ap₂ leb (c .before .dist .ensures) (c .dist2 .ensures)
-    ∙ ap (λ (a : ℕ). leb (dist (S .args .slots) a (S .args .home .0)) (dist (S .args .slots) a (S .args .j .0))) (c .before .before .next .ensures)
+    ∙ ap (λ (a : ℕ). leb (dist (S .args .slots) a (S .args .home .0)) (dist (S .args .slots) a (S .args .j .0)))
+    (c .before .before .next .ensures)
 
 pub stays-spec : {M : Type 1} → statement M
 stays-spec = tie.close (tie.spec next-requires dist-requires dist-requires-2 returns)

@@ -1,4 +1,4 @@
--- `delete::delete` meets its contract: a refusal leaves the image, else the search's end tells what is done. Assumes nothing.
+-- A refusal leaves the image, else the search's end tells what is done. Assumes nothing.
 use mathlib.Core.Bool.{true}
 use borrow.Author.Needs.{needs}
 use Rattle.seek.proofs.Reaching.{refused-is, reached-is}
@@ -27,7 +27,9 @@ seek-at-delete-found-arg c = c .before .before .before .before
 delete-found-requires : tie.Need-delete-found-requires
 delete-found-requires c κs =
     let A = (start-at-delete-found-arg c) .args in
-    let r = reached-is (A .image .now) (A .key .now) true ((seek-at-delete-found-arg c) .seek .ensures) (c .before .before .sought2 .given .1) in
+    let r =
+    reached-is (A .image .now) (A .key .now) true ((seek-at-delete-found-arg c) .seek .ensures)
+    (c .before .before .sought2 .given .1) in
     (r .opened, r .within)
 
 same-length : tie.Need-same-length
@@ -39,7 +41,9 @@ start-at-known-told c = c .before .before .before .before .before .before .befor
 returns : tie.Need-returns
 returns c =
     let A = (start-at-known-told c) .args in
-    let r = refused-is (A .image .now) (A .key .now) true (c .before .before .before .seek .ensures) (c .before .sought .given .1) in
+    let r =
+    refused-is (A .image .now) (A .key .now) true (c .before .before .before .seek .ensures)
+    (c .before .sought .given .1) in
     refused-answer (A .image .now) (A .key .now) _ (r .0) (r .1)
 
 same-length-2 : tie.Need-same-length-2
@@ -60,9 +64,12 @@ sought2-at-slice-known2 c = c .before .before .before .before .before
 returns-2 : tie.Need-returns-2
 returns-2 c =
     let A = (start-at-slice-known2 c) .args in
-    let r = reached-is (A .image .now) (A .key .now) true ((seek-at-slice-known2 c) .seek .ensures) ((sought2-at-slice-known2 c) .sought2 .given .1) in
+    let r =
+    reached-is (A .image .now) (A .key .now) true ((seek-at-slice-known2 c) .seek .ensures)
+    ((sought2-at-slice-known2 c) .sought2 .given .1) in
     let d = c .before .before .delete-found in
-    found-answer (A .image .now) (A .key .now) (r .asked) (d .result) (d .last .0) _ (r .ended) (d .ensures .0) (d .ensures .1)
+    found-answer (A .image .now) (A .key .now) (r .asked) (d .result) (d .last .0) _ (r .ended) (d .ensures .0)
+    (d .ensures .1)
 
 pub delete-spec : {M : Type 1} → statement M
 delete-spec =

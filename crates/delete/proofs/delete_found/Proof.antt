@@ -36,7 +36,8 @@ found-at-else1 c = c .before .before .before .before .before .before
 
 is-sound : (c : tie.Else1) → Sound? (img (start-at-else1 c)) ((found-at-else1 c) .found .given .0 .0 .0) true
 is-sound c =
-    ap (messageSound (layoutOf (img (start-at-else1 c))) (img (start-at-else1 c))) (sym (c .before .before .before .offset-of .ensures))
+    ap (messageSound (layoutOf (img (start-at-else1 c))) (img (start-at-else1 c)))
+    (sym (c .before .before .before .offset-of .ensures))
     ∙ was-yes (c .before .message-sound .ensures) (c .if1 .left)
 
 -- the number and the image, by how the search ended
@@ -58,7 +59,10 @@ abbrev start-at-offset-of-arg : tie.After-offset-of-arg → tie.Start
 start-at-offset-of-arg c = c .before .before .before .before .before
 
 offset-of-requires : tie.Need-offset-of-requires
-offset-of-requires c κs = ((start-at-offset-of-arg c) .pre .0, met-within (c .before .before .found .given .1) ((start-at-offset-of-arg c) .pre .1))
+offset-of-requires c κs = (
+  (start-at-offset-of-arg c) .pre .0,
+  met-within (c .before .before .found .given .1) ((start-at-offset-of-arg c) .pre .1),
+)
 
 abbrev start-at-message-sound-arg : tie.After-message-sound-arg → tie.Start
 start-at-message-sound-arg c = c .before .before .before .before .before .before .before
@@ -85,7 +89,8 @@ returns-2 c =
     let bad : Sound? (img S) (m .0 .0 .0) false =
     ap (messageSound (layoutOf (img S)) (img S)) (sym (c .before .before .before .offset-of .ensures))
     ∙ was-no (c .before .message-sound .ensures) (c .if1 .taken) in
-    refused (img S) _ _ 11 (met-is (m .1)) (removed-11 (layoutOf (img S)) (img S) (m .0 .0 .0) (unsound (img S) _ bad)) (λ z. omega arith)
+    refused (img S) _ _ 11 (met-is (m .1)) (removed-11 (layoutOf (img S)) (img S) (m .0 .0 .0) (unsound (img S) _ bad))
+    (λ z. omega arith)
 
 abbrev found-at-read-u32-arg : tie.After-read-u32-arg → tie.After-found
 found-at-read-u32-arg c = c .before .before .before .before .before .before .before
@@ -114,7 +119,8 @@ returns-3 c =
     let m = (found-at-then2 c) .found .given in
     refused (img S) _ _ 11 (met-is (m .1))
     (removed-11 (layoutOf (img S)) (img S) (m .0 .0 .0)
-    (no-point (img S) _ (is-sound (c .before .before .before)) (sym (c .before .read-u32 .ensures) ∙ c .if2 .taken))) (λ z. omega arith)
+    (no-point (img S) _ (is-sound (c .before .before .before)) (sym (c .before .read-u32 .ensures) ∙ c .if2 .taken)))
+    (λ z. omega arith)
 
 abbrev offset-of-at-remove-arg : tie.After-remove-arg → tie.After-offset-of
 offset-of-at-remove-arg c = c .before .before .before .before .before .before .before
@@ -174,7 +180,8 @@ returns-4 c =
     let p = (read-u32-at-slice-known2 c) .read-u32 in
     let is = met-is (m .1) in (
       sym (ap (λ (x : Probe). firstNo (removedAsks g (img S) x)) is
-          ∙ removed-0 g (img S) i (is-sound (else1-at-slice-known2 c)) (some-point (img S) (p .result) (p .ensures) ((else2-at-slice-known2 c) .if2 .left))),
+          ∙ removed-0 g (img S) i (is-sound (else1-at-slice-known2 c))
+          (some-point (img S) (p .result) (p .ensures) ((else2-at-slice-known2 c) .if2 .left))),
       c .before .before .remove .ensures ∙ sym (ap (deleted g (img S)) is) ∙ sym (settled-yes 0 (img S) _ refl),
     )
 

@@ -15,20 +15,22 @@ use Rattle.delete.proofs.Removed.{head-counted, removed}
 use Rattle.delete.proofs.remove.Statement.{statement}
 use Rattle.delete.proofs.remove.Tie as tie
 
+abbrev start-at-write-u32 : tie.After-write-u32 → tie.Start
+start-at-write-u32 c = c .before .before .before .before .before .before .before
+
 -- the image after C is written, and its header
 counted : (c : tie.After-write-u32)
-    → c .write-u32 .last .0
-    ≡ setField (retire (c .before .before .before .before .before .before .before .args .image .now) (c .before .before .before .before .before .before .before .args .o .0)) 20
-    (c .before .before .before .before .before .before .before .args .points - 1)
+    → let A = (start-at-write-u32 c) .args in
+    c .write-u32 .last .0 ≡ setField (retire (A .image .now) (A .o .0)) 20 (A .points - 1)
 counted c =
     let R = c .before .before .before .before in
     let A = R .before .before .before .args in
     c .write-u32 .ensures ∙ ap (λ (b : Bytes). setField b 20 (A .points - 1)) (R .retire .ensures)
 
 head : (c : tie.After-write-u32)
-    → SameHead (c .before .before .before .before .before .before .before .args .image .now) (c .write-u32 .last .0)
+    → SameHead ((start-at-write-u32 c) .args .image .now) (c .write-u32 .last .0)
 head c =
-    let S = c .before .before .before .before .before .before .before in
+    let S = start-at-write-u32 c in
     let A = S .args in
     let p = S .pre in
     let f = opened-facts (A .image .now) (p .0 .accepted) in
@@ -40,7 +42,11 @@ retire-requires c κs =
     let S = c .before .before in
     let A = S .args in
     let e : A .o .0 < length (A .image .now) =
-    omega (arith, message-head (A .image .now) (opened-facts (A .image .now) (S .pre .0 .accepted)) (A .o .0) (S .pre .3)) in
+    omega (
+      arith,
+      message-head (A .image .now) (opened-facts (A .image .now) (S .pre .0 .accepted)) (A .o .0)
+          (S .pre .3),
+    ) in
     e
 
 sub-write-u32 : tie.Need-sub-write-u32
@@ -70,7 +76,8 @@ returns c =
     let W = C .before .before .before .before in
     let S = W .before .before .before .before .before .before .before in
     let A = S .args in
-    removed (A .image .now) (A .i .0) (A .o .0) (A .points) (W .write-u32 .last .0) (C .close .last .0) (S .pre .2) (S .pre .4)
+    removed (A .image .now) (A .i .0) (A .o .0) (A .points) (W .write-u32 .last .0) (C .close .last .0) (S .pre .2)
+    (S .pre .4)
     (counted W) (head W .layout) (C .close .ensures)
 
 pub remove-spec : {M : Type 1} → statement M

@@ -1,4 +1,4 @@
--- `lookup::locate` meets its contract: a refusal shows nothing, else the search's end tells what is shown. Assumes nothing.
+-- A refusal shows nothing, else the search's end tells what is shown. Assumes nothing.
 use mathlib.Core.Path.{sym, _∙_}
 use mathlib.Core.Bool.{true}
 use borrow.Author.Needs.{needs}
@@ -24,7 +24,9 @@ start-at-known-told2 c = c .before .before .before .before .before .before
 
 locate-found-requires : tie.Need-locate-found-requires
 locate-found-requires c κs =
-    let r = reached-is ((start-at-known-told2 c) .args .image .now) ((start-at-known-told2 c) .args .key .now) true (c .before .before .before .seek .ensures) (c .before .sought2 .given .1) in
+    let r =
+    reached-is ((start-at-known-told2 c) .args .image .now) ((start-at-known-told2 c) .args .key .now) true
+    (c .before .before .before .seek .ensures) (c .before .sought2 .given .1) in
     (r .opened, r .within)
 
 abbrev start-at-nothing : tie.After-nothing → tie.Start
@@ -36,7 +38,9 @@ seek-at-nothing c = c .before .before .before .before
 returns : tie.Need-returns
 returns c =
     let A = (start-at-nothing c) .args in
-    let r = refused-is ((start-at-nothing c) .args .image .now) ((start-at-nothing c) .args .key .now) true ((seek-at-nothing c) .seek .ensures) (c .before .before .sought .given .1) in
+    let r =
+    refused-is ((start-at-nothing c) .args .image .now) ((start-at-nothing c) .args .key .now) true
+    ((seek-at-nothing c) .seek .ensures) (c .before .before .sought .given .1) in
     let n = c .nothing .ensures in
     located-refused (A .image .now) (A .key .now) _ _ _ (n .0 ∙ r .0) (λ z. r .1 (sym (n .0) ∙ z)) (n .1) (n .2)
 
@@ -49,7 +53,9 @@ seek-at-locate-found c = c .before .before .before .before
 returns-2 : tie.Need-returns-2
 returns-2 c =
     let A = (start-at-locate-found c) .args in
-    let r = reached-is ((start-at-locate-found c) .args .image .now) ((start-at-locate-found c) .args .key .now) true ((seek-at-locate-found c) .seek .ensures) (c .before .before .sought2 .given .1) in
+    let r =
+    reached-is ((start-at-locate-found c) .args .image .now) ((start-at-locate-found c) .args .key .now) true
+    ((seek-at-locate-found c) .seek .ensures) (c .before .before .sought2 .given .1) in
     located-found (A .image .now) (A .key .now) (r .asked) _ _ _ _ (r .ended) (c .locate-found .ensures)
 
 pub locate-spec : {M : Type 1} → statement M

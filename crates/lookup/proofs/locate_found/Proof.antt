@@ -37,10 +37,12 @@ found-at-else1 c = c .before .before .before .before
 
 is-sound : (c : tie.Else1) → Sound? (img (start-at-else1 c)) ((found-at-else1 c) .found .given .0 .0 .0) true
 is-sound c =
-    ap (messageSound (layoutOf (img (start-at-else1 c))) (img (start-at-else1 c))) (sym (c .before .before .offset-of .ensures))
+    ap (messageSound (layoutOf (img (start-at-else1 c))) (img (start-at-else1 c)))
+    (sym (c .before .before .offset-of .ensures))
     ∙ was-yes (c .before .message-sound .ensures) (c .if1 .left)
 
-head-in : (c : tie.Else1) → c .before .before .offset-of .result .0 + (start-at-else1 c) .args .shape .head ≤ length (img (start-at-else1 c))
+head-in : (c : tie.Else1)
+    → c .before .before .offset-of .result .0 + (start-at-else1 c) .args .shape .head ≤ length (img (start-at-else1 c))
 head-in c =
     let S = (start-at-else1 c) in
     omega (
@@ -51,7 +53,8 @@ head-in c =
     )
 
 -- the answer by the slot that was met
-met-shows : {g : _} {b : Bytes} {p : Probe} {i n start m : ℕ} → p ≡ met i → Shows g b (met i) n start m → Shows g b p n start m
+met-shows : {g : _} {b : Bytes} {p : Probe} {i n start m : ℕ} → p ≡ met i → Shows g b (met i) n start m
+    → Shows g b p n start m
 met-shows {g} {b} {n = n} {start} {m} e s = subst (λ (q : Probe). Shows g b q n start m) (sym e) s
 
 -- ---- the needs
@@ -72,7 +75,8 @@ abbrev start-at-known-told : tie.After-known-told → tie.Start
 start-at-known-told c = c .before .before .before .before
 
 offset-of-requires : tie.Need-offset-of-requires
-offset-of-requires c κs = ((start-at-known-told c) .pre .0, met-within (c .before .found .given .1) ((start-at-known-told c) .pre .1))
+offset-of-requires c κs =
+    ((start-at-known-told c) .pre .0, met-within (c .before .found .given .1) ((start-at-known-told c) .pre .1))
 
 abbrev start-at-offset-of : tie.After-offset-of → tie.Start
 start-at-offset-of c = c .before .before .before .before .before
@@ -101,7 +105,8 @@ returns-2 c =
     ap (messageSound (layoutOf (img S)) (img S)) (sym (c .before .before .before .offset-of .ensures))
     ∙ was-no (c .before .before .message-sound .ensures) (c .before .if1 .taken) in
     met-shows (met-is (m .1))
-    (shows-refused (layoutOf (img S)) (img S) (met (m .0 .0 .0)) _ _ _ (r .0 ∙ sym (shown-11 (layoutOf (img S)) (img S) (m .0 .0 .0) bad))
+    (shows-refused (layoutOf (img S)) (img S) (met (m .0 .0 .0)) _ _ _
+    (r .0 ∙ sym (shown-11 (layoutOf (img S)) (img S) (m .0 .0 .0) bad))
     (λ z. omega (arith, r .0)) (r .1) (r .2))
 
 is-active-requires : tie.Need-is-active-requires
@@ -126,7 +131,8 @@ returns-3 c =
     let m = (found-at-nothing3 c) .found .given in
     met-shows (met-is (m .1))
     (shows-inactive (layoutOf (img S)) (img S) (m .0 .0 .0) (is-sound (c .before .before .before)) _ _ _ (r .0)
-    (ap (isActive (img S)) (sym ((offset-of-at-nothing3 c) .offset-of .ensures)) ∙ was-no (c .before .before .is-active .ensures) (c .before .if2 .taken))
+    (ap (isActive (img S)) (sym ((offset-of-at-nothing3 c) .offset-of .ensures))
+    ∙ was-no (c .before .before .is-active .ensures) (c .before .if2 .taken))
     (r .1) (r .2))
 
 abbrev match-keys1-at-else2 : tie.Else2 → tie.At-match-keys1
@@ -172,7 +178,8 @@ returns-4 c =
     let at = (offset-of-at-length-at c) .offset-of .ensures in
     met-shows (met-is (m .1))
     (shows-active g (img S) (m .0 .0 .0) (is-sound (else1-at-length-at c)) _ _ _ refl
-    (ap (isActive (img S)) (sym at) ∙ was-yes (c .before .before .before .is-active .ensures) (c .before .before .if2 .left))
+    (ap (isActive (img S)) (sym at)
+    ∙ was-yes (c .before .before .before .is-active .ensures) (c .before .before .if2 .left))
     (omega (arith, c .before .text-start .ensures, at, shape-head (S .pre .0)))
     (c .length-at .ensures ∙ ap (lengthAt g (img S)) at))
 

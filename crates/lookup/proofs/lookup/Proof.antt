@@ -1,4 +1,5 @@
--- The part from the start that `locate` answers, as long as it says; both 0 make it the image's first 0 bytes. Assumes nothing.
+-- The part from the start that `locate` answers, as long as it says; both 0 make it the image's first 0 bytes.
+-- Assumes nothing.
 use borrow.Author.Needs.{needs}
 use mathlib.Core.Path.{ap₂, _∙_}
 use native.Mathlib.Omega.{arith}
@@ -18,7 +19,13 @@ add-end : tie.Need-add-end
 add-end c =
     let L = c .before .before in
     let A = L .before .before .before .args in
-    omega (arith, inside (A .image .now) (A .key .now), c .before .at .ensures, L .locate .ensures .1, L .locate .ensures .2)
+    omega (
+      arith,
+      inside (A .image .now) (A .key .now),
+      c .before .at .ensures,
+      L .locate .ensures .1,
+      L .locate .ensures .2,
+    )
 
 sub-result : tie.Need-sub-result
 sub-result c = search needs
@@ -30,7 +37,13 @@ part-result-end : tie.Need-part-result-end
 part-result-end c =
     let L = c .before .before in
     let A = L .before .before .before .args in
-    omega (arith, inside (A .image .now) (A .key .now), c .before .at .ensures, L .locate .ensures .1, L .locate .ensures .2)
+    omega (
+      arith,
+      inside (A .image .now) (A .key .now),
+      c .before .at .ensures,
+      L .locate .ensures .1,
+      L .locate .ensures .2,
+    )
 
 returns : tie.Need-returns
 returns c =

@@ -24,8 +24,11 @@ returns c = sym (sound-none _ _ _ (sym (c .before .at .ensures) ∙ c .if1 .take
 at-requires-2 : tie.Need-at-requires-2
 at-requires-2 c κs = search needs
 
+abbrev start-at-else1 : tie.Else1 → tie.Start
+start-at-else1 c = c .before .before .before
+
 -- after the first test there is an offset
-some-offset : (c : tie.Else1) → 0 < c .before .before .before .args .o .0
+some-offset : (c : tie.Else1) → 0 < start-at-else1 c .args .o .0
 some-offset c = omega (arith, c .before .at .ensures, c .if1 .left)
 
 returns-2 : tie.Need-returns-2
@@ -47,16 +50,19 @@ cast-free c = search needs
 
 sub-if3 : tie.Need-sub-if3
 sub-if3 c =
-    let S = c .before .before .before .before .before .before .before .before in
+    let S = start-at-else1 (c .before .before .before .before .before) in
     let f = opened-facts _ (S .pre .accepted) in
     omega (arith, head-width (S .pre), c .before .read-u32 .ensures, area-above _ f, f .free-low)
 
 -- ---- the third test, and what is known behind it
-abbrev start : tie.Else3 → tie.Start
-start c = c .before .before .before .before .before .before .before .before .before
+abbrev else1-at-else3 : tie.Else3 → tie.Else1
+else1-at-else3 c = c .before .before .before .before .before .before
 
-at-is : (c : tie.Else3) → c .before .before .before .before .before .before .before .at .result ≡ start c .args .o .0
-at-is c = c .before .before .before .before .before .before .before .at .ensures
+abbrev start : tie.Else3 → tie.Start
+start c = start-at-else1 (else1-at-else3 c)
+
+at-is : (c : tie.Else3) → else1-at-else3 c .before .at .result ≡ start c .args .o .0
+at-is c = else1-at-else3 c .before .at .ensures
 
 returns-3 : tie.Need-returns-3
 returns-3 c =

@@ -24,7 +24,8 @@ returns c =
 returns-2 : tie.Need-returns-2
 returns-2 c =
     let A = c .before .before .before .args in
-    sym (length-shown-no (layoutOf (A .image .now)) (A .image .now) (A .o .0) (sym (c .before .is-active .ensures) ∙ c .if1 .left))
+    sym (length-shown-no (layoutOf (A .image .now)) (A .image .now) (A .o .0)
+    (sym (c .before .is-active .ensures) ∙ c .if1 .left))
 
 pub shown-length-spec : {M : Type 1} → statement M
 shown-length-spec = tie.close (tie.spec is-active-requires length-at-requires returns returns-2)

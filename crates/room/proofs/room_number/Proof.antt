@@ -36,7 +36,15 @@ add-if2-2 : tie.Need-add-if2-2
 add-if2-2 c =
     let S = (start-at-struct-known2 c) in
     let f = opened-facts _ (S .pre .accepted) in
-    omega (arith, head-width (S .pre), most-width (S .pre), c .before .before .if1 .left, c .before .read-u32 .ensures, f .free-high, f .size-high)
+    omega (
+      arith,
+      head-width (S .pre),
+      most-width (S .pre),
+      c .before .before .if1 .left,
+      c .before .read-u32 .ensures,
+      f .free-high,
+      f .size-high,
+    )
 
 abbrev start-at-then2 : tie.Then2 → tie.Start
 start-at-then2 c = c .before .before .before .before .before .before

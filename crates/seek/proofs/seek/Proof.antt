@@ -24,10 +24,12 @@ opened c = sym (c .before .open-number .ensures) ∙ c .if1 .left
 abbrev start-at-else2 : tie.Else2 → tie.Start
 start-at-else2 c = c .before .before .before .before .before .before .before
 
-named : (c : tie.Else2) → nameAllowed (layoutOf ((start-at-else2 c) .args .image .now) .K) ((start-at-else2 c) .args .key .now) ≡ true
+named : (c : tie.Else2)
+    → nameAllowed (layoutOf ((start-at-else2 c) .args .image .now) .K) ((start-at-else2 c) .args .key .now) ≡ true
 named c =
     let R = c .before .before .read-shape in
-    named-yes ((start-at-else2 c) .args .image .now) ((start-at-else2 c) .args .key .now) (R .result) (R .ensures) (c .before .name-allowed .ensures) (c .if2 .left)
+    named-yes ((start-at-else2 c) .args .image .now) ((start-at-else2 c) .args .key .now) (R .result) (R .ensures)
+    (c .before .name-allowed .ensures) (c .if2 .left)
 
 -- ---- the needs
 open-number-requires : tie.Need-open-number-requires
@@ -59,7 +61,8 @@ returns-2 c =
     let A = (start-at-then2 c) .args in
     let R = c .before .before .read-shape in
     let no′ =
-    named-no (A .image .now) (A .key .now) (R .result) (R .ensures) (c .before .name-allowed .ensures) (c .if2 .taken) in
+    named-no (A .image .now) (A .key .now) (R .result) (R .ensures) (c .before .name-allowed .ensures)
+    (c .if2 .taken) in
     (sym (seek-7 (A .image .now) (A .key .now) (A .known) (opened (c .before .before .before)) no′), λ z. omega arith)
 
 abbrev shared-slice-known-at-then3 : tie.Then3 → tie.After-shared-slice-known
@@ -74,14 +77,18 @@ else1-at-then3 c = c .before .before .before .before
 returns-3 : tie.Need-returns-3
 unfolding SoughtIs
 returns-3 c =
-    let A = (start-at-then3 c) .args in
-    (sym (seek-8 (A .image .now) (A .key .now) (A .known) (opened (else1-at-then3 c)) (named (c .before)) (not-true (A .known) (c .if3 .taken))), λ z. omega arith)
+    let A = (start-at-then3 c) .args in (
+      sym (seek-8 (A .image .now) (A .key .now) (A .known) (opened (else1-at-then3 c)) (named (c .before))
+          (not-true (A .known) (c .if3 .taken))),
+      λ z. omega arith,
+    )
 
 abbrev else1-at-else3 : tie.Else3 → tie.Else1
 else1-at-else3 c = c .before .before .before .before
 
 search-requires : tie.Need-search-requires
-search-requires c κs = record { accepted = opened (else1-at-else3 c); shape = c .before .before .before .read-shape .ensures }
+search-requires c κs =
+    record { accepted = opened (else1-at-else3 c); shape = c .before .before .before .read-shape .ensures }
 
 abbrev shared-slice-known2-at-search : tie.After-search → tie.After-shared-slice-known2
 shared-slice-known2-at-search c = c .before .before .before .before .before .before .before
@@ -101,12 +108,15 @@ returns-4 c =
     let A = (start-at-search c) .args in
     let o = opened (else1-at-search c) in
     record {
-      asked = seek-0 (A .image .now) (A .key .now) (A .known) o (named (c .before .before)) (not-false (A .known) (c .before .if3 .left));
+      asked =
+          seek-0 (A .image .now) (A .key .now) (A .known) o (named (c .before .before))
+          (not-false (A .known) (c .before .if3 .left));
       opened = record { accepted = o; shape = (read-shape-at-search c) .read-shape .ensures };
       ended = c .search .ensures;
       within =
           subst (Within _) (sym (c .search .ensures))
-          (search-within (A .image .now) (A .key .now) _ (record { accepted = o; shape = (read-shape-at-search c) .read-shape .ensures }));
+          (search-within (A .image .now) (A .key .now) _
+          (record { accepted = o; shape = (read-shape-at-search c) .read-shape .ensures }));
     }
 
 pub seek-spec : {M : Type 1} → statement M

@@ -27,7 +27,12 @@ unfolding verdictIn
 cast-slot c =
     let F = c .before .before .before .before in
     let A = F .before .before .args in
-    omega (arith, check-slot (A .image .now) _ (sym (F .check .ensures) ∙ ap verdictIn (c .before .before .found2 .given .1)), c .number .ensures)
+    omega (
+      arith,
+      check-slot (A .image .now) _
+          (sym (F .check .ensures) ∙ ap verdictIn (c .before .before .found2 .given .1)),
+      c .number .ensures,
+    )
 
 enum-told-2 : tie.Need-enum-told-2
 enum-told-2 c = search needs
@@ -48,7 +53,8 @@ returns-3 : tie.Need-returns-3
 unfolding verdictIn
 returns-3 c =
     let F = c .before .before .before .before in
-    with-image (says-slot _ _ _ (sym (ap verdictIn (c .before .before .found2 .given .1)) ∙ F .check .ensures) (c .number .ensures))
+    with-image (says-slot _ _ _ (sym (ap verdictIn (c .before .before .found2 .given .1)) ∙ F .check .ensures)
+    (c .number .ensures))
 
 returns-4 : tie.Need-returns-4
 unfolding verdictIn

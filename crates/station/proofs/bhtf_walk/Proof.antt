@@ -21,7 +21,9 @@ read-u32-requires : tie.Need-read-u32-requires
 read-u32-requires c κs =
     let F = c .before .before .before in
     let A = F .before .before .args in
-    let w = stopped-is (A .image .now) (A .from) (F .next-taken .result) (F .next-taken .ensures) (c .before .stop2 .given .1) in
+    let w =
+    stopped-is (A .image .now) (A .from) (F .next-taken .result) (F .next-taken .ensures)
+    (c .before .stop2 .given .1) in
     omega (arith, walk-long (A .image .now) (A .from) _ w)
 
 cast-size : tie.Need-cast-size
@@ -34,14 +36,18 @@ cast-slot : tie.Need-cast-slot
 cast-slot c =
     let F = c .before .before .before .before .before in
     let A = F .before .before .args in
-    let w = stopped-is (A .image .now) (A .from) (F .next-taken .result) (F .next-taken .ensures) (c .before .before .before .stop2 .given .1) in
+    let w =
+    stopped-is (A .image .now) (A .from) (F .next-taken .result) (F .next-taken .ensures)
+    (c .before .before .before .stop2 .given .1) in
     omega (arith, walk-slot (A .image .now) (A .from) _ w, c .number .ensures)
 
 start-requires : tie.Need-start-requires
 start-requires c κs =
     let F = c .before .before .before .before .before in
     let A = F .before .before .args in
-    let w = stopped-is (A .image .now) (A .from) (F .next-taken .result) (F .next-taken .ensures) (c .before .before .before .stop2 .given .1) in (
+    let w =
+    stopped-is (A .image .now) (A .from) (F .next-taken .result) (F .next-taken .ensures)
+    (c .before .before .before .stop2 .given .1) in (
       omega (arith, walk-slot (A .image .now) (A .from) _ w),
       omega (arith, c .before .read-u32 .ensures, walk-key (A .image .now) (A .from) _ w),
     )
@@ -54,7 +60,9 @@ cast-place c =
     let N = c .before .before in
     let F = N .before .before .before .before .before in
     let A = F .before .before .args in
-    let w = stopped-is (A .image .now) (A .from) (F .next-taken .result) (F .next-taken .ensures) (N .before .before .before .stop2 .given .1) in
+    let w =
+    stopped-is (A .image .now) (A .from) (F .next-taken .result) (F .next-taken .ensures)
+    (N .before .before .before .stop2 .given .1) in
     omega (
       arith,
       c .at .ensures,
@@ -77,8 +85,11 @@ returns-2 c =
     let N = c .before .before in
     let F = N .before .before .before .before .before in
     let A = F .before .before .args in
-    let w = stopped-is (A .image .now) (A .from) (F .next-taken .result) (F .next-taken .ensures) (N .before .before .before .stop2 .given .1) in
-    with-image (walks-stopped (A .image .now) (keyWalk (A .image .now) (A .from)) _ _ _ (N .before .read-u32 .result) (sym w)
+    let w =
+    stopped-is (A .image .now) (A .from) (F .next-taken .result) (F .next-taken .ensures)
+    (N .before .before .before .stop2 .given .1) in
+    with-image (walks-stopped (A .image .now) (keyWalk (A .image .now) (A .from)) _ _ _ (N .before .read-u32 .result)
+    (sym w)
     (N .number .ensures) (N .before .read-u32 .ensures) (c .at .ensures ∙ c .before .start .ensures))
 
 returns-3 : tie.Need-returns-3

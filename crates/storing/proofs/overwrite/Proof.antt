@@ -25,7 +25,8 @@ inside : (c : tie.Start)
     → let img : Bytes = c .args .image .now in
     let o : ℕ = c .args .o .0 in
     let m : ℕ = lengthAt (layoutOf img) img o in
-    (o + c .args .shape .head + m ≤ length img) × (length (c .args .bytes .now) ≤ m) × (length img ≤ mostImage) × (0 < o)
+    (o + c .args .shape .head + m ≤ length img) × (length (c .args .bytes .now) ≤ m) × (length img ≤ mostImage)
+    × (0 < o)
     × (c .args .shape .head ≡ lengthWidth + 1)
 inside c =
     let img = c .args .image .now in
@@ -101,7 +102,8 @@ write-message-requires c κs =
     let head = A .shape .head in
     let i = inside (start-at-write-message-arg c) in
     let small =
-    length-bound (A .image .now) (A .o .0) (λ k. omega (arith, (slice-known-at-write-message-arg c) .slice-known .given k)) (omega (arith, i .0, i .4)) in (
+    length-bound (A .image .now) (A .o .0)
+    (λ k. omega (arith, (slice-known-at-write-message-arg c) .slice-known .given k)) (omega (arith, i .0, i .4)) in (
       e .3,
       mid-len at (at + head + length (A .bytes .now)) (A .image .now) (omega arith) ∙ omega arith,
       omega (arith, small, i .1),

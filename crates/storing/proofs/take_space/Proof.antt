@@ -180,9 +180,11 @@ returns c =
     u .ensures ∙ ap (λ (p : ℕ). store img (x .result + head) (part img p n)) ((at-at-slice-known4 c) .at .ensures) in
     c .before .before .set-free .ensures
     ∙ ap₂ (setFree (A .shape .area .0))
-    (place-steps (layoutOf img) img v (x .result) from n head (k .2) below room (u .last .0) (w .last .0) copied (w .ensures))
+    (place-steps (layoutOf img) img v (x .result) from n head (k .2) below room (u .last .0) (w .last .0) copied
+    (w .ensures))
     (c .before .before .before .new .ensures)
-    ∙ takeSpace-set (layoutOf img) img v (x .result) from n head (k .2) below room (A .shape .area .0) (shape-area (S .pre .0)) (x .ensures)
+    ∙ takeSpace-set (layoutOf img) img v (x .result) from n head (k .2) below room (A .shape .area .0)
+    (shape-area (S .pre .0)) (x .ensures)
 
 pub take-space-spec : {M : Type 1} → statement M
 take-space-spec =

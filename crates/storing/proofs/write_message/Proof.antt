@@ -34,7 +34,8 @@ kept : (c : tie.After-write-u24) → length (c .write-u24 .last .0) ≡ length (
 kept c = c .write-u24 .kept .0 ∙ length-set ((start-at-write-u24 c) .args .space .now) 0 97
 
 long : (c : tie.After-write-u24)
-    → length (c .write-u24 .last .0) ≡ (start-at-write-u24 c) .args .head + (start-at-write-u24 c) .args .before + length ((start-at-write-u24 c) .args .bytes .now)
+    → let S : tie.Start = start-at-write-u24 c in
+    length (c .write-u24 .last .0) ≡ S .args .head + S .args .before + length (S .args .bytes .now)
 long c = kept c ∙ (start-at-write-u24 c) .pre .1
 
 add-from : tie.Need-add-from

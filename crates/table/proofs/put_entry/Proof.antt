@@ -69,14 +69,15 @@ same-length c = search needs
 
 returns : tie.Need-returns
 returns c =
-    let S = c .before .before .before .before .before .before .before .before in
+    let P = c .before .before .before .before in
+    let S = P .before .before .before .before in
     let img = S .args .image .now in
     let s = S .args .shape in
     let key = S .args .key .now in
-    let a = c .before .before .before .before .at .result in
+    let a = P .at .result in
     ap (λ (v : Bytes). putMid a (a + (s .keylen + 4) - a) img v) (c .before .before .write-entry .ensures)
     ∙ put-slot img s (S .pre .0 .shape) (S .args .i .0) a
-    (c .before .before .before .before .at .ensures ∙ c .before .before .before .before .before .start .ensures) (a + (s .keylen + 4))
+    (P .at .ensures ∙ P .before .start .ensures) (a + (s .keylen + 4))
     (slotBytes key (S .args .offset .0)) refl
     (length-entry′ key (S .args .offset .0) (s .keylen) (S .pre .2))
 

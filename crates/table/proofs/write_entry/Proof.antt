@@ -36,8 +36,9 @@ cast-write-u32 c = search needs
 
 write-u32-requires : tie.Need-write-u32-requires
 write-u32-requires c κs =
-    let S = c .before .before .before .before .before .before .before .before in
-    let e = ap length (c .before .before .before .before .copy .ensures) in
+    let C = c .before .before .before .before in
+    let S = C .before .before .before .before in
+    let e = ap length (C .copy .ensures) in
     simp (length-append, length-drop) (omega arith)
 
 same-length : tie.Need-same-length
@@ -45,12 +46,13 @@ same-length c = search needs
 
 returns : tie.Need-returns
 returns c =
-    let S = c .before .before .before .before .before .before .before .before .before .before .before in
+    let C = c .before .before .before .before .before .before .before in
+    let S = C .before .before .before .before in
     let key = S .args .key .now in
     let rest = drop (length key) (S .args .part .now) in
     c .before .before .write-u32 .ensures
     ∙ ap₂ (λ (b : Bytes) (n : ℕ). setField (b ++ rest) (length key) n)
-    (c .before .before .before .before .before .before .before .copy .ensures) (c .before .before .before .at .ensures)
+    (C .copy .ensures) (c .before .before .before .at .ensures)
     ∙ entry-written key rest (S .args .offset .0) (simp length-drop (omega arith))
 
 pub write-entry-spec : {M : Type 1} → statement M

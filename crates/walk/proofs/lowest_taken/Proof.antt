@@ -40,7 +40,8 @@ returns c =
     let L = c .before .before .before .before in
     let S = L .before .before in
     let img = S .args .image .now in
-    walk-here (layoutOf img) img (nextTaken (layoutOf img) img (S .args .from)) (S .args .shape .slots) (L .loop .i) (L .loop .inv)
+    walk-here (layoutOf img) img (nextTaken (layoutOf img) img (S .args .from)) (S .args .shape .slots) (L .loop .i)
+    (L .loop .inv)
     (c .before .before .new .result .0) (c .before .before .new .ensures) (c .before .before .before .loop-test .taken)
     (sym (c .before .is-taken .ensures) ∙ c .if1 .taken)
 
@@ -56,8 +57,10 @@ loop-again c =
     let S = L .before .before in
     let img = S .args .image .now in
     L .loop .inv
-    ∙ lowest-no (taken (layoutOf img) img) (S .args .shape .slots) (L .loop .i) (c .before .before .before .loop-test .taken)
-    (ap (taken (layoutOf img) img) (sym (c .before .before .new .ensures)) ∙ sym (c .before .is-taken .ensures) ∙ c .if1 .left)
+    ∙ lowest-no (taken (layoutOf img) img) (S .args .shape .slots) (L .loop .i)
+    (c .before .before .before .loop-test .taken)
+    (ap (taken (layoutOf img) img) (sym (c .before .before .new .ensures)) ∙ sym (c .before .is-taken .ensures)
+    ∙ c .if1 .left)
 
 returns-2 : tie.Need-returns-2 Inv-loop μ-loop
 unfolding stopOf
@@ -65,7 +68,8 @@ returns-2 c =
     let L = c .before in
     let S = L .before .before in
     let img = S .args .image .now in
-    walk-end (layoutOf img) img (nextTaken (layoutOf img) img (S .args .from)) (S .args .shape .slots) (L .loop .i) (L .loop .inv)
+    walk-end (layoutOf img) img (nextTaken (layoutOf img) img (S .args .from)) (S .args .shape .slots) (L .loop .i)
+    (L .loop .inv)
     (c .loop-test .left)
 
 pub lowest-taken-spec : {M : Type 1} → statement M

@@ -16,20 +16,27 @@ returns : tie.Need-returns
 unfolding stopOf
 returns c =
     let A = c .before .before .before .args in
-    walk-closed (A .image .now) (A .from) (c .before .open-number .result) (c .before .open-number .ensures) (c .if1 .taken)
+    walk-closed (A .image .now) (A .from) (c .before .open-number .result) (c .before .open-number .ensures)
+    (c .if1 .taken)
 
 read-shape-requires : tie.Need-read-shape-requires
-read-shape-requires c κs = omega (arith, opened-facts _ (sym (c .before .open-number .ensures) ∙ c .if1 .left) .size-low)
+read-shape-requires c κs =
+    omega (arith, opened-facts _ (sym (c .before .open-number .ensures) ∙ c .if1 .left) .size-low)
 
 lowest-taken-requires : tie.Need-lowest-taken-requires
 lowest-taken-requires c κs =
-    record { accepted = sym (c .before .before .open-number .ensures) ∙ c .before .if1 .left; shape = c .read-shape .ensures }
+    record {
+      accepted = sym (c .before .before .open-number .ensures)
+          ∙ c .before .if1 .left;
+      shape = c .read-shape .ensures;
+    }
 
 returns-2 : tie.Need-returns-2
 returns-2 c =
     let A = c .before .before .before .before .before .args in
     c .lowest-taken .ensures
-    ∙ walk-open (A .image .now) (A .from) (sym (c .before .before .before .open-number .ensures) ∙ c .before .before .if1 .left)
+    ∙ walk-open (A .image .now) (A .from)
+    (sym (c .before .before .before .open-number .ensures) ∙ c .before .before .if1 .left)
 
 pub next-taken-spec : {M : Type 1} → statement M
 next-taken-spec =

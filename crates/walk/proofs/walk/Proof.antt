@@ -32,26 +32,34 @@ cast-slot : tie.Need-cast-slot
 cast-slot c =
     let F = c .before .before .before .before in
     let A = F .before .before .args in
-    let w = stopped-is (A .image .now) (A .from) (F .next-taken .result) (F .next-taken .ensures) (c .before .before .stop2 .given .1) in
+    let w =
+    stopped-is (A .image .now) (A .from) (F .next-taken .result) (F .next-taken .ensures)
+    (c .before .before .stop2 .given .1) in
     let f = opened-facts (A .image .now) (stopped-open (A .image .now) (A .from) _ w) in
-    let b : c .number .result < field (A .image .now) slotsField = stopped-slot (A .image .now) (A .from) _ w (c .number .result) (c .number .ensures) in
+    let b : c .number .result < field (A .image .now) slotsField =
+    stopped-slot (A .image .now) (A .from) _ w (c .number .result) (c .number .ensures) in
     omega (arith, b, f .slots-high)
 
 read-shape-requires : tie.Need-read-shape-requires
 read-shape-requires c κs =
     let F = c .before .before .before .before in
     let A = F .before .before .args in
-    let w = stopped-is (A .image .now) (A .from) (F .next-taken .result) (F .next-taken .ensures) (c .before .before .stop2 .given .1) in
+    let w =
+    stopped-is (A .image .now) (A .from) (F .next-taken .result) (F .next-taken .ensures)
+    (c .before .before .stop2 .given .1) in
     omega (arith, opened-facts (A .image .now) (stopped-open (A .image .now) (A .from) _ w) .size-low)
 
 key-of-requires : tie.Need-key-of-requires
 key-of-requires c κs =
     let F = c .before .before .before .before .before in
     let A = F .before .before .args in
-    let w = stopped-is (A .image .now) (A .from) (F .next-taken .result) (F .next-taken .ensures) (c .before .before .before .stop2 .given .1) in (
+    let w =
+    stopped-is (A .image .now) (A .from) (F .next-taken .result) (F .next-taken .ensures)
+    (c .before .before .before .stop2 .given .1) in (
       record { accepted = stopped-open (A .image .now) (A .from) _ w; shape = c .read-shape .ensures },
       subst (λ (n : ℕ). c .before .before .before .stop2 .given .0 .0 .0 < n)
-          (layout-slots (A .image .now) (c .read-shape .result) (c .read-shape .ensures)) (stopped-below (A .image .now) (A .from) _ w),
+          (layout-slots (A .image .now) (c .read-shape .result) (c .read-shape .ensures))
+          (stopped-below (A .image .now) (A .from) _ w),
     )
 
 enum-told : tie.Need-enum-told
@@ -65,15 +73,20 @@ returns c =
     let F = c .before .before .before .before in
     let A = F .before .before .args in
     let s = shown-refused (A .image .now) (keyWalk (A .image .now) (A .from)) _
-    (refused-is (A .image .now) (A .from) (F .next-taken .result) (F .next-taken .ensures) (c .before .before .stop .given .1)) in
+    (refused-is (A .image .now) (A .from) (F .next-taken .result) (F .next-taken .ensures)
+    (c .before .before .stop .given .1)) in
     (s .key, s .number-is, s .slot-is)
 
 returns-2 : tie.Need-returns-2
 returns-2 c =
     let F = c .before .before .before .before .before .before in
     let A = F .before .before .args in
-    let w = stopped-is (A .image .now) (A .from) (F .next-taken .result) (F .next-taken .ensures) (c .before .before .before .before .stop2 .given .1) in
-    let s = shown-stopped (A .image .now) (keyWalk (A .image .now) (A .from)) _ (sym w) (c .key-of .result .now) (c .key-of .ensures) in
+    let w =
+    stopped-is (A .image .now) (A .from) (F .next-taken .result) (F .next-taken .ensures)
+    (c .before .before .before .before .stop2 .given .1) in
+    let s =
+    shown-stopped (A .image .now) (keyWalk (A .image .now) (A .from)) _ (sym w) (c .key-of .result .now)
+    (c .key-of .ensures) in
     (s .key, s .number-is, c .before .before .number .ensures ∙ s .slot-is)
 
 returns-3 : tie.Need-returns-3
@@ -81,7 +94,8 @@ returns-3 c =
     let F = c .before .before .before in
     let A = F .before .before .args in
     let s = shown-end (A .image .now) (keyWalk (A .image .now) (A .from))
-    (end-is (A .image .now) (A .from) (F .next-taken .result) (F .next-taken .ensures) (c .before .enum-told .given .1)) in
+    (end-is (A .image .now) (A .from) (F .next-taken .result) (F .next-taken .ensures)
+    (c .before .enum-told .given .1)) in
     (s .key, s .number-is, s .slot-is)
 
 pub walk-spec : {M : Type 1} → statement M

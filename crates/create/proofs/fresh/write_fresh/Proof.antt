@@ -35,10 +35,11 @@ write-header-requires c κs =
 
 write-scramble-requires : tie.Need-write-scramble-requires
 write-scramble-requires c κs =
-    let S = c .before .before .before .before .before .before .before .before .before .before .before in
-    let F = accepted-facts (length (S .args .image .now)) (S .args .size) (S .args .slots) (S .pre) in
     let H = c .before .before .before in
-    omega (arith, F, H .write-header .kept, H .before .before .before .before .zero .kept)
+    let Z = H .before .before .before .before in
+    let S = Z .before .before .before .before in
+    let F = accepted-facts (length (S .args .image .now)) (S .args .size) (S .args .slots) (S .pre) in
+    omega (arith, F, H .write-header .kept, Z .zero .kept)
 
 same-length : tie.Need-same-length
 same-length c = search needs

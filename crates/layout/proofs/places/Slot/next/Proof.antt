@@ -14,7 +14,9 @@ add-t6 : tie.Need-add-t6
 add-t6 c = search needs
 
 returns : tie.Need-returns
-returns c = sym (next-up (c .before .before .before .args .slots) (c .before .before .before .args .self .0) (c .before .if1 .taken))
+returns c =
+    sym (next-up (c .before .before .before .args .slots) (c .before .before .before .args .self .0)
+    (c .before .if1 .taken))
 
 returns-2 : tie.Need-returns-2
 returns-2 c = sym (next-wrap (c .before .before .args .slots) (c .before .before .args .self .0) (c .if1 .left))

@@ -28,7 +28,8 @@ add-t3 : tie.Need-add-t3
 add-t3 c = search needs
 
 mul-t4 : tie.Need-mul-t4
-mul-t4 c = record { fits = small (c .before .args .self .0) (c .before .args .keylen) (c .before .pre .0) (c .before .pre .1) }
+mul-t4 c =
+    record { fits = small (c .before .args .self .0) (c .before .args .keylen) (c .before .pre .0) (c .before .pre .1) }
 
 add-t5 : tie.Need-add-t5
 add-t5 c = small-above (c .before .args .self .0) (c .before .args .keylen) (c .before .pre .0) (c .before .pre .1)

@@ -1,0 +1,36 @@
+/* The command's own limits. Those of the files stand in bhtf.h. */
+#ifndef LIMITS_H
+#define LIMITS_H
+
+#include "bhtf.h"
+
+/* What create makes unless told otherwise. */
+#define KEY_SIZE_USUAL 16u
+#define BYTES_A_SLOT 256u           /* of data, in a file of the usual size */
+
+/* Waiting for locks, in seconds. */
+#define WAIT_USUAL 10u
+#define WAIT_MAX 86400u
+
+/* Points that an import reads before the file is locked, and then stores in
+ * one go: nobody waits for the input. */
+#define BATCH_POINTS 256u
+#define BATCH_BYTES (1u << 20)
+
+/* Bytes in the longest record of a CSV file, which may say a text twice, and
+ * the fields of one that are kept. */
+#define RECORD_MAX (2u * BHTF_MESSAGE_MAX + 4096u)
+#define FIELDS_MAX 64u
+
+/* Points of a file with which new ones are compared. */
+#define NEIGHBOURS_MAX 4096u
+
+/* Refused lines that a dry run tells one by one. */
+#define REFUSALS_SHOWN 20u
+
+/* The version of the text that dump writes and load reads, and the bytes in
+ * its longest line: a name and a text of which each byte is escaped. */
+#define DUMP_VERSION 1u
+#define DUMP_LINE_MAX (4u * (BHTF_MESSAGE_MAX + BHTF_KEY_MAX) + 64u)
+
+#endif
