@@ -1,7 +1,9 @@
 # Compares what the subjects answered and hold, phase by phase, with the base
-# of their group: plain, or the library among the engines. Prints the numbers
-# of comparisons passed and failed; says on standard error which failed.
-# Lines: group round K N subject phase load common exact nanoseconds..
+# of their group: plain, the library among the engines, tuned for the plots.
+# "again" is a second run of the same program and is compared with nothing.
+# Prints the numbers of comparisons passed and failed; says on standard error
+# which failed.
+# Lines: group round K N subject phase load common exact calls nanoseconds..
 
 function compare(what, mine, other) {
     if (mine == other) {
@@ -12,8 +14,14 @@ function compare(what, mine, other) {
     print "differs: " what > "/dev/stderr"
 }
 
-{
-    base_name = $1 == "engines" ? "library" : "plain"
+BEGIN {
+    base_of["images"] = "plain"
+    base_of["engines"] = "library"
+    base_of["by-load"] = base_of["by-slots"] = "tuned"
+}
+
+$1 in base_of && $5 != "again" {
+    base_name = base_of[$1]
     place = $1 " " $2 " " $3 " " $4 " " $6 " " $7
     common[place, $5] = $8
     exact[place, $5] = $9

@@ -1,14 +1,15 @@
 /* Runs a plan of phases on the subject linked in and prints, for each phase,
- *     phase load common exact nanoseconds..
+ *     phase load common exact calls nanoseconds..
  * The digests stand for all that the subject answered and holds: common for
  * every subject alike, exact for images only. Times are the process's
- * processor time for one call, one for each sample.
+ * processor time for one call, one for each sample of so many calls.
  *
  * driver --file PATH --seed S --key K --slots N [--images DIRECTORY]
- *        [--turns 1] [--fewer F] PLAN..
+ *        [--turns 1] [--fewer F] [--once 1] PLAN..
  * A word of the plan is a phase below; fill:P, build:P go to P % load. With
  * --turns it works only when turns.c lets it, with --fewer it makes an F-th of
- * the calls. */
+ * the calls, with --once it takes one sample and asks only for the answers,
+ * not for what the subject then holds: count.sh has them counted. */
 #define _POSIX_C_SOURCE 200809L
 #include <inttypes.h>
 #include <stdio.h>
@@ -36,15 +37,18 @@ struct options {
     const char *images;
     int turns;
     uint32_t fewer;
+    int once;
 };
 
 struct bench {
     struct model model;
     uint32_t load;
     uint64_t common;  /* digest of the answers */
+    uint32_t calls;   /* in the last sample */
     int wrong;
     int turns;
     uint32_t fewer;
+    int once;
 };
 
 static void take_turn(const struct bench *b)
@@ -154,7 +158,7 @@ static double swap_all(struct bench *b)
     return stop(b, from);
 }
 
-/* ---- the phases: nanoseconds for a call, or for a point ---- */
+/* ---- the phases: nanoseconds, and in calls how many calls or points ---- */
 
 static uint32_t points_at(const struct bench *b, uint32_t load)
 {
@@ -182,6 +186,7 @@ static double phase_create(struct bench *b)
 {
     double from = now();
 
+    b->calls = 1;
     model_empty(&b->model);
     expect(b, store.reset() == DONE);
     return now() - from;
@@ -198,14 +203,15 @@ static double phase_build(struct bench *b)
         draw_adds(&b->model, points);
         spent += write_all(b, store.add);
     }
-    return spent / runs / points;
+    b->calls = runs * points;
+    return spent;
 }
 
 static double phase_fill(struct bench *b)
 {
-    draw_adds(&b->model, points_at(b, b->load) - b->model.count);
-    write_all(b, store.add);
-    return 0;
+    b->calls = points_at(b, b->load) - b->model.count;
+    draw_adds(&b->model, b->calls);
+    return write_all(b, store.add);
 }
 
 static double phase_hit(struct bench *b)
@@ -213,7 +219,8 @@ static double phase_hit(struct bench *b)
     uint32_t count = LOOKUPS / b->fewer;
 
     draw_hits(&b->model, count);
-    return look_up_all(b, DONE) / count;
+    b->calls = count;
+    return look_up_all(b, DONE);
 }
 
 static double phase_miss(struct bench *b)
@@ -221,7 +228,8 @@ static double phase_miss(struct bench *b)
     uint32_t count = scans(b, LOOKUPS);
 
     draw_misses(&b->model, count);
-    return look_up_all(b, ABSENT) / count;
+    b->calls = count;
+    return look_up_all(b, ABSENT);
 }
 
 static double phase_replace(struct bench *b)
@@ -229,7 +237,8 @@ static double phase_replace(struct bench *b)
     uint32_t count = REPLACES / b->fewer;
 
     draw_replaces(&b->model, count);
-    return write_all(b, store.replace) / count;
+    b->calls = count;
+    return write_all(b, store.replace);
 }
 
 static double phase_renew(struct bench *b)
@@ -237,7 +246,8 @@ static double phase_renew(struct bench *b)
     uint32_t count = RENEWALS / b->fewer;
 
     draw_renewals(&b->model, count);
-    return write_all(b, store.replace) / count;
+    b->calls = count;
+    return write_all(b, store.replace);
 }
 
 static double phase_append(struct bench *b)
@@ -245,7 +255,8 @@ static double phase_append(struct bench *b)
     uint32_t count = RENEWALS / b->fewer;
 
     draw_appends(&b->model, count);
-    return write_all(b, store.append) / count;
+    b->calls = count;
+    return write_all(b, store.append);
 }
 
 static double phase_swap(struct bench *b)
@@ -253,7 +264,8 @@ static double phase_swap(struct bench *b)
     uint32_t count = scans(b, SWAPS);
 
     draw_swaps(&b->model, count);
-    return swap_all(b) / count;
+    b->calls = count;
+    return swap_all(b);
 }
 
 static double phase_walk(struct bench *b)
@@ -261,12 +273,13 @@ static double phase_walk(struct bench *b)
     uint32_t runs = passes(b, b->model.count);
     double from = start(b, 0);
 
+    b->calls = runs * b->model.count;
     for (uint32_t run = 0; run < runs; run++) {
         struct seen seen = { NULL, b->model.key_size, 0, 0, 0 };
 
         expect(b, store.walk(&seen) == DONE && seen.points == b->model.count);
     }
-    return stop(b, from) / runs / b->model.count;
+    return stop(b, from);
 }
 
 static double phase_check(struct bench *b)
@@ -274,9 +287,10 @@ static double phase_check(struct bench *b)
     uint32_t runs = passes(b, b->model.count);
     double from = now();
 
+    b->calls = runs * b->model.count;
     for (uint32_t run = 0; run < runs; run++)
         expect(b, store.check() == DONE);
-    return (now() - from) / runs / b->model.count;
+    return now() - from;
 }
 
 static const struct phase {
@@ -313,20 +327,23 @@ static int save_image(const char *directory, const char *phase, uint32_t load)
 static void print_line(const struct bench *b, const char *name,
                        uint64_t common, uint64_t exact, const double *spent)
 {
-    printf("%s %u %016" PRIx64 " %016" PRIx64, name, (unsigned)b->load, common,
-           exact);
-    for (int i = 0; i < SAMPLES; i++)
+    printf("%s %u %016" PRIx64 " %016" PRIx64 " %u", name, (unsigned)b->load,
+           common, exact, (unsigned)b->calls);
+    for (int i = 0; i < (b->once ? 1 : SAMPLES); i++)
         printf(" %.1f", spent[i]);
     printf("\n");
 }
 
-/* Asks whether the store holds what it must; prints and saves. */
-static int conclude(struct bench *b, const struct phase *phase,
-                    const char *images, const double *spent)
+/* Asks whether the store holds what it must; prints and saves. Not inlined:
+ * count.sh takes its entry for the end of a phase. */
+static __attribute__((noinline)) int
+conclude(struct bench *b, const struct phase *phase, const char *images,
+         const double *spent)
 {
     uint64_t exact = 0;
 
-    if (b->wrong || !model_holds(&b->model, &b->common, &exact)) {
+    if (b->wrong ||
+        (!b->once && !model_holds(&b->model, &b->common, &exact))) {
         fprintf(stderr, "%s at %u %%: a wrong answer or content\n",
                 phase->name, (unsigned)b->load);
         return 0;
@@ -345,9 +362,9 @@ static int run_phase(struct bench *b, const struct phase *phase,
     int good;
 
     b->common = 0;
-    for (int i = 0; i < (phase->sampled ? SAMPLES : 1); i++) {
+    for (int i = 0; i < (phase->sampled && !b->once ? SAMPLES : 1); i++) {
         take_turn(b);
-        spent[i] = phase->run(b);
+        spent[i] = phase->run(b) / b->calls;
         end_turn(b);
     }
     take_turn(b);
@@ -399,6 +416,8 @@ static int read_options(struct options *o, char **argv)
             o->turns = 1;
         else if (strcmp(name, "--fewer") == 0)
             o->fewer = (uint32_t)strtoul(value, NULL, 10);
+        else if (strcmp(name, "--once") == 0)
+            o->once = 1;
         else
             return 0;
     }
@@ -422,7 +441,7 @@ static int prepare(struct bench *b, const struct options *o)
 
 int main(int argc, char **argv)
 {
-    struct options o = { 1, 0, 0, NULL, NULL, 0, 1 };
+    struct options o = { 1, 0, 0, NULL, NULL, 0, 1, 0 };
     struct bench b = { .load = 0 };
     int at = read_options(&o, argv), good;
 
@@ -433,6 +452,7 @@ int main(int argc, char **argv)
     }
     b.turns = o.turns;
     b.fewer = o.fewer;
+    b.once = o.once;
     take_turn(&b);
     good = prepare(&b, &o);
     end_turn(&b);

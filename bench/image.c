@@ -7,7 +7,7 @@
 #include "../tests/calls.h"
 #include "store.h"
 
-enum { PAGE = 4096, IMAGE_MAX = 16777216, TABLE = 2048, SEED = 0 };
+enum { PAGE = 4096, IMAGE_MAX = 1073741824, TABLE = 2048, SEED = 0 };
 enum { NEW = 1, REPLACE = 2, APPEND = 3 };
 
 static uint8_t *image;

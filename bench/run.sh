@@ -1,10 +1,11 @@
 #!/usr/bin/env bash
-# The benchmark: the library, plain C and four other engines, in turns.
+# The benchmark: the library, plain C, tuned C and four other engines, in turns.
 #
 #   bench/run.sh             writes docs/PERFORMANCE.md and docs/performance.svg
 #   bench/run.sh --quick     a small run as a test; writes to target/bench only
 #     --seed S               of names, messages and orders (default 1)
 #     --rounds R             of three samples each
+#     --no-counts            no instructions and branches, which need valgrind
 #     --self                 plain C in the library's place, to test the
 #                            benchmark; writes to target/bench only
 #     LIB=path               of the library (default: rt staticlib station)
@@ -14,16 +15,17 @@
 set -u
 
 usage() {
-  sed -n '2,13s/^# \{0,1\}//p' "$0"
+  sed -n '2,14s/^# \{0,1\}//p' "$0"
   exit 2
 }
 
-quick=0 self=0 seed=1 rounds= given="bench/run.sh"
+quick=0 self=0 counts=1 seed=1 rounds= given="bench/run.sh"
 LIB=${LIB:-}
 while [ $# -gt 0 ]; do
   case $1 in
   --quick) quick=1 ;;
   --self) self=1 ;;
+  --no-counts) counts=0 ;;
   --seed) shift; seed=${1:-} ;;
   --rounds) shift; rounds=${1:-} ;;
   LIB=*) LIB=${1#LIB=} ;;
@@ -34,6 +36,7 @@ done
 case $seed in '' | *[!0-9]*) usage ;; esac
 [ "$quick" = 1 ] && given="$given --quick"
 [ "$self" = 1 ] && given="$given --self"
+[ "$counts" = 1 ] || given="$given --no-counts"
 given="$given --seed $seed"
 [ -n "$rounds" ] && given="$given --rounds $rounds"
 : "${rounds:=$([ "$quick" = 1 ] && echo 1 || echo 5)}"
@@ -56,7 +59,10 @@ find_library() {
   [ -f "$LIB" ]
 }
 
-.ci/install gcc g++ make util-linux libgdbm-dev libtdb-dev liblmdb-dev libkyotocabinet-dev || exit 2
+[ "$quick" = 1 ] && counts=0
+tools=()
+[ "$counts" = 1 ] && tools=(valgrind)
+.ci/install gcc g++ make util-linux "${tools[@]}" libgdbm-dev libtdb-dev liblmdb-dev libkyotocabinet-dev || exit 2
 find_library || { echo "no library"; exit 2; }
 make -s -C bench LIB="$LIB" || exit 2
 
@@ -97,15 +103,17 @@ finish() {
   exit
 }
 
-# compare_images WHAT: those of the library with plain's, byte for byte.
+# compare_images WHAT: those of the library and of tuned C with plain's, byte for byte.
 compare_images() {
-  local image
+  local image subject
   for image in "$work"/out/plain.images/*; do
-    if cmp -s "$image" "$work/out/library.images/${image##*/}"; then
-      passed=$((passed + 1))
-    else
-      fail "$1: images differ after ${image##*/}"
-    fi
+    for subject in library tuned; do
+      if cmp -s "$image" "$work/out/$subject.images/${image##*/}"; then
+        passed=$((passed + 1))
+      else
+        fail "$1: $subject's image differs after ${image##*/}"
+      fi
+    done
   done
 }
 
@@ -144,32 +152,37 @@ run_round() {
   local k n
   for n in 5507 65521; do
     for k in 4 8 16 32; do
-      run images "$1" $k $n "plain library again" "$image_plan"
+      run images "$1" $k $n "plain tuned library again" "$image_plan"
       run engines "$1" $k $n "$engines" "$engine_plan"
     done
   done
-  run by-load "$1" 16 65521 "plain library" "$load_plan"
+  run by-load "$1" 16 65521 "tuned library" "$load_plan"
   for n in 1000 2000 4000 8000 16000 32000 65536; do
-    run by-slots "$1" 16 $n "plain library" "fill:50 hit miss"
+    run by-slots "$1" 16 $n "tuned library" "fill:50 hit miss"
   done
 }
 
 run_quick_round() {
   local k n
   for k in 4 8 16 32; do
-    run images "$1" $k 5507 "plain library again" "$image_plan"
+    run images "$1" $k 5507 "plain tuned library again" "$image_plan"
   done
-  run images "$1" 16 65521 "plain library again" "$short_plan"
+  run images "$1" 16 65521 "plain tuned library again" "$short_plan"
   run engines "$1" 16 5507 "$engines" "$engine_plan"
-  run by-load "$1" 16 5507 "plain library" "$load_plan"
+  run by-load "$1" 16 5507 "tuned library" "$load_plan"
   for n in 1000 4000 16000; do
-    run by-slots "$1" 16 $n "plain library" "fill:50 hit miss"
+    run by-slots "$1" 16 $n "tuned library" "fill:50 hit miss"
   done
 }
 
 for round in $(seq "$rounds"); do
   if [ "$quick" = 1 ]; then run_quick_round "$round"; else run_round "$round"; fi
 done
+
+if [ "$counts" = 1 ]; then
+  bench/count.sh 4,8,16,32 5507,65521 plain,tuned,library "$seed" >>"$results" || fail "the instructions were not counted"
+  echo "done: counts ($SECONDS s)"
+fi
 
 read -r same different < <(awk -f bench/compare.awk "$results") || fail "the answers were not compared"
 passed=$((passed + same))
@@ -186,11 +199,11 @@ pages=docs
 if [ "$quick" = 1 ] || [ "$self" = 1 ] || [ "$failed" -gt 0 ]; then pages=$bin; fi
 mkdir -p "$pages"
 cp "$results" "$bin/results"
-awk -v rounds="$rounds" -v command="$given" -v seed="$seed" -v files="$files_say" \
+awk -v rounds="$rounds" -v head=bench/head.md -v tried=bench/tried.md -v command="$given" -v seed="$seed" -v files="$files_say" \
   -v machine="Machine: $(nproc) cores, $(uname -m), gcc $(gcc -dumpfullversion)" \
   -v engines="Engines: gdbm $(version libgdbm-dev), tdb $(version libtdb-dev), LMDB $(version liblmdb-dev), Kyoto Cabinet $(version libkyotocabinet-dev)" \
   -f bench/table.awk "$results" >"$pages/PERFORMANCE.md" || fail "the page"
 awk -f bench/plot.awk "$results" >"$pages/performance.svg" || fail "the plot"
-grep -E '^(Library|Noise)' "$pages/PERFORMANCE.md"
+grep -E '^(Library|Noise|Instructions|Branches)' "$pages/PERFORMANCE.md"
 echo "written: $pages/PERFORMANCE.md, $pages/performance.svg"
 finish

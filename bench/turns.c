@@ -5,7 +5,7 @@
  *
  * turns BIN FILES OUT SUBJECT.. -- ARGUMENT..
  * Each runs BIN/SUBJECT on the file FILES/SUBJECT and writes to OUT/SUBJECT;
- * "again" is the program plain. With --images as the first argument, images go
+ * "again" is the program tuned. With --images as the first argument, images go
  * to the directories OUT/SUBJECT.images, but for "again". Ends with 1 if one
  * has failed. */
 #define _POSIX_C_SOURCE 200809L
@@ -58,7 +58,7 @@ static void become(const struct places *p, const char *name, char **arguments)
     char *argv[ARGUMENTS_MAX + 8];
     int count = 0, is_again = strcmp(name, "again") == 0;
 
-    argv[count++] = join(p->bin, is_again ? "plain" : name, "");
+    argv[count++] = join(p->bin, is_again ? "tuned" : name, "");
     argv[count++] = "--file";
     argv[count++] = join(p->files, name, "");
     argv[count++] = "--turns";

@@ -33,9 +33,9 @@ extern "C" {
 /* ---- limits ---- */
 
 #define BHTF_PAGE 4096u             /* an image's length is a multiple of it */
-#define BHTF_IMAGE_MAX 16777216u    /* bytes in the longest image */
+#define BHTF_IMAGE_MAX 1073741824u  /* bytes in the longest image */
 #define BHTF_KEY_MAX 32u            /* bytes in the longest key */
-#define BHTF_SLOTS_MAX 65536u       /* slots in the largest table */
+#define BHTF_SLOTS_MAX 1048576u     /* slots in the largest table */
 #define BHTF_SLOTS_DEFAULT 5507u    /* what create makes of 0 slots */
 #define BHTF_MESSAGE_MAX 16777215u  /* bytes in the longest message */
 #define BHTF_MESSAGE_HEADER 4u      /* bytes that a message takes besides */
@@ -52,7 +52,7 @@ extern "C" {
 #define BHTF_BAD_LENGTH 1u     /* image not a multiple of a page, or not from
                                   one page to BHTF_IMAGE_MAX bytes long */
 #define BHTF_BAD_KEY_SIZE 2u   /* create: key size not from 1 to 32 */
-#define BHTF_BAD_SLOTS 3u      /* create: more than 65,536 slots */
+#define BHTF_BAD_SLOTS 3u      /* create: more than BHTF_SLOTS_MAX slots */
 #define BHTF_TABLE_TOO_BIG 4u  /* create: the table does not fit */
 #define BHTF_BAD_VERSION 5u    /* no such file, or a version unknown here */
 #define BHTF_BAD_HEADER 6u     /* the header's numbers do not fit */
@@ -99,7 +99,10 @@ uint32_t bhtf_add(uint8_t *image, size_t image_len, const uint8_t *key,
  * to other slots. Refused with 1, 5, 6, 7, 14 and 11.
  * Time: in a table of N slots made by these calls it inspects at most 2N - 1
  * slots. In an arbitrary full table, as a file made by others may hold (a
- * sound one too), it can be N * N - N + 1. */
+ * sound one too), it can be N * N - N + 1: some 4 * 10^9 at 65,536 slots, some
+ * 10^12 at 1,048,576, which is hours. In a full table it is exactly N + the
+ * sum of displacements before - the sum after; a key's displacement is how
+ * many slots behind the one that its hash names it stands, wrapping. */
 uint32_t bhtf_delete(uint8_t *image, size_t image_len, const uint8_t *key,
                      size_t key_len);
 
@@ -121,10 +124,15 @@ uint32_t bhtf_walk(const uint8_t *image, size_t image_len, uint32_t from,
                    uint32_t *slot, uint32_t *key_offset);
 
 /* Says whether the image is sound: *verdict is BHTF_SOUND when every key is
- * found by its search in its own slot, every message is whole and the count
- * is right; BHTF_SLOT_FAILS names in *slot the lowest slot where not;
- * BHTF_COUNT_FAILS says that only the count is wrong. Each key is searched,
- * so a damaged full table can take N * N slots. Refused with 1, 5 and 6. */
+ * found by its search in its own slot, every message is whole, none shares a
+ * byte with another (its header counts, and a withdrawn message that a key
+ * keeps is one too), and the count is right. BHTF_SLOT_FAILS names in *slot the
+ * lowest slot where not; of two that share bytes that is the higher one.
+ * BHTF_COUNT_FAILS says that only the count is wrong. Refused with 1, 5 and 6.
+ * Time: as long as the table and the messages are; but each key is searched, so
+ * a damaged full table can take N * N slots.
+ * Stack: up to 300 KiB (307,200 bytes), which a small thread may not have; the
+ * other calls take little. */
 uint32_t bhtf_check(const uint8_t *image, size_t image_len,
                     uint32_t *verdict, uint32_t *slot);
 

@@ -182,22 +182,24 @@ gives "a new file has no points" 0 '^0$' bhtf count a
 gives "create leaves an existing file alone" 2 'already is a file' bhtf create a
 gives "the existing file is as it was" 0 '^sound: 0 points$' bhtf check a
 gives "refused 1 at create" 1 'refused \(1\)' bhtf create b --size 4095
-gives "refused 1 above the limit" 1 'refused \(1\)' bhtf create b --size 16781312
+gives "refused 1 above the limit" 1 'refused \(1\)' bhtf create b --size 1073745920
 gives "refused 2 at create" 1 'refused \(2\)' bhtf create b --key-size 33
 gives "refused 2 for key size 0" 1 'refused \(2\)' bhtf create b --key-size=0
-gives "refused 3 at create" 1 'refused \(3\)' bhtf create b --slots 65537
+gives "refused 3 at create" 1 'refused \(3\)' bhtf create b --slots 1048577
 gives "refused 4 at create" 1 'refused \(4\)' bhtf create b --slots 5507 --size 4096
 gives "create in no directory" 2 'cannot create' bhtf create no/b
 holds "no file is left behind" test ! -e b
 gives "create with every option" 0 '' \
   bhtf create b --key-size 4 --slots=256 --seed 0xFFFFFFFF --size 8192
 same "its length" 8192 "$(stat -c %s b)"
-gives "the largest file" 0 '' bhtf create big --slots 65536 --key-size 32
-same "its length" 16777216 "$(stat -c %s big)"
-gives "the largest file is sound" 0 'sound: 0' bhtf check big
+gives "the old limit of slots" 0 '' bhtf create old --slots 65536 --key-size 32
+same "its usual length" 19140608 "$(stat -c %s old)"
+gives "the largest table" 0 '' bhtf create big --slots 1048576 --key-size 32 --size 37752832
+same "its length" 37752832 "$(stat -c %s big)"
+gives "the largest table is sound" 0 'sound: 0' bhtf check big
 bhtf create c --key-size 4 --slots 256 --seed 4294967295 --size 8192
 holds "equal arguments make equal files" cmp b c
-rm -f b c big
+rm -f b c big old
 
 # ---- add, get, delete ----
 
@@ -270,6 +272,11 @@ gives "stat: load" 0 'load: 4 points in 5507 slots, 0\.1 %' bhtf stat names
 gives "stat: histogram" 0 '^ +1 +4 #+$' bhtf stat names
 bhtf add names big 0123456789
 bhtf delete names big
+gives "stat: displacements" 0 '^displacements: 0 slots together$' bhtf stat names
+bhtf create full --key-size 1 --slots 2 --size 8192
+bhtf add full a x
+bhtf add full b x
+gives "stat: a full table" 0 '^the table is full: a delete looks at up to [23] slots$' bhtf stat full
 gives "stat: dead bytes" 0 'dead: 14 bytes' bhtf stat names
 
 # ---- import and export ----
@@ -341,7 +348,6 @@ head -c 4095 a >short
 head -c 8192 /dev/zero >zeros
 head -c 8192 /dev/urandom >random
 head -c 114688 a >clipped
-head -c 16781312 /dev/zero >long
 cp a version
 printf '\001\000\002' | dd of=version bs=1 seek=5 conv=notrunc status=none
 cp a header
@@ -357,13 +363,17 @@ while read -r number file; do
 done <<'LIST'
 1 empty
 1 short
-1 long
 5 zeros
 5 random
 5 version
 6 clipped
 6 header
 LIST
+# A page more than 1 GiB, of which no block is written.
+truncate -s 1073745920 long
+gives "long: count refused 1" 1 'refused \(1\)' bhtf count long
+gives "long: add refused 1" 1 'refused \(1\)' bhtf add long n t
+same "no block of it is written" 0 "$(stat -c %b long)"
 # With standard error closed the file must not be opened in its place, and the
 # message written into it.
 cp header before
@@ -391,6 +401,34 @@ gives "stat says damaged" 1 'damaged' bhtf stat damaged
 cp a damaged
 printf '\000\000\000\011' | dd of=damaged bs=1 seek=20 conv=notrunc status=none
 gives "check names the count" 1 'count of 9 points is wrong' bhtf check damaged
+
+# Two points on one message. Their texts stand from 4096 and 4105 on, each behind a header of 4 bytes.
+bhtf create apart --key-size 1 --slots 8 --size 8192 --quiet
+bhtf add apart a first
+bhtf add apart b second
+read -r low high < <(bhtf list apart --long | awk '{ print $1, $3 }' | sort -n | awk '{ printf "%s:%s ", $1, $2 }')
+# at FILE PLACE BYTES: written over, as printf takes them
+at() { printf "$3" | dd of="$1" bs=1 seek="$2" conv=notrunc status=none; }
+both="slot ${high%:*} \\(${high#*:}\\) and slot ${low%:*} \\(${low#*:}\\) share"
+gives "texts that touch share nothing" 0 '^sound: 2 points$' bhtf check apart
+cp apart joined
+for slot in "${low%:*}" "${high%:*}"; do at joined $((2048 + slot * 5 + 1)) '\000\000\020\000'; done
+gives "two points on one text: both are named" 1 "^unsound: $both bytes 4096 to 4104 of the file$" bhtf check joined
+gives "and what to do" 1 'bhtf dump FILE \| bhtf load NEW' bhtf check joined
+same "but not with --quiet" 1 "$(bhtf check joined --quiet | wc -l)"
+gives "stat does not guess" 1 'dead: unknown' bhtf stat joined
+gives "and says whom to ask" 1 '^unsound: bhtf check' bhtf stat joined
+holds "dump and load part them" sh -c 'bhtf dump joined | bhtf load parted --quiet'
+gives "the new file is sound" 0 '^sound: 2 points$' bhtf check parted
+same "and each point has the text" "first first" "$(bhtf get parted a) $(bhtf get parted b)"
+cp apart reaching
+at reaching 4099 '\006'
+gives "one byte shared" 1 "^unsound: $both byte 4105 of the file$" bhtf check reaching
+bhtf add reaching b '' --replace
+gives "by a withdrawn text too" 1 "$both byte 4105" bhtf check reaching
+cp apart lost
+at lost $((2048 + ${high%:*} * 5)) "${low#*:}"
+gives "a name that stands twice" 1 "^unsound: slot ${high%:*} \\(${low#*:}\\) is not found by its name$" bhtf check lost
 
 # Random damage, under the sanitizers: status 0 or 1 and no report.
 bhtf create site --key-size 8 --slots 31 --size 12288

@@ -8,6 +8,7 @@
 #include <string.h>
 
 enum { REPEAT_COUNT = 5, TABLE_SIZE = 5033, KEY_SIZE = 4, TEXT = 188 };
+enum { FILE_SIZE = 16777216 };
 
 struct results {
     int passed;
@@ -96,7 +97,7 @@ static struct round each_name(struct image *i, const char *text,
 
 static int create(struct results *r, struct image *i, const char *path)
 {
-    int made = image_create(i, path, BHTF_IMAGE_MAX) == 0;
+    int made = image_create(i, path, FILE_SIZE) == 0;
 
     test(r, made, "the file is created");
     if (!made)

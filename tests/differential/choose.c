@@ -127,6 +127,8 @@ static size_t choose_length(uint32_t name)
     int64_t room = room_left();
     uint32_t style = below(64);
 
+    if (lent.length > MIB16 && one_in(3))
+        return very_long(last);
     if (style < 10)
         return 0;
     if (style < 28)
@@ -189,13 +191,16 @@ uint32_t choose_slots(void)
         60, 63, 128, 200, 255, 256, 257, 291, 292, 341, 342, 409, 410
     };
     static const uint32_t large[] = { 0, 0, 5507, 65535, 65536 };
+    static const uint32_t largest[] = { 65537, SLOTS_MAX - 1, SLOTS_MAX };
     uint32_t style = below(512);
 
     if (style < 440)
         return 1 + below(8);
     if (style < 500)
         return 9 + below(32);
-    return style < 511 ? PICK(edges) : PICK(large);
+    if (style < 511)
+        return PICK(edges);
+    return one_in(4) && !run.old_limits ? PICK(largest) : PICK(large);
 }
 
 void choose_shape(uint32_t *key_size, uint32_t *slots)
@@ -234,6 +239,6 @@ size_t wrong_image_length(void)
                            l + 1, l / 2 + 1, l - 4095, l + 2048 };
 
     if (one_in(200))
-        return MIB16 + PAGE;
+        return GIB + PAGE;
     return PICK(lengths);
 }

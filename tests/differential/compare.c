@@ -117,6 +117,13 @@ static void compare_bytes(const struct call *c, uint32_t number)
         fail("bytes outside the image changed");
 }
 
+/* Damage may bring N above the old limit but not above the new one. */
+static void keep_old_limits(void)
+{
+    if (lent.length >= PAGE && field(16) > OLD_SLOTS && field(16) <= SLOTS_MAX)
+        poke32(16, OLD_SLOTS);
+}
+
 struct answer run_call(void)
 {
     const struct call *c = &list.now;
@@ -125,6 +132,8 @@ struct answer run_call(void)
     size_t kept = c->key_len < sizeof key ? c->key_len : sizeof key;
 
     run.calls++;
+    if (run.old_limits)
+        keep_old_limits();
     if (c->key != NULL)
         memcpy(key, c->key, kept);
     a = perform(&subject, lent.library, c);

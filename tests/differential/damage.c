@@ -11,7 +11,8 @@ static void damage_field(void)
     uint32_t ends[] = { data - 1, data, data + 5, lent.length,
                         lent.length + 1, data - 4, data - PAGE };
     uint32_t values[] = {
-        0, 1, 2, 31, 32, 33, 126, 255, 256, 65536, 65537,
+        0, 1, 2, 31, 32, 33, 126, 255, 256, OLD_SLOTS, SLOTS_MAX,
+        OLD_SLOTS + 1, SLOTS_MAX + 1,
         field(at) + 1, field(at) - 1, field(at) ^ 0x80000000u,
         field(at) ^ 1u << below(32), field(16), field(16) - 1,
         data, data - 1, data + 5, data + 20, lent.length,

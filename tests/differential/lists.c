@@ -43,6 +43,14 @@ static void close_list(void)
     walk_all();
 }
 
+/* Now and then as long as the old limit, or long enough for question 12. */
+static uint32_t list_length(uint32_t data)
+{
+    if (data > MIB16 || !one_in(4000))
+        return choose_image_length(data);
+    return one_in(2) || run.old_limits ? MIB16 : 4 * MIB16;
+}
+
 void list_from_create(void)
 {
     static const uint8_t usual[] = { 0, 52, 72, 87, 90, 94, 98 };
@@ -56,8 +64,7 @@ void list_from_create(void)
     list.key_size = k;
     list.slots = n == 0 ? 5507 : n;
     choose_names();
-    set_length(one_in(4000) ? MIB16
-                            : choose_image_length(data_offset(k, n)));
+    set_length(list_length(data_offset(k, n)));
     old_content();
     if (one_in(6))
         step_create();

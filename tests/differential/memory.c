@@ -8,7 +8,7 @@
 #include <string.h>
 #include <sys/mman.h>
 
-#define ROOM (MIB16 + 16 * PAGE) /* bytes kept for one image */
+#define ROOM (GIB + 16 * PAGE) /* bytes kept for one image */
 
 struct lent lent;
 uint8_t *data_start;
@@ -23,10 +23,11 @@ static void *map(size_t size, int flags)
     return at == MAP_FAILED ? NULL : at;
 }
 
-/* The end of size writable bytes, with an unreadable page behind. */
+/* The end of size writable bytes, with an unreadable page behind. Only what is
+ * touched takes memory. */
 static uint8_t *map_before_wall(size_t size)
 {
-    uint8_t *at = map(size + PAGE, 0);
+    uint8_t *at = map(size + PAGE, MAP_NORESERVE);
 
     if (at == NULL || mprotect(at + size, PAGE, PROT_NONE) != 0) {
         fprintf(stderr, "no memory\n");
@@ -69,7 +70,7 @@ void map_all(void)
 {
     lent.library_end = map_before_wall(ROOM);
     lent.plain_end = map_before_wall(ROOM);
-    lent.before = map(ROOM, 0);
+    lent.before = map(ROOM, MAP_NORESERVE);
     key_end = map_before_wall(PAGE);
     map_data();
 }
@@ -94,8 +95,12 @@ void share_image(void)
 
 void old_content(void)
 {
-    memcpy(lent.library, data_start + below(POOL - lent.length + 1),
-           lent.length);
+    uint32_t piece;
+
+    for (uint32_t at = 0; at < lent.length; at += piece) {
+        piece = lent.length - at < MIB16 ? lent.length - at : MIB16;
+        memcpy(lent.library + at, data_start + below(POOL - piece + 1), piece);
+    }
     share_image();
 }
 

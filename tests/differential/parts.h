@@ -7,6 +7,9 @@
 
 #define PAGE 4096u
 #define MIB16 16777216u
+#define GIB 1073741824u    /* the longest image */
+#define SLOTS_MAX 1048576u /* the largest table */
+#define OLD_SLOTS 65536u   /* the same before 02; images ended at MIB16 */
 #define POOL (MIB16 + 64 * PAGE) /* random bytes for data and old content */
 #define TAIL (64 * PAGE)         /* the same at the end of the data */
 #define GUARD 64u
@@ -47,6 +50,7 @@ struct run {
     unsigned long seconds;
     int quiet;
     int strict;
+    int old_limits; /* images and tables within document 01's limits alone */
 };
 extern struct run run;
 
@@ -180,6 +184,9 @@ void step_create(void);
 /* Any call on a slice of an unlawful length. */
 void step_wrong_length(void);
 
+/* Any call but create on a slice of the largest length; it holds no image. */
+void step_longest(void);
+
 /* Every name once, in mode 1: a full table early on. */
 void add_all_names(void);
 
@@ -210,11 +217,12 @@ void ring_image(void);
 void grown_image(void);
 void random_image(void);
 
-/* ---- damage.c, lists.c ---- */
+/* ---- damage.c, splice.c, lists.c ---- */
 
 void damage(void);
 
 void list_from_create(void);
 void list_on_damage(void);
+void list_on_splice(void);
 
 #endif

@@ -45,8 +45,18 @@ void step_wrong_length(void)
     choose_data(NAMES);
     list.now.mode = choose_mode();
     list.now.key_size = one_in(2) ? list.key_size : 33 * below(2);
-    list.now.slots = one_in(2) ? list.slots : 65537;
+    list.now.slots = one_in(2) ? list.slots : SLOTS_MAX + 1;
     list.now.image_len = wrong_image_length();
+    run_call();
+}
+
+void step_longest(void)
+{
+    new_call((enum kind)(ADD + below(KINDS - ADD)));
+    choose_key();
+    choose_data(NAMES);
+    list.now.mode = choose_mode();
+    list.now.image_len = GIB;
     run_call();
 }
 
@@ -80,12 +90,17 @@ void step_create(void)
 {
     static const uint32_t sizes[] = { 0,  33,   34,          64,
                                       32, 4096, 0x80000001u, 0xFFFFFFFFu };
-    static const uint32_t slots[] = { 0,     256,    410,         5033,
-                                      65536, 65537,  0x10001u,    131072,
-                                      65535, 100000, 0x80000001u, 0xFFFFFFFFu };
+    static const uint32_t slots[] = {
+        0,         256,           410,           5033,
+        OLD_SLOTS, OLD_SLOTS - 1, SLOTS_MAX + 1, 0x80000001u,
+        0x200000u, 0xFFFFFFFFu,   OLD_SLOTS + 1, 131072,
+        SLOTS_MAX, SLOTS_MAX - 1, 100000,        0x100001u
+    };
     uint32_t k = one_in(3) ? PICK(sizes) : choose_key_size();
     uint32_t n = one_in(2) ? PICK(slots) : choose_slots();
 
+    if (run.old_limits && n > OLD_SLOTS && n <= SLOTS_MAX)
+        n = OLD_SLOTS;
     create(k, n);
 }
 
@@ -127,6 +142,8 @@ void step(const uint8_t *weights)
         step_plain(CHECK);
     else if (one_in(3))
         step_create();
+    else if (one_in(8) && !list.with_book && !run.old_limits)
+        step_longest();
     else
         step_wrong_length();
 }

@@ -157,6 +157,7 @@ module _ (img : Bytes) (bytes : AreBytes img) (ok : check img ≡ sound) where
             let w′ = entry-slot g img key′ s′ some-slot a′ e′ in
             subst (λ (x : Bytes). Beside x s′) (w .4)
             (subst (Beside (slot g img (w .0))) (w′ .4)
-            (slots-beside (w .0) (w′ .0) (w .1) (w′ .1) (w .2) (w′ .2) (λ q. n (sym (w .3) ∙ ap (keyAt g img) q ∙ w′ .3))
+            (slots-beside (w .0) (w′ .0) (w .1) (w′ .1) (w .2) (w′ .2)
+            (λ q. n (sym (w .3) ∙ ap (keyAt g img) q ∙ w′ .3))
             (λ q. z (ap (offsetOf g) (sym (w .4)) ∙ q)) (λ q. z′ (ap (offsetOf g) (sym (w′ .4)) ∙ q))));
       }

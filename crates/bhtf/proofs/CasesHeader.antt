@@ -65,15 +65,15 @@ create-over = refl
 abbrev pub Leaves : ℕ → Bytes → ℕ → ℕ → Type 0
 Leaves n img K N = create img K N 0 ≡ record { after = img; answer = refused n }
 
-pub create-1 : Leaves 1 (sevens 4095) 0 65537 × Leaves 1 [] 1 4
+pub create-1 : Leaves 1 (sevens 4095) 0 1048577 × Leaves 1 [] 1 4
 unfolding definitions sevens
 create-1 = (refl, refl)
 
-pub create-2 : Leaves 2 (sevens 4096) 0 65537 × Leaves 2 (sevens 4096) 33 65537
+pub create-2 : Leaves 2 (sevens 4096) 0 1048577 × Leaves 2 (sevens 4096) 33 1048577
 unfolding definitions sevens
 create-2 = (refl, refl)
 
-pub create-3 : Leaves 3 (sevens 4096) 1 65537
+pub create-3 : Leaves 3 (sevens 4096) 1 1048577
 unfolding definitions sevens
 create-3 = refl
 
@@ -83,9 +83,9 @@ unfolding definitions sevens
 create-4 = (refl, refl)
 
 -- the sizes at the edges of 1 to 4
-pub create-edges : (createNumber 4096 1 409 ≡ 0) × (createNumber 16777216 32 65536 ≡ 0)
-    × (createNumber 16781312 1 4 ≡ 1) × (createNumber 8193 1 4 ≡ 1) × (createNumber 0 1 4 ≡ 1)
-    × (createNumber 16777216 33 4 ≡ 2) × (createNumber 16777216 1 65537 ≡ 3) × (createNumber 4096 1 410 ≡ 4)
+pub create-edges : (createNumber 4096 1 409 ≡ 0) × (createNumber 1073741824 32 1048576 ≡ 0)
+    × (createNumber 1073745920 1 4 ≡ 1) × (createNumber 8193 1 4 ≡ 1) × (createNumber 0 1 4 ≡ 1)
+    × (createNumber 1073741824 33 4 ≡ 2) × (createNumber 1073741824 1 1048577 ≡ 3) × (createNumber 4096 1 410 ≡ 4)
 unfolding definitions
 create-edges = (refl, refl, refl, refl, refl, refl, refl, refl)
 
@@ -170,7 +170,7 @@ pub free-edges : (openNumber (setField (headed 1 4 8192) freeField 8192) ≡ 0)
 unfolding headed
 free-edges = (refl, refl, refl)
 
--- "N from 1 to 65,536": one more is refused, though D fits it
-pub slots-65537 : headerSound (headed 1 65537 331776) ≡ false
+-- 02: "N up to 1,048,576": one more is refused, though D fits it
+pub slots-1048577 : headerSound (headed 1 1048577 5246976) ≡ false
 unfolding headed
-slots-65537 = refl
+slots-1048577 = refl

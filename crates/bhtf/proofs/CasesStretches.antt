@@ -73,6 +73,7 @@ unfolding all placed slotAt
 lowest-named = refl
 
 -- an offset in an empty slot, and a taken slot without an offset
-none-there : lowest (meetsLower g (slotAt 4 0 (putSlot g (placed 3 2112 6 empty) 7 (slotBytes (0 ∷ []) 2112)))) 10 0 ≡ none
+none-there : lowest (meetsLower g (slotAt 4 0 (putSlot g (placed 3 2112 6 empty) 7 (slotBytes (0 ∷ []) 2112)))) 10 0
+    ≡ none
 unfolding all placed slotAt
 none-there = refl

@@ -91,7 +91,8 @@ module _ (g : Layout) (img : Bytes) where
           let a = start-some i ti zi in
           let b = start-some j tj zj in
           let e = le-ltb (stretchStart g img j) (stretchEnd g img i) (omega (arith, a .1, b .0)) in
-          unfold meets in rw e (by-bool (ltb (stretchStart g img i) (stretchEnd g img j)) (λ c. rw c refl) (λ c. rw c refl))
+          unfold meets in
+          rw e (by-bool (ltb (stretchStart g img i) (stretchEnd g img j)) (λ c. rw c refl) (λ c. rw c refl))
       both i j ti tj zi zj (inr h) =
           let a = start-some i ti zi in
           let b = start-some j tj zj in

@@ -147,7 +147,8 @@ module _ (img : Bytes) (ok : check img ≡ sound) where
 
   check-entry : (i : ℕ) → i < layoutOf img .N → Taken (layoutOf img) img i → entrySound (layoutOf img) img i ≡ true
   unfolding slotSound
-  check-entry i l t = and-left (entrySound (layoutOf img) img i) (not (meetsLower (layoutOf img) img i)) (check-slot i l t)
+  check-entry i l t =
+      and-left (entrySound (layoutOf img) img i) (not (meetsLower (layoutOf img) img i)) (check-slot i l t)
 
   -- its stretch meets no lower-numbered slot's
   pub check-apart : (i : ℕ) → i < layoutOf img .N → Taken (layoutOf img) img i → meetsLower (layoutOf img) img i ≡ false

@@ -75,10 +75,10 @@ unfoldable pub entrySound : Layout → Bytes → ℕ → Bool
 entrySound g img i =
     endsAt (search g img (keyOf g (slot g img i))) i && messageSound g img (offsetOf g (slot g img i))
 
--- Document 02, Job 1: "Now a taken slot with an offset other than 0 also fails the check when its stretch, from its header
--- to the end of its message, meets the stretch of a lower-numbered taken slot." Inactive messages have stretches too; equal
--- offsets meet, and a stretch that begins where another ends does not. Start and end are 0 where a slot has no stretch, so
--- that it meets none.
+-- Document 02, Job 1: "Now a taken slot with an offset other than 0 also fails the check when its stretch, from its
+-- header to the end of its message, meets the stretch of a lower-numbered taken slot." Inactive messages have stretches
+-- too; equal offsets meet, and a stretch that begins where another ends does not. Start and end are 0 where a slot has
+-- no stretch, so that it meets none.
 unfoldable pub stretchStart : Layout → Bytes → ℕ → ℕ
 stretchStart g img i = cond (taken g img i) (offsetOf g (slot g img i)) 0
 
@@ -109,8 +109,8 @@ unfoldable pub slotFails : Layout → Bytes → ℕ → Bool
 slotFails g img i = taken g img i && not (slotSound g img i)
 
 -- "The check says sound when each taken slot's key, searched, ends there, its message passes 11, and C is the number of
--- taken slots. Else it names the lowest failing slot, or, if only C fails, the count." A slot fails for any of the three
--- reasons.
+-- taken slots. Else it names the lowest failing slot, or, if only C fails, the count." A slot fails for any of the
+-- three reasons.
 pub data Verdict : Type 0 where
   refused : ℕ → Verdict
   sound : Verdict

@@ -1,21 +1,22 @@
--- The numbers that document 01 fixes, each in one place: limits, version, header offsets and defaults.
+-- The numbers that documents 01 and 02 fix, each in one place: limits, version, header offsets and defaults.
 -- Assumes nothing.
 use Prim.Native.Nat.{ℕ, _-_, _^_}
 use mathlib.Core.List.{[], _∷_}
 use Rattle.bhtf.specs.Bytes.{Bytes}
 
--- ---- limits of an image, a key and a table (questions 1 to 3 and 6)
+-- ---- limits of an image, a key and a table (questions 1 to 3 and 6). 02: "Images may be up to 1,073,741,824 bytes and
+-- N up to 1,048,576"
 abbrev pub pageSize : ℕ
 pageSize = 4096
 
 abbrev pub mostImage : ℕ
-mostImage = 16777216
+mostImage = 1073741824
 
 abbrev pub mostKey : ℕ
 mostKey = 32
 
 abbrev pub mostSlots : ℕ
-mostSlots = 65536
+mostSlots = 1048576
 
 -- the last character value that may be scrambled
 abbrev pub mostCharacter : ℕ

@@ -26,7 +26,8 @@ unfoldable pub firstNo : List Question → ℕ
 firstNo [] = 0
 firstNo (q ∷ qs) = cond (q .yes?) (firstNo qs) (q .asked)
 
--- "1. Is L a multiple of 4,096 from 4,096 to 16,777,216?"
+-- "1. Is L a multiple of 4,096 from 4,096 to 16,777,216?" 02: "Questions 1, 3 and 6 take the new limits", here
+-- "Images may be up to 1,073,741,824 bytes"
 unfoldable pub sizeAllowed : ℕ → Bool
 sizeAllowed L = eqb (L % pageSize) 0 && leb pageSize L && leb L mostImage
 
@@ -34,7 +35,7 @@ sizeAllowed L = eqb (L % pageSize) 0 && leb pageSize L && leb L mostImage
 unfoldable pub keyAllowed : ℕ → Bool
 keyAllowed K = leb 1 K && leb K mostKey
 
--- "3. Is N at most 65,536?"
+-- "3. Is N at most 65,536?" 02: "N up to 1,048,576"
 unfoldable pub slotsAllowed : ℕ → Bool
 slotsAllowed N = leb N mostSlots
 
@@ -48,7 +49,8 @@ versionKnown img =
     same (part img 0 5) magic && eqb (getD img 5 0) major && eqb (getD img 6 0) minor && leb (getD img 7 0) patch
 
 -- "6. Is K from 1 to 32, N from 1 to 65,536, C at most N, F ≤ E ≤ 255, are the scramble and table offsets as above, is
--- D by its formula, and D ≤ X ≤ L?" After question 1 no field within these bounds has its top bit set: `top-bit`.
+-- D by its formula, and D ≤ X ≤ L?" 02: "N up to 1,048,576". After question 1 no field within these bounds has its top
+-- bit set: `top-bit`.
 unfoldable pub headerSound : Bytes → Bool
 headerSound img =
     keyAllowed (field img keyField)

@@ -1,28 +1,28 @@
 -- The hash, byte by byte, as the code takes it.
---     hashStep-below, hashStep-above, hashStep-within     a step, by where the byte lies
+--     hashStep-outside, hashStep-within                   a step, by where the byte lies
 --     hashFrom-step, hashFrom-end                         the hash of the bytes left from i on
 -- Assumes nothing.
 use Prim.Native.Nat.{ℕ, _+_, _-_, _*_, _%_, _<_, _≤_}
 use native.Mathlib.Numerals.{add-one}
-use mathlib.Core.Bool.{and-false}
 use mathlib.Core.Path.{_≡_}
 use lib.ListN.{length, getD, drop}
 use lib.Seq.{drop-cons, drop-length}
 use lib.Dec.{leb}
 use lib.Bits.{bitXor}
-use borrow.Author.Tests.{le-leb, lt-leb}
+use borrow.Author.Tests.{le-leb, leb-true}
 use Rattle.bhtf.specs.Bytes.{Bytes}
 use Rattle.bhtf.specs.Image.{field, hashStep, hashFrom}
 use Rattle.bhtf.specs.Limits.{word}
+use Rattle.bhtf.proofs.Tests.{by-bool}
 
 module _ (multiplier F E : ℕ) (S : Bytes) where
-  pub hashStep-below : (h c x : ℕ) → x ≡ h * multiplier % word → c < F → x ≡ hashStep multiplier F E S h c
+  pub hashStep-outside : (h c x : ℕ) → x ≡ h * multiplier % word → (F ≤ c → c ≤ E → ⊥)
+      → x ≡ hashStep multiplier F E S h c
   unfolding hashStep
-  hashStep-below h c x e p = rw (lt-leb F c p) e
-
-  pub hashStep-above : (h c x : ℕ) → x ≡ h * multiplier % word → E < c → x ≡ hashStep multiplier F E S h c
-  unfolding hashStep
-  hashStep-above h c x e p = rw (lt-leb c E p, and-false (leb F c)) e
+  hashStep-outside h c x e out =
+      by-bool (leb F c)
+      (λ p. by-bool (leb c E) (λ q. absurd (out (leb-true F c p) (leb-true c E q))) (λ q. rw (p, q) e))
+      (λ p. rw p e)
 
   pub hashStep-within : (h c x y : ℕ) → x ≡ h * multiplier % word → y ≡ field S (4 * (c - F)) → F ≤ c → c ≤ E
       → bitXor x y ≡ hashStep multiplier F E S h c

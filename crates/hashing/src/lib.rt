@@ -6,20 +6,22 @@ ghost use Prim.Native.Nat.{_+_, _-_, _*_, _≤_};
 ghost use lib.ListN.{length};
 ghost use Rattle.bhtf.specs.Image.{hashStep, hashFrom};
 
-// The hash h, taken one key byte c further.
+// The hash h, taken one key byte c further. Where F is at most E, one comparison tells whether c is scrambled: below F
+// the difference wraps.
 pub fn hash_step(scramble: &[u8], multiplier: u32, first: u32, last: u32, h: u32, c: u8) -> u32
     requires { ⌜ 4 * (last - first + 1) ≤ length (now scramble) ⌝ }
     ensures { λ r. ⌜ r ≡ hashStep multiplier first last (now (scramble .entry)) h c ⌝ }
 {
     let x = mul_u32(h, multiplier);
-    let n = c as u32;
-    if n < first {
+    if last < first {
         return x;
     }
-    if last < n {
+    let span = (last - first) as usize;
+    let d = std::num::wrapping_sub_usize(c as usize, first as usize);
+    if span < d {
         return x;
     }
-    x ^ read_u32(scramble, (4 * (n - first)) as usize)
+    x ^ read_u32(scramble, 4 * d)
 }
 
 // The hash of the key, from the start value on.

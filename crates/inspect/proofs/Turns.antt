@@ -119,7 +119,9 @@ module _ (g : Layout) (img : Bytes) (slots count i : ℕ) (w : Passed g img slot
       let t′ : taken g img i ≡ true = ap (taken g img) (sym q) ∙ t in
       let s′ : entrySound g img i ≡ false = ap (entrySound g img) (sym q) ∙ s in
       record {
-        lowest-is = sym (ap (numberOr slots) (w .fails ∙ lowest-yes (entryFails g img) slots i l (fails-yes g img i t′ s′)));
+        lowest-is =
+            sym (ap (numberOr slots)
+            (w .fails ∙ lowest-yes (entryFails g img) slots i l (fails-yes g img i t′ s′)));
         counts = λ e. absurd (omega arith);
       }
 
@@ -203,7 +205,8 @@ module _ (img : Bytes) (slots : ℕ) (is-slots : layoutOf img .N ≡ slots) (bou
       ∙ ap (λ (n : ℕ). numberOr n (lowest (meetsLower g img) n 0)) (e .lowest-is)
       ∙ first-either (entryFails g img) (meetsLower g img) slots
       ∙ ap (numberOr slots)
-      (lowest-same (λ i. entryFails g img i || meetsLower g img i) (slotFails g img) (λ i. sym (fails-either g img i)) slots 0)
+      (lowest-same (λ i. entryFails g img i || meetsLower g img i) (slotFails g img)
+      (λ i. sym (fails-either g img i)) slots 0)
 
   -- the same of the layout's number of slots
   lowest-slots : lowest (slotFails g img) (g .N) 0 ≡ lowest (slotFails g img) slots 0
@@ -228,7 +231,8 @@ module _ (img : Bytes) (slots : ℕ) (is-slots : layoutOf img .N ≡ slots) (bou
   unfolding firstMeeting
   counted-all l =
       ap (λ (n : ℕ). takenFrom g img n 0) is-slots
-      ∙ sym (e .counts (omega (arith, is-first, first-low (meetsLower g img) bound, e .lowest-is, first-low (entryFails g img) slots)))
+      ∙ sym (e .counts
+      (omega (arith, is-first, first-low (meetsLower g img) bound, e .lowest-is, first-low (entryFails g img) slots)))
 
   pub verdict-sound : slots ≤ first → field img pointsField ≡ count → sound ≡ tableVerdict img
   unfolding countSound verdictOf

@@ -1,6 +1,7 @@
 -- The check's first pass: entries that fail by their search or by question 11.
 --     entryFails g img i      slot i is taken and fails so
---     EntriesPassed g img slots bound count      bound is the lowest such slot, or the number of slots; then count of them are taken
+--     EntriesPassed g img slots bound count      bound is the lowest such slot, or the number of slots, of which then
+--                                                count are taken
 -- Assumes nothing.
 use mathlib.Core.Path.{_≡_}
 use Prim.Native.Nat.{ℕ}

@@ -52,7 +52,8 @@ struct Entries {
 // One search for each taken slot; the first that fails ends it.
 fn pass_entries(image: &[u8], shape: Shape) -> Entries
     requires { ⌜ Open (now image) shape ⌝ }
-    ensures { λ r. ⌜ EntriesPassed (layoutOf (now (image .entry))) (now (image .entry)) (shape .slots) (r .bound) (r .count) ⌝ }
+    ensures { λ r. ⌜ EntriesPassed (layoutOf (now (image .entry))) (now (image .entry)) (shape .slots)
+        (r .bound) (r .count) ⌝ }
 {
     let slots = shape.slots;
     let mut count = 0;
@@ -73,7 +74,7 @@ fn pass_entries(image: &[u8], shape: Shape) -> Entries
     }
 }
 
-// The check of an accepted header's table: entries up to the first that fails, then stretches that meet below it, then C.
+// The check of an accepted header's table: entries up to the first that fails, stretches that meet below it, then C.
 fn check_table(image: &[u8], shape: Shape) -> Verdict
     requires { ⌜ Open (now image) shape ⌝ }
     ensures { λ r. ⌜ verdictIn r ≡ tableVerdict (now (image .entry)) ⌝ }

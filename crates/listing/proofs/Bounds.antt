@@ -4,13 +4,12 @@
 -- Assumes nothing.
 use mathlib.Core.Path.{_≡_, refl, ap}
 use Prim.Native.Nat.{ℕ, zero, suc, _+_, _*_, _≤_, _<_}
-use native.Mathlib.Nat.{suc-mul}
+use native.Mathlib.Nat.{suc-mul, mul-le-mul, mul-one}
 use native.Mathlib.Omega.{arith}
 use mathlib.Core.Bool.{Bool, true, cond}
 use lib.ListN.{length, length-append}
 use borrow.Author.Tests.{le-leb, lt-leb}
 use Rattle.bhtf.specs.Bytes.{Bytes}
-use Rattle.bhtf.specs.Limits.{mostSlots}
 use Rattle.bhtf.specs.Image.{layoutOf, slotSize, slot, keyOf, offsetOf}
 use Rattle.bhtf.specs.Messages.{isActive, shownLength}
 use Rattle.bhtf.specs.Questions.{sizeAllowed, versionKnown, headerSound, messageSound, openNumber}
@@ -44,11 +43,20 @@ module _ (img : Bytes) (small : length img ≤ mostListed) (open₀ : openNumber
       omega (arith, ap length (text-sound g img o o refl s m refl), decimal-5 m (shown-bound o s)))
       (λ s. omega (arith, ap length (text-bad g img o o refl s)))
 
+  -- the table lies in the image, so that its slots are no more than its bytes
+  few-slots : layoutOf img .N ≤ mostListed
+  unfolding slotSize
+  few-slots =
+      let g = layoutOf img in
+      let r = opened-room img (opened-facts img open₀) in
+      let one : g .N * 1 ≤ g .N * slotSize g = mul-le-mul (omega arith) (omega arith) in
+      omega (arith, one, mul-one (g .N), r .table, r .area, small)
+
   line-bound : (i : ℕ) → i < layoutOf img .N → length (line (layoutOf img) img i) ≤ 4 * slotSize (layoutOf img)
   unfolding slotSize
   line-bound i l =
       let f = opened-facts img open₀ in
-      let n : layoutOf img .N ≤ mostSlots = unfold layoutOf in f .slots-high in
+      let n = few-slots in
       let g = layoutOf img in
       let key = keyOf g (slot g img i) in
       let k : length key ≡ g .K = length-keyOf g (slot g img i) (length-slot g img (opened-room img f) i l) in

@@ -1,23 +1,26 @@
--- What a comparison from the front has shown: `same` and `allZero` of what is left, one byte a turn.
+-- What a comparison from the front has shown: `same` and `allZero` of what is left, one byte or one block a turn.
 --     same-step, same-differ         equal bytes at i leave the rest to compare; unequal ones end it
 --     same-lengths, same-end         runs of different lengths are not the same; nothing left is
 --     allZero-step, allZero-other    a zero byte at i leaves the rest; another one ends it
+--     same-block, block-differ, same-last              the same of a block, and of the last, which may overlap
+--     other-key                                        a block shows that neither holds
+--     allZero-block, allZero-differ, allZero-last      the same for zeros
 -- Assumes nothing.
-use Prim.Native.Nat.{ℕ, suc, _+_, _≤_, _<_}
+use Prim.Native.Nat.{ℕ, zero, suc, _+_, _-_, _≤_, _<_}
 use native.Mathlib.Numerals.{add-one}
-use mathlib.Core.Bool.{Bool, true, false, _&&_, and-false}
-use mathlib.Core.List.{[], _∷_}
-use mathlib.Core.Path.{_≡_, refl, ap, _∙_}
-use lib.ListN.{length, getD, take, drop}
-use lib.Seq.{drop-cons, drop-length}
+use mathlib.Core.Bool.{Bool, true, false, _&&_, _||_, and-false, true≢false}
+use mathlib.Core.List.{[], _∷_, _++_}
+use mathlib.Core.Path.{_≡_, refl, sym, ap, ap₂, _∙_}
+use lib.ListN.{length, getD, take, drop, take-append-drop, length-drop}
+use lib.Seq.{drop-cons, drop-length, drop-drop, take-all}
 use lib.Dec.{eqb}
-use borrow.Author.Tests.{eq-eqb, ne-eqb}
+use borrow.Author.Tests.{eq-eqb, ne-eqb, eqb-true}
 use native.Mathlib.Omega.{arith}
-use Rattle.bhtf.specs.Bytes.{Bytes, part, number, same, allZero}
-use Rattle.bhtf.specs.Image.{field}
-use Rattle.bhtf.proofs.Tests.{by-bool}
-use Rattle.bhtf.proofs.Bytes.{AreBytes, same-true}
-use Rattle.words.proofs.Numbers.{part-four, number-four}
+use Rattle.bhtf.specs.Bytes.{Bytes, part, same, allZero}
+use Rattle.bhtf.proofs.Tests.{by-bool, and-left, and-right}
+use Rattle.bhtf.proofs.Bytes.{AreBytes, part-length, same-refl, same-true}
+use Rattle.runs.specs.Little.{little}
+use Rattle.runs.proofs.Little.{bytes-part, little-same, little-zero, zero-little}
 
 -- ---- same
 pub same-step : (a b : Bytes) (i : ℕ) → i < length a → i < length b → getD a i 0 ≡ getD b i 0
@@ -30,29 +33,59 @@ pub same-differ : (a b : Bytes) (i : ℕ) → i < length a → i < length b → 
 unfolding same
 same-differ a b i p q e = rw (drop-cons a i 0 p, drop-cons b i 0 q, ne-eqb (getD a i 0) (getD b i 0) e)
 
--- the same of four bytes at once, as one number
-pub same-four : (a b : Bytes) (i : ℕ) → AreBytes a → AreBytes b → i + 4 ≤ length a → i + 4 ≤ length b → field a i ≡ field b i
-    → same (drop i a) (drop i b) ≡ same (drop (i + 4) a) (drop (i + 4) b)
-same-four a b i ba bb p q e =
-    let is : number (part a i 4) ≡ number (part b i 4) = unfold field in e in
-    let na = ap number (part-four a i p) ∙ number-four (getD a i 0) (getD a (i + 1) 0) (getD a (i + 2) 0) (getD a (i + 3) 0) in
-    let nb = ap number (part-four b i q) ∙ number-four (getD b i 0) (getD b (i + 1) 0) (getD b (i + 2) 0) (getD b (i + 3) 0) in
-    let e₀ : getD a i 0 ≡ getD b i 0 = omega (arith, is, na, nb, ba i, ba (i + 1), ba (i + 2), ba (i + 3), bb i, bb (i + 1), bb (i + 2), bb (i + 3)) in
-    let e₁ : getD a (i + 1) 0 ≡ getD b (i + 1) 0 = omega (arith, is, na, nb, e₀, ba (i + 1), ba (i + 2), ba (i + 3), bb (i + 1), bb (i + 2), bb (i + 3)) in
-    let e₂ : getD a (i + 2) 0 ≡ getD b (i + 2) 0 = omega (arith, is, na, nb, e₀, e₁, ba (i + 2), ba (i + 3), bb (i + 2), bb (i + 3)) in
-    let e₃ : getD a (i + 3) 0 ≡ getD b (i + 3) 0 = omega (arith, is, na, nb, e₀, e₁, e₂, ba (i + 3), bb (i + 3)) in
-    let s₂ : i + 1 + 1 ≡ i + 2 = omega arith in
-    let s₃ : i + 2 + 1 ≡ i + 3 = omega arith in
-    let s₄ : i + 3 + 1 ≡ i + 4 = omega arith in
-    same-step a b i (omega arith) (omega arith) e₀
-    ∙ rw s₂ at (same-step a b (i + 1) (omega arith) (omega arith) e₁)
-    ∙ rw s₃ at (same-step a b (i + 2) (omega arith) (omega arith) e₂)
-    ∙ rw s₄ at (same-step a b (i + 3) (omega arith) (omega arith) e₃)
+-- the same of a block at once, as one number
+same-append : (u a b : Bytes) → same (u ++ a) (u ++ b) ≡ same a b
+unfolding same
+same-append [] a b = refl
+same-append (c ∷ u) a b = rw (eq-eqb c c refl) (same-append u a b)
 
-pub four-differ : (a b : Bytes) (i : ℕ) → (field a i ≡ field b i → ⊥) → same (drop i a) (drop i b) ≡ false
-unfolding field part
-four-differ a b i n =
-    by-bool (same (drop i a) (drop i b)) (λ h. absurd (n (ap (λ (t : Bytes). number (take 4 t)) (same-true (drop i a) (drop i b) h)))) (λ h. h)
+-- a run from i on: a block, and what is behind it
+split-block : (s : Bytes) (i w : ℕ) → drop i s ≡ part s i w ++ drop (i + w) s
+unfolding part
+split-block s i w = sym (take-append-drop w (drop i s)) ∙ ap (λ (t : Bytes). take w (drop i s) ++ t) (drop-drop w i s)
+
+-- the last block is all that is left
+last-block : (s : Bytes) (i w : ℕ) → i + w ≡ length s → drop i s ≡ part s i w
+unfolding part
+last-block s i w h = sym (take-all w (drop i s) (simp length-drop (omega arith)))
+
+pub block-differ : (a b : Bytes) (i w : ℕ) → (little (part a i w) ≡ little (part b i w) → ⊥) → same a b ≡ false
+block-differ a b i w n =
+    by-bool (same a b) (λ h. absurd (n (ap (λ (t : Bytes). little (part t i w)) (same-true a b h)))) (λ h. h)
+
+module _ (a b : Bytes) (p : AreBytes a) (q : AreBytes b) (l : length a ≡ length b) where
+  blocks-equal : (i w : ℕ) → i + w ≤ length a → little (part a i w) ≡ little (part b i w) → part a i w ≡ part b i w
+  blocks-equal i w h e =
+      little-same (part a i w) (part b i w) (bytes-part a i w p) (bytes-part b i w q)
+      (part-length a i w h ∙ sym (part-length b i w (omega arith))) e
+
+  pub same-block : (i w : ℕ) → i + w ≤ length a → little (part a i w) ≡ little (part b i w)
+      → same (drop i a) (drop i b) ≡ same (drop (i + w) a) (drop (i + w) b)
+  same-block i w h e =
+      ap₂ same
+      (split-block a i w ∙ ap (λ (t : Bytes). t ++ drop (i + w) a) (blocks-equal i w h e))
+      (split-block b i w)
+      ∙ same-append (part b i w) (drop (i + w) a) (drop (i + w) b)
+
+  -- the last block decides what is left of it
+  pub same-last : (j i w : ℕ) → j ≤ i → j + w ≡ length a → same a b ≡ same (drop i a) (drop i b)
+      → eqb (little (part a j w)) (little (part b j w)) ≡ same a b
+  same-last j i w h f e =
+      by-bool (eqb (little (part a j w)) (little (part b j w)))
+      (λ t. t ∙ sym (e ∙ ap (λ (x : Bytes). same x (drop i b)) (left (eqb-true _ _ t)) ∙ same-refl (drop i b)))
+      (λ t. t ∙ sym (block-differ a b j w (λ x. true≢false (sym (eq-eqb _ _ x) ∙ t))))
+    where
+      left : little (part a j w) ≡ little (part b j w) → drop i a ≡ drop i b
+      left t =
+          let k : j + (i - j) ≡ i = omega arith in
+          let whole : drop j a ≡ drop j b =
+          last-block a j w f ∙ blocks-equal j w (omega arith) t ∙ sym (last-block b j w (omega arith))
+          in
+          ap (λ (n : ℕ). drop n a) (sym k)
+          ∙ sym (drop-drop (i - j) j a)
+          ∙ ap (drop (i - j)) whole
+          ∙ drop-drop (i - j) j b
+          ∙ ap (λ (n : ℕ). drop n b) k
 
 pub same-lengths : (a b : Bytes) → (length a ≡ length b → ⊥) → same a b ≡ false
 unfolding same
@@ -81,3 +114,67 @@ allZero-other s i p e = rw (drop-cons s i 0 p, ne-eqb (getD s i 0) 0 e)
 pub allZero-end : (s : Bytes) (i : ℕ) → i ≡ length s → allZero (drop i s) ≡ true
 unfolding allZero
 allZero-end s i p = rw (p, drop-length s)
+
+-- a block at once
+allZero-append : (u a : Bytes) → allZero u ≡ true → allZero (u ++ a) ≡ allZero a
+unfolding allZero
+allZero-append [] a e = refl
+allZero-append (c ∷ u) a e =
+    rw (and-left (eqb c 0) (allZero u) e) (allZero-append u a (and-right (eqb c 0) (allZero u) e))
+
+pub allZero-block : (s : Bytes) (i w : ℕ) → little (part s i w) ≡ 0 → allZero (drop i s) ≡ allZero (drop (i + w) s)
+allZero-block s i w e =
+    ap allZero (split-block s i w) ∙ allZero-append (part s i w) (drop (i + w) s) (little-zero (part s i w) e)
+
+-- parts of zeros are zeros
+allZero-take : (n : ℕ) (s : Bytes) → allZero s ≡ true → allZero (take n s) ≡ true
+unfolding allZero
+allZero-take zero s e = refl
+allZero-take (suc n) [] e = refl
+allZero-take (suc n) (c ∷ s) e =
+    rw (and-left (eqb c 0) (allZero s) e) (allZero-take n s (and-right (eqb c 0) (allZero s) e))
+
+allZero-drop : (n : ℕ) (s : Bytes) → allZero s ≡ true → allZero (drop n s) ≡ true
+allZero-drop zero s e = e
+allZero-drop (suc n) [] e = e
+allZero-drop (suc n) (c ∷ s) e = allZero-drop n s (unfold allZero in and-right (eqb c 0) (allZero s) e)
+
+pub allZero-differ : (s : Bytes) (i w : ℕ) → (little (part s i w) ≡ 0 → ⊥) → allZero s ≡ false
+unfolding part
+allZero-differ s i w n =
+    by-bool (allZero s)
+    (λ h. absurd (n (zero-little (take w (drop i s)) (allZero-take w (drop i s) (allZero-drop i s h)))))
+    (λ h. h)
+
+-- the last block decides what is left of it
+pub allZero-last : (s : Bytes) (j i w : ℕ) → j ≤ i → j + w ≡ length s → allZero s ≡ allZero (drop i s)
+    → eqb (little (part s j w)) 0 ≡ allZero s
+allZero-last s j i w h f e =
+    by-bool (eqb (little (part s j w)) 0)
+    (λ t. t ∙ sym (e ∙ left (eqb-true _ _ t)))
+    (λ t. t ∙ sym (allZero-differ s j w (λ x. true≢false (sym (eq-eqb _ _ x) ∙ t))))
+  where
+    left : little (part s j w) ≡ 0 → allZero (drop i s) ≡ true
+    left t =
+        let k : j + (i - j) ≡ i = omega arith in
+        ap (λ (n : ℕ). allZero (drop n s)) (sym k)
+        ∙ ap allZero (sym (drop-drop (i - j) j s))
+        ∙ allZero-drop (i - j) (drop j s) (ap allZero (last-block s j w f) ∙ little-zero (part s j w) t)
+
+-- ---- a block that is neither the key's nor zero
+pub other-key : (a b : Bytes) (i w x y : ℕ) → x ≡ little (part a i w) → y ≡ little (part b i w)
+    → (eqb x y || eqb x 0) ≡ false → (same a b ≡ false) × (allZero a ≡ false)
+other-key a b i w x y p q e =
+    let differs = or-left (eqb x y) (eqb x 0) e in
+    let stands = or-right (eqb x y) (eqb x 0) e in (
+      block-differ a b i w (λ h. true≢false (sym (eq-eqb x y (p ∙ h ∙ sym q)) ∙ differs)),
+      allZero-differ a i w (λ h. true≢false (sym (eq-eqb x 0 (p ∙ h)) ∙ stands)),
+    )
+  where
+    or-left : (s t : Bool) → (s || t) ≡ false → s ≡ false
+    or-left true t e = e
+    or-left false t e = refl
+
+    or-right : (s t : Bool) → (s || t) ≡ false → t ≡ false
+    or-right true t e = absurd (true≢false e)
+    or-right false t e = e

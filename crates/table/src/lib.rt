@@ -6,14 +6,15 @@ use layout::shape::Shape;
 use runs::all_zero;
 use runs::copy;
 use runs::same_bytes;
+use runs::tail;
 use words::fields::read_u32;
 use words::fields::write_u32;
 use words::limits::SCRAMBLE_START;
 ghost use mathlib.Core.Path.{_≡_};
-ghost use Prim.Native.Nat.{_+_, _^_, _<_};
+ghost use Prim.Native.Nat.{_+_, _^_, _≤_, _<_};
 ghost use lib.ListN.{length};
 ghost use Rattle.bhtf.specs.Image.{layoutOf, home, slotBytes, putSlot};
-ghost use Rattle.bhtf.specs.Search.{search};
+ghost use Rattle.bhtf.specs.Search.{probe, search};
 ghost use Rattle.layout.specs.Shapes.{Open};
 ghost use Rattle.table.specs.Probes.{probeOf};
 ghost use Rattle.table.specs.Slots.{keyIn, offsetIn, Placed, vacantIn};
@@ -74,6 +75,42 @@ pub fn is_vacant(image: &[u8], shape: Shape, i: Slot) -> bool
     all_zero(key_of(image, shape, i))
 }
 
+// Where a search stands: the slot to read next, and how many are left.
+struct Turn {
+    slot: Slot,
+    left: usize,
+}
+
+// Passes over slots that hold other keys, as the last four bytes show: most slots that a search reads.
+fn pass_over(image: &[u8], shape: Shape, key: &[u8], from: Slot, most: usize) -> Turn
+    requires { ⌜ Open (now image) shape × (from .0 < shape .slots) ⌝ }
+    ensures { λ r. ⌜ (r .slot .0 < shape .slots)
+        × (r .left ≤ most)
+        × (probe (layoutOf (now (image .entry))) (now (image .entry)) (now (key .entry)) most (from .0)
+        ≡ probe (layoutOf (now (image .entry))) (now (image .entry)) (now (key .entry)) (r .left) (r .slot .0)) ⌝ }
+{
+    let size = shape.keylen;
+    let slots = shape.slots;
+    let mut i = from;
+    let mut left = most;
+    if key.len() != size {
+        return Turn { slot: i, left };
+    }
+    if size < 4 {
+        return Turn { slot: i, left };
+    }
+    let wanted = tail(key);
+    while 0 < left {
+        let block = tail(key_of(image, shape, i));
+        if (block == wanted) | (block == 0) {
+            return Turn { slot: i, left };
+        }
+        i = i.next(slots);
+        left -= 1;
+    }
+    Turn { slot: i, left }
+}
+
 // From home upwards, wrapping, until the key is met, an empty slot is met, or all slots were read.
 pub fn search(image: &[u8], shape: Shape, key: &[u8]) -> Found
     requires { ⌜ Open (now image) shape ⌝ }
@@ -83,15 +120,20 @@ pub fn search(image: &[u8], shape: Shape, key: &[u8]) -> Found
     let mut i = home(image, shape, key);
     let mut left = slots;
     while 0 < left {
-        let stored = key_of(image, shape, i);
+        let turn = pass_over(image, shape, key, i, left);
+        if turn.left == 0 {
+            return Found::Exhausted;
+        }
+        let slot = turn.slot;
+        let stored = key_of(image, shape, slot);
         if same_bytes(stored, key) {
-            return Found::Met(i);
+            return Found::Met(slot);
         }
         if all_zero(stored) {
-            return Found::Empty(i);
+            return Found::Empty(slot);
         }
-        i = i.next(slots);
-        left -= 1;
+        i = slot.next(slots);
+        left = turn.left - 1;
     }
     Found::Exhausted
 }

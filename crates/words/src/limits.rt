@@ -53,11 +53,11 @@ pub const PAGE: usize = 4096;
 // What rounding up to a page adds first.
 pub const PAGE_ROUND: usize = 4095;
 
-pub const MOST_IMAGE: usize = 16777216;
+pub const MOST_IMAGE: usize = 1073741824;
 
 pub const MOST_KEY: u32 = 32;
 
-pub const MOST_SLOTS: u32 = 65536;
+pub const MOST_SLOTS: u32 = 1048576;
 
 pub const MOST_CHARACTER: u32 = 255;
 

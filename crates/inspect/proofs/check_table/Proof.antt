@@ -34,8 +34,9 @@ returns c =
     let A = S .args in
     let p = (pass-entries-at-new c) .pass-entries in
     let f = c .before .before .before .first-meeting in
-    verdict-slot (A .image .now) (A .shape .slots) (layout-slots (A .image .now) (A .shape) (S .pre .shape)) (p .result .bound)
-    (p .result .count) (p .ensures) (f .result) (f .ensures) (c .before .if1 .taken) _ (c .new .ensures)
+    verdict-slot (A .image .now) (A .shape .slots) (layout-slots (A .image .now) (A .shape) (S .pre .shape))
+    (p .result .bound) (p .result .count) (p .ensures) (f .result) (f .ensures) (c .before .if1 .taken) _
+    (c .new .ensures)
 
 abbrev start-at-else1 : tie.Else1 → tie.Start
 start-at-else1 c = c .before .before .before .before .before
@@ -65,8 +66,8 @@ returns-2 c =
     let A = S .args in
     let p = (pass-entries-at-then2 c) .pass-entries in
     let f = (first-meeting-at-then2 c) .first-meeting in
-    verdict-count (A .image .now) (A .shape .slots) (layout-slots (A .image .now) (A .shape) (S .pre .shape)) (p .result .bound)
-    (p .result .count) (p .ensures) (f .result) (f .ensures) (c .before .before .before .if1 .left)
+    verdict-count (A .image .now) (A .shape .slots) (layout-slots (A .image .now) (A .shape) (S .pre .shape))
+    (p .result .bound) (p .result .count) (p .ensures) (f .result) (f .ensures) (c .before .before .before .if1 .left)
     (λ q. c .if2 .taken (c .before .before .read-u32 .ensures ∙ q))
 
 abbrev shared-slice-known-at-else2 : tie.Else2 → tie.After-shared-slice-known
@@ -88,8 +89,8 @@ returns-3 c =
     let A = S .args in
     let p = (pass-entries-at-else2 c) .pass-entries in
     let f = (first-meeting-at-else2 c) .first-meeting in
-    verdict-sound (A .image .now) (A .shape .slots) (layout-slots (A .image .now) (A .shape) (S .pre .shape)) (p .result .bound)
-    (p .result .count) (p .ensures) (f .result) (f .ensures) (c .before .before .before .if1 .left)
+    verdict-sound (A .image .now) (A .shape .slots) (layout-slots (A .image .now) (A .shape) (S .pre .shape))
+    (p .result .bound) (p .result .count) (p .ensures) (f .result) (f .ensures) (c .before .before .before .if1 .left)
     (sym (c .before .before .read-u32 .ensures) ∙ c .if2 .left)
 
 pub check-table-spec : {M : Type 1} → statement M

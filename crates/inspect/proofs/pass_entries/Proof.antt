@@ -40,7 +40,8 @@ returns c =
     let N = T .before .before in
     let L = N .before .before in
     let A = L .before .before .args in
-    passed-fails (layoutOf (A .image .now)) (A .image .now) (A .shape .slots) (L .loop .count) (L .loop .i) (L .loop .inv)
+    passed-fails (layoutOf (A .image .now)) (A .image .now) (A .shape .slots) (L .loop .count) (L .loop .i)
+    (L .loop .inv)
     (N .before .loop-test .taken) (N .new .result .0) (N .new .ensures)
     (sym (T .before .is-taken .ensures) ∙ T .if1 .taken) (was-no (c .before .entry-sound .ensures) (c .if2 .taken))
 

@@ -63,8 +63,9 @@ lesser-requires c κs = tt
 
 add-cells : tie.Need-add-cells Inv-loop μ-loop
 add-cells c =
-    let S = c .before .before .before .before .before .before .before .before in
-    omega (arith, c .lesser .ensures, c .before .before .loop .inv .0, S .pre .2)
+    let L = c .before .before in
+    let S = L .before .before .before .before .before .before in
+    omega (arith, c .lesser .ensures, L .loop .inv .0, S .pre .2)
 
 slice-relend-prefix-window : tie.Need-slice-relend-prefix-window Inv-loop μ-loop
 slice-relend-prefix-window c = omega (arith, c .lesser .ensures)

@@ -1,55 +1,80 @@
--- `runs::copy` meets its contract: after i turns the first i bytes are src's and the rest are as they were.
--- Assumes nothing.
-use Prim.Native.Nat.{ℕ, _≤_, _-_}
+-- After each turn the first i bytes are src's; the last block may overlap the one before. Assumes nothing.
+use Prim.Native.Nat.{ℕ, _+_, _≤_, _-_}
 use native.Mathlib.Omega.{arith}
-use mathlib.Core.List.{List, _++_}
-use mathlib.Core.Path.{_≡_, refl, ap, _∙_}
-use lib.ListN.{length, getD, set, take, drop, length-set}
-use borrow.Author.Needs.{needs}
-use Rattle.runs.proofs.Copied.{copied-more, copied-all}
+use mathlib.Core.Path.{_≡_, refl, sym, ap, _∙_}
+use lib.ListN.{length}
+use Rattle.bhtf.specs.Bytes.{part, store}
+use Rattle.runs.proofs.Moved.{none-yet, copied-block, copied-whole, length-moved}
 use Rattle.runs.proofs.copy.Statement.{statement}
 use Rattle.runs.proofs.copy.Tie as tie
 
 abbrev Inv-loop : tie.InvT-loop
-Inv-loop dst₀ src i₀ dst i = (dst ≡ take i src ++ drop i dst₀) × (i ≤ length dst₀) × (length dst ≡ length dst₀)
+Inv-loop dst₀ src n last i₀ dst i = (dst ≡ store dst₀ 0 (part src 0 i)) × (i ≤ length dst₀) × (length dst ≡ length dst₀)
 
 abbrev μ-loop : tie.MeasureT-loop
-μ-loop dst₀ src i₀ dst i = length dst₀ - i
+μ-loop dst₀ src n last i₀ dst i = length dst₀ - i
+
+copy-bytes-requires : tie.Need-copy-bytes-requires Inv-loop μ-loop
+copy-bytes-requires c κs = c .before .before .before .before .pre
+
+same-length : tie.Need-same-length Inv-loop μ-loop
+same-length c =
+    ap length (c .before .before .copy-bytes .ensures)
+    ∙ sym (c .before .before .before .before .before .before .before .pre)
+
+returns : tie.Need-returns Inv-loop μ-loop
+returns c = c .before .before .copy-bytes .ensures
 
 loop-holds : tie.Need-loop-holds Inv-loop μ-loop
-loop-holds c = (refl, search needs, refl)
+loop-holds c = (none-yet _ _ 0 0, omega arith, refl)
 
-shared-slice-read-dst : tie.Need-shared-slice-read-dst Inv-loop μ-loop
-shared-slice-read-dst c = search needs
-
-slice-write-dst : tie.Need-slice-write-dst Inv-loop μ-loop
-slice-write-dst c = search needs
+copy-eight-requires : tie.Need-copy-eight-requires Inv-loop μ-loop
+copy-eight-requires c κs = (omega arith, omega arith)
 
 add-i : tie.Need-add-i Inv-loop μ-loop
-add-i c = search needs
+add-i c = omega arith
 
 loop-less : tie.Need-loop-less Inv-loop μ-loop
-loop-less c = search needs
+loop-less c = omega arith
 
 loop-again : tie.Need-loop-again Inv-loop μ-loop
 loop-again c =
-    let A = c .before .before in
-    let d = A .before .args .dst .now in
-    let s = A .before .args .src .now in
-    let i = A .loop .i in (
-      ap (λ (t : List ℕ). set t i (getD s i 0)) (A .loop .inv .0) ∙ copied-more s d i (omega arith) (omega arith),
-      omega arith,
-      length-set (A .loop .dst) i (getD s i 0) ∙ A .loop .inv .2,
-    )
+    let L = c .before .before .before .before .before in
+    let S = L .before .before .before .before in
+    let d = S .args .dst .now in
+    let s = S .args .src .now in
+    let i = L .loop .i in
+    let e =
+    copied-block d s (L .loop .dst) (c .before .before .copy-eight .last .0) i i 8 (L .loop .inv .0)
+    (omega arith) (omega arith) (omega arith) (omega arith) (c .before .before .copy-eight .ensures)
+    in
+    (e, omega arith, length-moved d s _ 0 0 (i + 8) (omega arith) (omega arith) e)
 
-same-length : tie.Need-same-length Inv-loop μ-loop
-same-length c = c .before .loop .inv .2
+copy-eight-requires-2 : tie.Need-copy-eight-requires-2 Inv-loop μ-loop
+copy-eight-requires-2 c κs = (omega arith, omega arith)
 
-returns : tie.Need-returns Inv-loop μ-loop
-returns c =
-    let A = c .before in
-    A .loop .inv .0
-    ∙ copied-all (A .before .args .src .now) (A .before .args .dst .now) (A .loop .i) (omega arith) (omega arith)
+-- after the last block
+whole : (c : tie.After-slice-known4 Inv-loop μ-loop)
+    → let L = c .before .before .before .before .before in
+    c .before .before .copy-eight2 .last .0 ≡ L .before .before .before .before .args .src .now
+whole c =
+    let L = c .before .before .before .before .before in
+    let S = L .before .before .before .before in
+    let d = S .args .dst .now in
+    let s = S .args .src .now in
+    let j = length d - 8 in
+    copied-block d s (L .loop .dst) (c .before .before .copy-eight2 .last .0) j (L .loop .i) 8 (L .loop .inv .0)
+    (omega arith) (omega arith) (omega arith) (omega arith) (c .before .before .copy-eight2 .ensures)
+    ∙ copied-whole d s (j + 8) (omega arith) (omega arith)
+
+same-length-2 : tie.Need-same-length-2 Inv-loop μ-loop
+same-length-2 c =
+    let L = c .before .before .before .before .before in
+    let S = L .before .before .before .before in
+    ap length (whole c) ∙ sym (S .pre)
+
+returns-2 : tie.Need-returns-2 Inv-loop μ-loop
+returns-2 c = whole c
 
 pub copy-spec : {M : Type 1} → statement M
 copy-spec =
@@ -57,11 +82,14 @@ copy-spec =
     (tie.spec
     Inv-loop
     μ-loop
+    copy-bytes-requires
+    same-length
+    returns
     loop-holds
-    shared-slice-read-dst
-    slice-write-dst
+    copy-eight-requires
     add-i
     loop-less
     loop-again
-    same-length
-    returns)
+    copy-eight-requires-2
+    same-length-2
+    returns-2)

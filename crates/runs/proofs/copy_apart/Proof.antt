@@ -1,65 +1,99 @@
--- `runs::copy_apart` meets its contract: i bytes are written, and none that is still to be read.
+-- After each turn i bytes are written, and none that is still to be read; the last block may overlap the one before.
 -- Assumes nothing.
 use Prim.Native.Nat.{ℕ, _+_, _≤_, _-_}
 use native.Mathlib.Omega.{arith}
-use mathlib.Core.List.{List}
-use mathlib.Core.Path.{_≡_, refl, ap, _∙_}
-use lib.ListN.{length, getD, set, drop, length-set}
-use lib.Seq.{paste, paste-zero}
-use borrow.Author.Needs.{needs}
-use Rattle.runs.proofs.Copied.{copied-more-apart, copied-all-apart}
+use mathlib.Core.Path.{_≡_, refl, sym, ap, _∙_}
+use lib.ListN.{length}
+use Rattle.bhtf.specs.Bytes.{part, store}
+use Rattle.runs.proofs.Moved.{none-yet, moved-block, length-moved}
 use Rattle.runs.proofs.copy_apart.Statement.{statement}
 use Rattle.runs.proofs.copy_apart.Tie as tie
 
 abbrev Inv-loop : tie.InvT-loop
-Inv-loop s₀ from to n i₀ s i = (s ≡ paste s₀ to (drop from s₀) i) × (i ≤ n) × (length s ≡ length s₀)
+Inv-loop s₀ from to n last i₀ s i = (s ≡ store s₀ to (part s₀ from i)) × (i ≤ n) × (length s ≡ length s₀)
 
 abbrev μ-loop : tie.MeasureT-loop
-μ-loop s₀ from to n i₀ s i = n - i
+μ-loop s₀ from to n last i₀ s i = n - i
+
+move-bytes-requires : tie.Need-move-bytes-requires Inv-loop μ-loop
+move-bytes-requires c κs = c .before .before .before .pre
+
+same-length : tie.Need-same-length Inv-loop μ-loop
+same-length c =
+    let S = c .before .before .before .before .before .before in
+    length-moved (S .args .s .now) (S .args .s .now) _ (S .args .to) (S .args .from) (S .args .n)
+    (S .pre .1) (S .pre .2)
+    (c .before .before .move-bytes .ensures)
+
+returns : tie.Need-returns Inv-loop μ-loop
+returns c = c .before .before .move-bytes .ensures
 
 loop-holds : tie.Need-loop-holds Inv-loop μ-loop
-loop-holds c = (paste-zero (c .args .s .now) (c .args .to) (drop (c .args .from) (c .args .s .now)), search needs, refl)
+loop-holds c = (none-yet _ _ _ _, omega arith, refl)
 
-add-s : tie.Need-add-s Inv-loop μ-loop
-add-s c = search needs
+add-move-eight : tie.Need-add-move-eight Inv-loop μ-loop
+add-move-eight c = omega arith
 
-slice-read-s : tie.Need-slice-read-s Inv-loop μ-loop
-slice-read-s c = search needs
+add-move-eight-2 : tie.Need-add-move-eight-2 Inv-loop μ-loop
+add-move-eight-2 c = omega arith
 
-add-s-2 : tie.Need-add-s-2 Inv-loop μ-loop
-add-s-2 c = search needs
-
-slice-write-s : tie.Need-slice-write-s Inv-loop μ-loop
-slice-write-s c = search needs
+move-eight-requires : tie.Need-move-eight-requires Inv-loop μ-loop
+move-eight-requires c κs = (omega arith, omega arith)
 
 add-i : tie.Need-add-i Inv-loop μ-loop
-add-i c = search needs
+add-i c = omega arith
 
 loop-less : tie.Need-loop-less Inv-loop μ-loop
-loop-less c = search needs
+loop-less c = omega arith
 
 loop-again : tie.Need-loop-again Inv-loop μ-loop
 loop-again c =
-    let L = c .before .before in
-    let A = L .before .args in
-    let i = L .loop .i in (
-      ap (λ (t : List ℕ). set t (A .to + i) (getD t (A .from + i) 0)) (L .loop .inv .0)
-          ∙ copied-more-apart (A .s .now) (A .from) (A .to) (A .n) (L .before .pre .0) (L .before .pre .1) (L .before .pre .2) i (omega arith),
-      omega arith,
-      length-set (L .loop .s) (A .to + i) (getD (L .loop .s) (A .from + i) 0) ∙ L .loop .inv .2,
-    )
+    let L = c .before .before .before .before .before in
+    let S = L .before .before .before in
+    let A = S .args in
+    let i = L .loop .i in
+    let e =
+    moved-block (A .s .now) (L .loop .s) (c .before .before .move-eight .last .0) (A .from) (A .to) (A .n) i i 8
+    (S .pre .0) (S .pre .1) (S .pre .2) (L .loop .inv .0) (omega arith) (omega arith) (omega arith) (omega arith)
+    (c .before .before .move-eight .ensures)
+    in
+    (e, omega arith, length-moved (A .s .now) (A .s .now) _ (A .to) (A .from) (i + 8) (omega arith) (omega arith) e)
 
-same-length : tie.Need-same-length Inv-loop μ-loop
-same-length c = c .before .loop .inv .2
+add-move-eight-3 : tie.Need-add-move-eight-3 Inv-loop μ-loop
+add-move-eight-3 c = omega arith
 
-returns : tie.Need-returns Inv-loop μ-loop
-returns c =
-    let L = c .before in
-    let A = L .before .args in
-    let e : L .loop .i ≡ A .n = omega arith in
-    L .loop .inv .0
-    ∙ ap (λ (k : ℕ). paste (A .s .now) (A .to) (drop (A .from) (A .s .now)) k) e
-    ∙ copied-all-apart (A .s .now) (A .from) (A .to) (A .n) (L .before .pre .0) (L .before .pre .1) (L .before .pre .2)
+add-move-eight-4 : tie.Need-add-move-eight-4 Inv-loop μ-loop
+add-move-eight-4 c = omega arith
+
+move-eight-requires-2 : tie.Need-move-eight-requires-2 Inv-loop μ-loop
+move-eight-requires-2 c κs = (omega arith, omega arith)
+
+-- after the last block
+whole : (c : tie.After-slice-known4 Inv-loop μ-loop)
+    → let A = c .before .before .before .before .before in
+    let S = A .before .before .before .args in
+    c .before .before .move-eight2 .last .0 ≡ store (S .s .now) (S .to) (part (S .s .now) (S .from) (S .n))
+whole c =
+    let L = c .before .before .before .before .before in
+    let S = L .before .before .before in
+    let A = S .args in
+    let j = A .n - 8 in
+    let end : j + 8 ≡ A .n = omega arith in
+    rw end at
+    (moved-block (A .s .now) (L .loop .s) (c .before .before .move-eight2 .last .0) (A .from) (A .to) (A .n)
+    j (L .loop .i) 8
+    (S .pre .0) (S .pre .1) (S .pre .2) (L .loop .inv .0) (omega arith) (omega arith) (omega arith) (omega arith)
+    (c .before .before .move-eight2 .ensures))
+
+same-length-2 : tie.Need-same-length-2 Inv-loop μ-loop
+same-length-2 c =
+    let L = c .before .before .before .before .before in
+    let S = L .before .before .before in
+    length-moved (S .args .s .now) (S .args .s .now) _ (S .args .to) (S .args .from) (S .args .n)
+    (S .pre .1) (S .pre .2) (whole c)
+
+returns-2 : tie.Need-returns-2 Inv-loop μ-loop
+returns-2 c = whole c
 
 pub copy-apart-spec : {M : Type 1} → statement M
 copy-apart-spec =
@@ -67,13 +101,18 @@ copy-apart-spec =
     (tie.spec
     Inv-loop
     μ-loop
+    move-bytes-requires
+    same-length
+    returns
     loop-holds
-    add-s
-    slice-read-s
-    add-s-2
-    slice-write-s
+    add-move-eight
+    add-move-eight-2
+    move-eight-requires
     add-i
     loop-less
     loop-again
-    same-length
-    returns)
+    add-move-eight-3
+    add-move-eight-4
+    move-eight-requires-2
+    same-length-2
+    returns-2)

@@ -2,9 +2,9 @@
 -- Assumes nothing.
 use Prim.Native.Nat.{ℕ, _<_}
 use native.Mathlib.Omega.{arith}
-use mathlib.Core.Path.{sym, _∙_, subst}
+use mathlib.Core.Path.{_≡_, sym, _∙_, subst}
 use Rattle.bhtf.specs.Image.{field}
-use Rattle.bhtf.specs.Inspect.{keyWalk}
+use Rattle.bhtf.specs.Inspect.{keyWalk, stopped}
 use Rattle.bhtf.specs.Limits.{slotsField}
 use Rattle.bhtf.proofs.Opened.{opened-facts}
 use Rattle.table.proofs.Headers.{layout-slots}
@@ -28,13 +28,23 @@ enum-known-stop-2 c = search needs
 number-requires : tie.Need-number-requires
 number-requires c κs = search needs
 
+abbrev start-at-stop2 : tie.After-stop2 → tie.Start
+start-at-stop2 c = c .before .before .before .before
+
+-- where the code stops, the walk does
+stops : (c : tie.After-stop2)
+    → let S : tie.Start = start-at-stop2 c in
+    keyWalk (S .args .image .now) (S .args .from) ≡ stopped (c .stop2 .given .0 .0 .0)
+stops c =
+    let A = start-at-stop2 c .args in
+    let next = c .before .before .next-taken in
+    stopped-is (A .image .now) (A .from) (next .result) (next .ensures) (c .stop2 .given .1)
+
 cast-slot : tie.Need-cast-slot
 cast-slot c =
-    let F = c .before .before .before .before in
-    let A = F .before .before .args in
-    let w =
-    stopped-is (A .image .now) (A .from) (F .next-taken .result) (F .next-taken .ensures)
-    (c .before .before .stop2 .given .1) in
+    let P = c .before .before in
+    let A = start-at-stop2 P .args in
+    let w = stops P in
     let f = opened-facts (A .image .now) (stopped-open (A .image .now) (A .from) _ w) in
     let b : c .number .result < field (A .image .now) slotsField =
     stopped-slot (A .image .now) (A .from) _ w (c .number .result) (c .number .ensures) in
@@ -42,20 +52,16 @@ cast-slot c =
 
 read-shape-requires : tie.Need-read-shape-requires
 read-shape-requires c κs =
-    let F = c .before .before .before .before in
-    let A = F .before .before .args in
-    let w =
-    stopped-is (A .image .now) (A .from) (F .next-taken .result) (F .next-taken .ensures)
-    (c .before .before .stop2 .given .1) in
+    let P = c .before .before in
+    let A = start-at-stop2 P .args in
+    let w = stops P in
     omega (arith, opened-facts (A .image .now) (stopped-open (A .image .now) (A .from) _ w) .size-low)
 
 key-of-requires : tie.Need-key-of-requires
 key-of-requires c κs =
-    let F = c .before .before .before .before .before in
-    let A = F .before .before .args in
-    let w =
-    stopped-is (A .image .now) (A .from) (F .next-taken .result) (F .next-taken .ensures)
-    (c .before .before .before .stop2 .given .1) in (
+    let P = c .before .before .before in
+    let A = start-at-stop2 P .args in
+    let w = stops P in (
       record { accepted = stopped-open (A .image .now) (A .from) _ w; shape = c .read-shape .ensures },
       subst (λ (n : ℕ). c .before .before .before .stop2 .given .0 .0 .0 < n)
           (layout-slots (A .image .now) (c .read-shape .result) (c .read-shape .ensures))
@@ -79,11 +85,9 @@ returns c =
 
 returns-2 : tie.Need-returns-2
 returns-2 c =
-    let F = c .before .before .before .before .before .before in
-    let A = F .before .before .args in
-    let w =
-    stopped-is (A .image .now) (A .from) (F .next-taken .result) (F .next-taken .ensures)
-    (c .before .before .before .before .stop2 .given .1) in
+    let P = c .before .before .before .before in
+    let A = start-at-stop2 P .args in
+    let w = stops P in
     let s =
     shown-stopped (A .image .now) (keyWalk (A .image .now) (A .from)) _ (sym w) (c .key-of .result .now)
     (c .key-of .ensures) in

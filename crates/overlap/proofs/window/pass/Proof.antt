@@ -115,12 +115,18 @@ returns c =
 carried-on-requires : tie.Need-carried-on-requires Inv-loop μ-loop
 carried-on-requires c κs = tt
 
+-- the turn of the loop, seen from its end
+abbrev claim-at-end : tie.After-carried-on Inv-loop μ-loop → tie.After-claim Inv-loop μ-loop
+claim-at-end c = c .before .before .before .before
+
+abbrev turn : tie.After-carried-on Inv-loop μ-loop → tie.In-loop Inv-loop μ-loop
+turn c = claim-at-end c .before .before .before .before .before
+
 add-i : tie.Need-add-i Inv-loop μ-loop
-add-i c =
-    omega (arith, c .before .before .before .before .before .before .before .before .before .loop-test .taken)
+add-i c = omega (arith, turn c .loop-test .taken)
 
 loop-less : tie.Need-loop-less Inv-loop μ-loop
-loop-less c = omega (arith, c .before .before .before .before .before .before .before .before .before .loop-test .taken)
+loop-less c = omega (arith, turn c .loop-test .taken)
 
 loop-again : tie.Need-loop-again Inv-loop μ-loop
 loop-again c =

@@ -6,14 +6,14 @@ use lib.ListN.{length, drop}
 use borrow.Author.Needs.{needs}
 use Rattle.bhtf.specs.Bytes.{same}
 use Rattle.runs.proofs.Compare.{same-step, same-differ, same-end}
-use Rattle.runs.proofs.same_rest.Statement.{statement}
-use Rattle.runs.proofs.same_rest.Tie as tie
+use Rattle.runs.proofs.same_few.Statement.{statement}
+use Rattle.runs.proofs.same_few.Tie as tie
 
 abbrev Inv-loop : tie.InvT-loop
-Inv-loop a b from i₀ i = (i ≤ length a) × (same (drop from a) (drop from b) ≡ same (drop i a) (drop i b))
+Inv-loop a b i₀ i = (i ≤ length a) × (same a b ≡ same (drop i a) (drop i b))
 
 abbrev μ-loop : tie.MeasureT-loop
-μ-loop a b from i₀ i = length a - i
+μ-loop a b i₀ i = length a - i
 
 loop-holds : tie.Need-loop-holds Inv-loop μ-loop
 loop-holds c = (omega arith, refl)
@@ -50,8 +50,8 @@ returns-2 c =
     let A = L .before .args in
     sym (L .loop .inv .1 ∙ same-end (A .a .now) (A .b .now) (L .loop .i) (omega arith) (omega arith))
 
-pub same-rest-spec : {M : Type 1} → statement M
-same-rest-spec =
+pub same-few-spec : {M : Type 1} → statement M
+same-few-spec =
     tie.close
     (tie.spec
     Inv-loop

@@ -1,0 +1,8 @@
+/* Tuned C as the code under test. */
+#include "../tests/calls.h"
+#include "../tests/reference/tuned.h"
+
+const struct calls subject = {
+    tuned_create, tuned_add,  tuned_delete, tuned_lookup,
+    tuned_count,  tuned_walk, tuned_check,
+};

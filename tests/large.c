@@ -1,0 +1,333 @@
+/* Images and tables at the limits: 1 GiB, 1,048,576 slots, and messages of
+ * 16,777,215 bytes, which only images beyond the old limit can hold.
+ * Ends with "N passed, M failed". Takes some 1.2 GiB of memory. */
+#define _DEFAULT_SOURCE
+
+#include "calls.h"
+#include "reference/plain.h"
+
+#include <stdio.h>
+#include <stdlib.h>
+#include <string.h>
+#include <sys/mman.h>
+
+#define PAGE 4096u
+#define GIB 1073741824u
+#define MIB64 67108864u
+#define SLOTS_MAX 1048576u
+#define MESSAGE_MAX 16777215u
+#define HEAD 4u
+#define TABLE 2048u
+
+static uint8_t *image; /* room for an image of 1 GiB and a page */
+static uint8_t *texts; /* text i is MESSAGE_MAX + 1 bytes from byte i on */
+static unsigned passed, failed;
+
+static void expect(const char *what, uint32_t got, uint32_t wanted)
+{
+    if (got == wanted) {
+        passed++;
+        return;
+    }
+    failed++;
+    printf("FAILED: %s: %u, not %u\n", what, got, wanted);
+}
+
+static void *map(size_t size)
+{
+    void *at = mmap(NULL, size, PROT_READ | PROT_WRITE,
+                    MAP_PRIVATE | MAP_ANONYMOUS | MAP_NORESERVE, -1, 0);
+
+    if (at == MAP_FAILED) {
+        fputs("no memory\n", stderr);
+        exit(2);
+    }
+    return at;
+}
+
+static uint32_t field(uint32_t at)
+{
+    return (uint32_t)image[at] << 24 | (uint32_t)image[at + 1] << 16 |
+           (uint32_t)image[at + 2] << 8 | image[at + 3];
+}
+
+static void set_field(uint32_t at, uint32_t value)
+{
+    for (int i = 0; i < 4; i++)
+        image[at + i] = (uint8_t)(value >> (24 - 8 * i));
+}
+
+static uint32_t add(uint32_t length, const char *name, const uint8_t *data,
+                    uint32_t size, uint32_t mode)
+{
+    return subject.add(image, length, (const uint8_t *)name, strlen(name),
+                       data, size, mode);
+}
+
+/* Is the name's message these bytes, at that offset? */
+static void expect_text(const char *what, uint32_t length, const char *name,
+                        uint32_t offset, const uint8_t *data, uint32_t size)
+{
+    uint32_t at = 0, got = 0;
+    uint32_t number = subject.lookup(image, length, (const uint8_t *)name,
+                                     strlen(name), &at, &got);
+
+    expect(what, number == 0 && at == offset + HEAD && got == size &&
+                     memcmp(image + at, data, size) == 0, 1);
+}
+
+static uint32_t count(size_t length)
+{
+    uint32_t points = 0;
+    uint32_t number = subject.count(image, length, &points);
+
+    return number == 0 ? points : 1000000000u + number;
+}
+
+static void expect_sound(const char *what, size_t length)
+{
+    uint32_t verdict = 9, slot = 9;
+    uint32_t number = subject.check(image, length, &verdict, &slot);
+
+    expect(what, number == 0 && verdict == 0, 1);
+}
+
+/* ---- questions 1 to 4 and 6 ---- */
+
+/* An accepted create: D, X and M. */
+static void created(const char *what, uint32_t length, uint32_t key_size,
+                    uint32_t slots, uint32_t data)
+{
+    expect(what, subject.create(image, length, key_size, slots, 0), 0);
+    expect("  N", field(16), slots);
+    expect("  D", field(48), data);
+    expect("  X", field(52), data);
+    expect("  M", field(56), 0xFFFFFFFFu);
+    expect("  its last byte", image[length - 1], 0);
+    expect("  count", count(length), 0);
+}
+
+static void test_questions(void)
+{
+    expect("a page more than 1 GiB",
+           subject.create(image, (size_t)GIB + PAGE, 1, 4, 0), 1);
+    expect("K of 33", subject.create(image, GIB, 33, SLOTS_MAX + 1, 0), 2);
+    expect("a slot more than 1,048,576",
+           subject.create(image, GIB, 1, SLOTS_MAX + 1, 0), 3);
+    expect("refused creates write nothing", field(0), 0);
+    image[GIB - 1] = 7;
+    /* 2,048 + 1,048,576 x 5 is 1,280.5 pages, 2,048 + 1,048,576 x 36 is
+     * 9,216.5 */
+    created("1 GiB, K = 1", GIB, 1, SLOTS_MAX, 1281 * PAGE);
+    expect("count of a page more", count((size_t)GIB + PAGE), 1000000001u);
+    created("1 GiB, K = 32", GIB, 32, SLOTS_MAX, 9217 * PAGE);
+    expect("the table alone",
+           subject.create(image, 9217 * PAGE, 32, SLOTS_MAX, 0), 0);
+    expect("a page less",
+           subject.create(image, 9216 * PAGE, 32, SLOTS_MAX, 0), 4);
+    set_field(16, SLOTS_MAX + 1);
+    expect("question 6, N", count(9217 * PAGE), 1000000006u);
+    set_field(16, SLOTS_MAX);
+    set_field(20, SLOTS_MAX);
+    expect("question 6, C = N", count(9217 * PAGE), SLOTS_MAX);
+}
+
+/* ---- question 12, on an image of 64 MiB ---- */
+
+static uint8_t *before; /* what an accepted call left */
+
+static void keep(void)
+{
+    memcpy(before, image, MIB64);
+}
+
+static void refused(const char *what, uint32_t number, uint32_t wanted)
+{
+    expect(what, number, wanted);
+    expect("  the image as it was", memcmp(before, image, MIB64) == 0, 1);
+}
+
+static void expect_space(const char *what, uint32_t used)
+{
+    expect(what, field(52), field(48) + used);
+    expect("  M", field(56), (used - 1) / PAGE);
+}
+
+static void test_longest_message(void)
+{
+    const uint32_t space = HEAD + MESSAGE_MAX;
+    const uint32_t data = PAGE;
+
+    before = map(MIB64);
+    created("64 MiB", MIB64, 4, 16, data);
+    keep();
+    refused("16,777,216 bytes", add(MIB64, "AAAA", texts, MESSAGE_MAX + 1, 1),
+            12);
+    expect("16,777,215 bytes", add(MIB64, "AAAA", texts, MESSAGE_MAX, 1), 0);
+    expect("  its header", field(data), 'a' * 16777216u + MESSAGE_MAX);
+    expect_space("  X", space);
+    expect_text("  its bytes", MIB64, "AAAA", data, texts, MESSAGE_MAX);
+    keep();
+    refused("a byte appended", add(MIB64, "AAAA", texts, 1, 3), 12);
+    refused("16,777,216 bytes in its place",
+            add(MIB64, "AAAA", texts, MESSAGE_MAX + 1, 2), 12);
+    refused("nothing appended", add(MIB64, "AAAA", texts, 0, 3), 0);
+    expect("as many others in its place",
+           add(MIB64, "AAAA", texts + 1, MESSAGE_MAX, 2), 0);
+    expect_space("  X", space);
+    expect_text("  its bytes", MIB64, "AAAA", data, texts + 1, MESSAGE_MAX);
+    expect("one less", add(MIB64, "AAAA", texts + 2, MESSAGE_MAX - 1, 2), 0);
+    expect_text("  its bytes", MIB64, "AAAA", data, texts + 2,
+                MESSAGE_MAX - 1);
+    expect("  the last byte", image[data + HEAD + MESSAGE_MAX - 1], 0);
+    expect("a byte appended now",
+           add(MIB64, "AAAA", texts + 2 + MESSAGE_MAX - 1, 1, 3), 0);
+    expect_space("  X", 2 * space);
+    expect_text("  its bytes", MIB64, "AAAA", data + space, texts + 2,
+                MESSAGE_MAX);
+    expect("  the old letter", image[data], 'd');
+    expect("half and half", add(MIB64, "BBBB", texts, 8388608, 1), 0);
+    keep();
+    refused("the other half and a byte",
+            add(MIB64, "BBBB", texts + 8388608, 8388608, 3), 12);
+    expect("the other half",
+           add(MIB64, "BBBB", texts + 8388608, 8388607, 3), 0);
+    expect_text("  its bytes", MIB64, "BBBB",
+                data + 2 * space + HEAD + 8388608, texts, MESSAGE_MAX);
+    keep();
+    refused("no space for another", add(MIB64, "CCCC", texts, MESSAGE_MAX, 1),
+            13);
+    expect_sound("sound", MIB64);
+    munmap(before, MIB64);
+}
+
+/* ---- messages up to the last byte of 1 GiB ---- */
+
+static const char *name_of(uint32_t i)
+{
+    static char name[5] = "    ";
+
+    name[2] = (char)('!' + i / 64);
+    name[3] = (char)('!' + i % 64);
+    return name;
+}
+
+static void test_full_image(void)
+{
+    const uint32_t space = HEAD + MESSAGE_MAX, whole = 63;
+    const uint32_t data = PAGE, last = data + whole * space;
+    const uint32_t rest = GIB - last - HEAD;
+    uint32_t done = 0, offset = TABLE;
+
+    created("1 GiB, K = 4", GIB, 4, 128, data);
+    for (uint32_t i = 0; i < whole; i++)
+        done += add(GIB, name_of(i), texts + i, MESSAGE_MAX, 1) == 0;
+    expect("longest messages", done, whole);
+    expect("one byte too many", add(GIB, "last", texts, rest + 1, 1), 13);
+    expect("up to the last byte", add(GIB, "last", texts, rest, 1), 0);
+    expect("  X", field(52), GIB);
+    expect("  M", field(56), (GIB - data - 1) / PAGE);
+    expect_text("  its bytes", GIB, "last", last, texts, rest);
+    expect("another byte", add(GIB, "more", texts, 1, 1), 13);
+    expect("a point without", add(GIB, "more", texts, 0, 1), 0);
+    expect("a byte appended", add(GIB, "last", texts, 1, 3), 13);
+    expect("the last in its place", add(GIB, "last", texts + 5, rest, 2), 0);
+    expect_text("  its bytes", GIB, "last", last, texts + 5, rest);
+    for (uint32_t i = 0; i < whole; i += 31)
+        expect_text("a text", GIB, name_of(i), data + i * space, texts + i,
+                    MESSAGE_MAX);
+    expect("count", count(GIB), whole + 2);
+    expect_sound("sound", GIB);
+
+    /* the length, then the offset of the last message damaged */
+    image[last + 3]++;
+    expect("a length past X", add(GIB, "last", texts, 1, 2), 11);
+    image[last + 3]--;
+    while (memcmp(image + offset, "last", 4) != 0)
+        offset += 8;
+    for (uint32_t o = GIB - 4; o <= GIB + 4; o += 4) {
+        set_field(offset + 4, o);
+        expect("an offset at the end", add(GIB, "last", texts, 1, 2), 11);
+    }
+    set_field(offset + 4, 0xFFFFFFFCu);
+    expect("an offset past 32 bits", add(GIB, "last", texts, 1, 2), 11);
+    set_field(offset + 4, last);
+    expect("delete", subject.remove(image, GIB, (const uint8_t *)"last", 4), 0);
+    expect("  the letter", image[last], 'd');
+    expect("  count", count(GIB), whole + 1);
+    madvise(image, GIB, MADV_DONTNEED);
+}
+
+/* ---- a table of 1,048,576 slots, filled to the last, beside plain C ---- */
+
+/* Another name for each i below 1,048,576. */
+static void spell(uint32_t i, uint8_t *name)
+{
+    uint32_t n = i * 2654435761u % SLOTS_MAX;
+
+    for (int j = 0; j < 5; j++)
+        name[j] = (uint8_t)('0' + (n >> 4 * j) % 16);
+}
+
+static uint32_t walk_all(size_t length)
+{
+    uint32_t shown = 0, slot = 0, key = 1, from = 0;
+
+    while (subject.walk(image, length, from, &slot, &key) == 0 && key != 0) {
+        if (slot < from || key != TABLE + slot * 9)
+            return 0;
+        from = slot + 1;
+        shown++;
+    }
+    return shown;
+}
+
+static void test_full_table(void)
+{
+    const size_t length = (TABLE + (size_t)SLOTS_MAX * 9 + PAGE - 1) /
+                          PAGE * PAGE;
+    uint8_t *plain = map(length);
+    uint32_t done = 0;
+    uint8_t name[5];
+
+    expect("create", subject.create(image, length, 5, SLOTS_MAX, 1), 0);
+    plain_create(plain, length, 5, SLOTS_MAX, 1);
+    for (uint32_t i = 0; i < SLOTS_MAX; i++) {
+        spell(i, name);
+        done += subject.add(image, length, name, 5, NULL, 0, 1) == 0;
+        plain_add(plain, length, name, 5, NULL, 0, 1);
+    }
+    expect("points added", done, SLOTS_MAX);
+    expect("count", count(length), SLOTS_MAX);
+    expect("as plain C", memcmp(plain, image, length) == 0, 1);
+    expect("one more",
+           subject.add(image, length, (const uint8_t *)"more!", 5, NULL, 0, 1),
+           10);
+    expect("walk", walk_all(length), SLOTS_MAX);
+    expect_sound("sound", length);
+    done = 0;
+    for (uint32_t i = 0; i < SLOTS_MAX; i += 4096) {
+        spell(i, name);
+        done += subject.remove(image, length, name, 5) == 0;
+        plain_delete(plain, length, name, 5);
+    }
+    expect("points deleted", done, 256);
+    expect("count", count(length), SLOTS_MAX - 256);
+    expect("as plain C", memcmp(plain, image, length) == 0, 1);
+    expect_sound("sound", length);
+    munmap(plain, length);
+}
+
+int main(void)
+{
+    image = map((size_t)GIB + PAGE);
+    texts = map(MESSAGE_MAX + PAGE);
+    for (uint32_t i = 0; i < MESSAGE_MAX + PAGE; i++)
+        texts[i] = (uint8_t)(i * 2654435761u >> 24);
+    test_questions();
+    test_longest_message();
+    test_full_image();
+    test_full_table();
+    printf("%u passed, %u failed\n", passed, failed);
+    return failed == 0 ? 0 : 1;
+}

@@ -1,0 +1,30 @@
+/* The calls of plain.h, tuned by hand. */
+#ifndef TUNED_H
+#define TUNED_H
+
+#include <stddef.h>
+#include <stdint.h>
+
+uint32_t tuned_create(uint8_t *image, size_t image_len, uint32_t key_size,
+                      uint32_t slots, uint32_t seed);
+
+uint32_t tuned_add(uint8_t *image, size_t image_len, const uint8_t *key,
+                   size_t key_len, const uint8_t *data, size_t data_len,
+                   uint32_t mode);
+
+uint32_t tuned_delete(uint8_t *image, size_t image_len, const uint8_t *key,
+                      size_t key_len);
+
+uint32_t tuned_lookup(const uint8_t *image, size_t image_len,
+                      const uint8_t *key, size_t key_len, uint32_t *offset,
+                      uint32_t *length);
+
+uint32_t tuned_count(const uint8_t *image, size_t image_len, uint32_t *count);
+
+uint32_t tuned_walk(const uint8_t *image, size_t image_len, uint32_t from,
+                    uint32_t *slot, uint32_t *key_offset);
+
+uint32_t tuned_check(const uint8_t *image, size_t image_len,
+                     uint32_t *verdict, uint32_t *slot);
+
+#endif

@@ -1,0 +1,67 @@
+#!/bin/sh
+# Tuned C in the library's place: every answer and image byte is compared with
+# plain C and the book. Then each fault below, one edit of a copy of tuned.c,
+# must be found. Ends with "N passed, M failed".
+#
+# Usage: ./tuned.sh [seed]        CALLS may be set.
+
+cd "$(dirname "$0")" || exit 2
+. ./tally.sh
+SEED=${1:-1}
+CALLS=${CALLS:-2000000}
+OUT=build/tuned
+COPY=$OUT/faulty.c
+
+# differs SOURCE: 1 if differential finds a difference, 0 if not.
+differs() {
+    make -s "$OUT/tuned-differential" OUT="$OUT" TUNED="$1" || return 2
+    timeout 300 "$OUT/tuned-differential" --strict --seed "$SEED" \
+        --calls "$CALLS" --quiet >"$OUT/report"
+}
+
+# faulty OLD NEW: OLD must stand in tuned.c exactly once, in one line.
+faulty() {
+    OLD=$1 NEW=$2 awk '
+        BEGIN { old = ENVIRON["OLD"]; new = ENVIRON["NEW"] }
+        {
+            at = index($0, old)
+            if (at > 0) {
+                n++
+                $0 = substr($0, 1, at - 1) new substr($0, at + length(old))
+            }
+            print
+        }
+        END { exit n != 1 }' reference/tuned.c >"$COPY"
+}
+
+finds() {
+    faulty "$1" "$2" || { echo "the edit does not apply exactly once"; return 1; }
+    differs "$COPY"
+    [ $? -eq 1 ]
+}
+
+mkdir -p "$OUT" || exit 2
+echo "seed $SEED"
+test_that "tuned C is as plain C" differs reference/tuned.c
+test_that "found: the first word alone decides" \
+    finds 'word == wanted && same_rest(f.at, key, v->key_size, width)' \
+    'word == wanted'
+test_that "found: a slot whose first word is zero taken for empty" \
+    finds 'word == 0 && zero_rest(f.at, v->key_size, width)' 'word == 0'
+test_that "found: the key's last word not compared" \
+    finds 'return word64(a + length - 8) == word64(b + length - 8);' \
+    'return 1;'
+test_that "found: the search does not wrap" \
+    finds 'f.at = v->table;' 'return f;'
+test_that "found: the last scrambled character left out" \
+    finds 'if (LIKELY(c <= span))' 'if (LIKELY(c < span))'
+test_that "found: an entry stays one slot too far" \
+    finds 'if (from_hole - 1 < far)' 'if (from_hole - 1 <= far)'
+test_that "found: a slot's last word not moved" \
+    finds 'memcpy(to + length - 8, &word, 8);' '(void)word;'
+test_that "found: a message of length 0 is sound" \
+    finds 'return m->length - 1 < v->next - offset - MESSAGE_HEADER;' \
+    'return m->length <= v->next - offset - MESSAGE_HEADER;'
+test_that "found: the version's last byte may be 2" \
+    finds '0x76010000u > 1)' '0x76010000u > 2)'
+tally
