@@ -55,14 +55,17 @@ unfolding inspect-definitions others
 others-sound = refl
 
 -- "entries from taken slots, text from active messages, held from the length at the offset, U = X − D"
-pub others-book : bookOf others
-    ≡ record {
+abbrev pub othersBook : Book
+othersBook =
+    record {
       terms = record { K = 1; N = 3; R = 4096; head = 4; most = 16777215 };
       entries =
-        record { name = one; text = []; held = 2 } ∷ record { name = 3 ∷ []; text = 84 ∷ []; held = 1 }
-        ∷ record { name = two; text = 80 ∷ 81 ∷ []; held = 2 } ∷ [];
+          record { name = one; text = []; held = 2 } ∷ record { name = 3 ∷ []; text = 84 ∷ []; held = 1 }
+          ∷ record { name = two; text = 80 ∷ 81 ∷ []; held = 2 } ∷ [];
       used = 24;
     }
+
+pub others-book : bookOf others ≡ othersBook
 unfolding reading others
 others-book = refl
 
@@ -82,8 +85,8 @@ pub others-answers : (filed othersCalls others
     ≡ othersAnswers ++ (shows 35
     (9 ∷ 9 ∷ 9 ∷ 100 ∷ 0 ∷ 0 ∷ 2 ∷ 80 ∷ 81 ∷ 9 ∷ 9 ∷ 97 ∷ 0 ∷ 0 ∷ 2 ∷ 85 ∷ 86 ∷ 9 ∷ 100 ∷ 0 ∷ 0 ∷ 1 ∷ 84 ∷ 9
     ∷ 97 ∷ 0 ∷ 0 ∷ 2 ∷ 84 ∷ 87 ∷ 97 ∷ 0 ∷ 0 ∷ 1 ∷ 88 ∷ []) ∷ []))
-    × (booked othersCalls (bookOf others) ≡ othersAnswers ++ (shows 35 [] ∷ []))
-unfolding filed booked reading others
+    × (booked othersCalls othersBook ≡ othersAnswers ++ (shows 35 [] ∷ []))
+unfolding filed booked others
 others-answers = (refl, refl)
 
 -- ---- bytes left in an empty slot
