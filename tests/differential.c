@@ -3,9 +3,11 @@
  * (a) Lists of calls from create on: library, plain reference and control
  *     book. Every answer is compared, and every image byte after every call;
  *     at a list's end the file must find exactly the book's points.
- * (b) Lists of calls on made-up, damaged and random images: library against
+ * (b) The same from sound images that no call made, with the book read off
+ *     their bytes.
+ * (c) Lists of calls on made-up, damaged and random images: library against
  *     plain reference, answers and bytes.
- * In both, a refused or reading call must leave every byte.
+ * In all, a refused or reading call must leave every byte.
  *
  * Options: --seed N, --calls N, --seconds N, --quiet, --strict.
  * --strict also compares outputs the document leaves open: walk's slot at the
@@ -16,7 +18,7 @@
  * what it was lent crashes, and the crash is reported like a difference.
  *
  * The parts stand in differential/: memory.c has what is lent; choose.c,
- * images.c and damage.c make arguments and images, steps.c and lists.c calls
+ * images.c, reopened.c and damage.c make arguments and images, steps.c and lists.c calls
  * of them; compare.c and book.c hold the answers against each other, and
  * report.c says what differs. */
 #define _DEFAULT_SOURCE
@@ -74,6 +76,16 @@ static int is_over(time_t start)
            time(NULL) - start >= (time_t)run.seconds;
 }
 
+static void run_list(uint32_t style)
+{
+    if (style < 8)
+        list_from_create();
+    else if (style < 11)
+        list_reopened();
+    else
+        list_on_damage();
+}
+
 static void print_seen(void)
 {
     printf("answers seen:\n%-8s", "");
@@ -101,10 +113,7 @@ int main(int argc, char **argv)
     while (!is_over(start)) {
         alarm(HANG_SECONDS);
         list.number++;
-        if (below(8) < 5)
-            list_from_create();
-        else
-            list_on_damage();
+        run_list(below(16));
     }
     if (!run.quiet)
         print_seen();
