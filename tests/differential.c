@@ -83,16 +83,6 @@ static int is_over(time_t start)
            time(NULL) - start >= (time_t)run.seconds;
 }
 
-static void run_list(uint32_t style)
-{
-    if (style < 8)
-        list_from_create();
-    else if (style < 11)
-        list_reopened();
-    else
-        list_on_damage();
-}
-
 static void print_seen(void)
 {
     printf("answers seen:\n%-8s", "");
@@ -109,8 +99,10 @@ static void print_seen(void)
 
 static void run_list(uint32_t style)
 {
-    if (style < 9)
+    if (style < 8)
         list_from_create();
+    else if (style < 11)
+        list_reopened();
     else if (style < 14)
         list_on_damage();
     else

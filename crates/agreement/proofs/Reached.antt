@@ -1,5 +1,5 @@
--- What holds of every file that calls have reached, from an accepted create or from any sound image, in words that a user
--- thinks in.
+-- What holds of every file that calls have reached, from an accepted create or from any sound image, in words that a
+-- user thinks in.
 --     Reached img b       img is the file, and b the book, after some list of calls from such a start
 --     reached-start, reached-reopened      a start is reached, and so is any sound image, with the book read off it
 --     reached-after       more calls reach on

@@ -123,7 +123,8 @@ module _ (g : Layout) (img : Bytes) (f : File g img) where
       let t : taken g img i ≡ true = ap not (ap allZero (s .1) ∙ allowed-zero g name a) in
       pointOf-some g img name (slot g img i) (ap (slotMet g img) m)
       ∙ ap (λ (x : Bytes). some (valueOf g img x (offsetOf g (slot g img i)))) (sym (s .1))
-      ∙ sym (find-entry g img name i t (s .1) (only-one name i (s .0) t (s .1)) (g .N) 0 (omega arith) (omega (arith, s .0)) (omega arith))
+      ∙ sym (find-entry g img name i t (s .1) (only-one name i (s .0) t (s .1)) (g .N) 0
+      (omega arith) (omega (arith, s .0)) (omega arith))
 
   points-from : (name : Bytes) → Allowed g name → pointOf g img name ≡ find name (entriesFrom g img (g .N) 0)
   unfolding entryOf slotMet isMet
@@ -137,7 +138,8 @@ module _ (g : Layout) (img : Bytes) (f : File g img) where
   others-from name h =
       find-nothing g img name (g .N) 0
       (λ k lo hi t e.
-      not-both (nameAllowed (g .K) name) (subst (λ (x : Bytes). Allowed g x) e (taken-allowed g img f k (omega arith) (is-taken k t))) h)
+      not-both (nameAllowed (g .K) name)
+      (subst (λ (x : Bytes). Allowed g x) e (taken-allowed g img f k (omega arith) (is-taken k t))) h)
 
 -- the relation, of a file and the book that is read off it
 pub file-reflects : (img : Bytes) → File (layoutOf img) img → Reflects (layoutOf img) img (bookOf img)

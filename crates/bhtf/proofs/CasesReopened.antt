@@ -1,5 +1,5 @@
 -- Cases of images that no call of ours made: sound, the book that each gives, and the answers of file and book.
---     others     version 1.0.0; another multiplier, start value, F = 0 and E = 3; a full table in which no key is at home
+--     others     version 1.0.0; another multiplier, start value, F = 0 and E = 3; a full table, no key at home
 --     left       offset bytes in an empty slot, and the image's last slot taken
 -- Assumes nothing.
 use mathlib.Core.Path.{_≡_, refl}
@@ -69,8 +69,8 @@ pub others-book : bookOf others ≡ othersBook
 unfolding reading others
 others-book = refl
 
--- Byte 1 shows no text; two bytes for it take no space. Byte 3 is appended to in new space. The table is full, until byte
--- 2 is deleted. The gaps stay as they were.
+-- Byte 1 shows no text; two bytes for it take no space. Byte 3 is appended to in new space. The table is full, until
+-- byte 2 is deleted. The gaps stay as they were.
 abbrev pub othersCalls : List Call
 othersCalls =
     looking one ∷ looking two ∷ adding one (85 ∷ 86 ∷ []) 2 ∷ adding (3 ∷ []) (87 ∷ []) 3 ∷ looking (3 ∷ []) ∷ point 9
@@ -111,12 +111,13 @@ left-book = refl
 
 -- ---- the statement
 
--- What `AgreementFrom` says of an image that the check calls sound: it and the book read off it give the same answers, and
--- find the same texts.
+-- What `AgreementFrom` says of an image that the check calls sound: it and the book read off it give the same answers,
+-- and find the same texts.
 pub reopened-says : AgreementFrom → (img : Bytes) → ((i : ℕ) → getD img i 0 < 256) → check img ≡ sound
     → (calls : List Call)
     → (answers perform calls img ≡ answers bookStep calls (bookOf img))
-    × ((name : Bytes) → fileText (stateAfter perform calls img) name ≡ bookText (stateAfter bookStep calls (bookOf img)) name)
+    × ((name : Bytes)
+    → fileText (stateAfter perform calls img) name ≡ bookText (stateAfter bookStep calls (bookOf img)) name)
 unfolding book-definitions Starts AgreementFrom
 reopened-says h img bytes checked calls =
     h img (bookOf img) (inr (record { bytes = bytes; checked = checked; book-is = refl })) calls

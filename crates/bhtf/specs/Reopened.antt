@@ -1,7 +1,7 @@
--- Document 02, Job 3: "The book to start from is read off a sound image: entries from taken slots, text from active messages,
--- held from the length at the offset, U = X − D. Every list of calls on such an image then agrees with it."
+-- Document 02, Job 3: "The book to start from is read off a sound image: entries from taken slots, text from active
+-- messages, held from the length at the offset, U = X − D. Every list of calls on such an image then agrees with it."
 --     bookOf img         the book that an image's bytes give
---     Starts img b       where a list of calls may start: an accepted create with the new book, or a sound image with its own
+--     Starts img b       where a list of calls may start: an accepted create, the new book; a sound image, its own
 --     AgreementFrom      demand 3 from every such start; `Agreement` is its case from create
 -- Assumes nothing.
 use Prim.Native.Nat.{ℕ, zero, suc, _-_, _<_}
