@@ -124,10 +124,15 @@ uint32_t bhtf_walk(const uint8_t *image, size_t image_len, uint32_t from,
                    uint32_t *slot, uint32_t *key_offset);
 
 /* Says whether the image is sound: *verdict is BHTF_SOUND when every key is
- * found by its search in its own slot, every message is whole and the count
- * is right; BHTF_SLOT_FAILS names in *slot the lowest slot where not;
- * BHTF_COUNT_FAILS says that only the count is wrong. Each key is searched,
- * so a damaged full table can take N * N slots. Refused with 1, 5 and 6. */
+ * found by its search in its own slot, every message is whole, none shares a
+ * byte with another (its header counts, and a withdrawn message that a key
+ * keeps is one too), and the count is right. BHTF_SLOT_FAILS names in *slot the
+ * lowest slot where not; of two that share bytes that is the higher one.
+ * BHTF_COUNT_FAILS says that only the count is wrong. Refused with 1, 5 and 6.
+ * Time: as long as the table and the messages are; but each key is searched, so
+ * a damaged full table can take N * N slots.
+ * Stack: up to 300 KiB (307,200 bytes), which a small thread may not have; the
+ * other calls take little. */
 uint32_t bhtf_check(const uint8_t *image, size_t image_len,
                     uint32_t *verdict, uint32_t *slot);
 

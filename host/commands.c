@@ -1,4 +1,4 @@
-/* create, add, delete, get, count and check. */
+/* create, add, delete, get and count. */
 #include "commands.h"
 
 #include "header.h"
@@ -322,46 +322,4 @@ int run_count(const struct options *o)
         return refuse(o->word[0], number);
     printf("%lu\n", (unsigned long)count);
     return finish_output(DONE);
-}
-
-/* ---- check ---- */
-
-static int print_verdict(const struct buffer *copy, uint32_t key_size,
-                         const struct options *o)
-{
-    const struct header h = header_read(copy->bytes);
-    struct buffer shown = { NULL, 0, 0 };
-    uint32_t verdict, slot;
-
-    bhtf_check(copy->bytes, copy->length, &verdict, &slot);
-    if (verdict == BHTF_SOUND) {
-        if (!o->quiet)
-            printf("sound: %lu %s\n", (unsigned long)h.count,
-                   h.count == 1 ? "point" : "points");
-        return finish_output(DONE);
-    }
-    if (verdict == BHTF_COUNT_FAILS) {
-        printf("unsound: the header's count of %lu points is wrong\n",
-               (unsigned long)h.count);
-        return finish_output(REFUSED);
-    }
-    if (name_show(&shown, copy->bytes + slot_offset(&h, slot), key_size) != 0 ||
-        buffer_put_byte(&shown, '\0') != 0)
-        return out_of_memory();
-    printf("unsound: slot %lu (%s) is not found by its name, or its message "
-           "is damaged\n", (unsigned long)slot, (const char *)shown.bytes);
-    buffer_free(&shown);
-    return finish_output(REFUSED);
-}
-
-int run_check(const struct options *o)
-{
-    struct buffer copy = { NULL, 0, 0 };
-    uint32_t key_size;
-    int status = copy_accepted(&copy, o, &key_size);
-
-    if (status == DONE)
-        status = print_verdict(&copy, key_size, o);
-    buffer_free(&copy);
-    return status;
 }

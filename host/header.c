@@ -1,6 +1,7 @@
 /* The header's numbers, for what the library has no call for. */
 #include "header.h"
 
+#include "bhtf.h"
 #include "limits.h"
 
 enum { SCRAMBLE = 512, TABLE = 2048, OFFSET_SIZE = 4 };
@@ -42,6 +43,27 @@ uint32_t slot_message(const uint8_t *image, const struct header *h,
                       uint32_t slot)
 {
     return read_u32(image + slot_offset(h, slot) + h->key_size);
+}
+
+int slot_stretch(const uint8_t *image, const struct header *h, uint32_t slot,
+                 struct stretch *s)
+{
+    uint32_t offset = slot_message(image, h, slot);
+    uint32_t length;
+
+    s->start = s->end = 0;
+    if (offset == 0)
+        return 1;
+    if (offset < h->data || offset >= h->next ||
+        h->next - offset < BHTF_MESSAGE_HEADER)
+        return 0;
+    length = read_u32(image + offset) & 0xFFFFFFu;
+    if ((image[offset] != 'a' && image[offset] != 'd') || length < 1 ||
+        length > h->next - offset - BHTF_MESSAGE_HEADER)
+        return 0;
+    s->start = offset;
+    s->end = offset + BHTF_MESSAGE_HEADER + length;
+    return 1;
 }
 
 uint32_t scramble_number(const uint8_t *image, uint32_t i)

@@ -26,6 +26,17 @@ uint32_t slot_offset(const struct header *h, uint32_t slot);
 uint32_t slot_message(const uint8_t *image, const struct header *h,
                       uint32_t slot);
 
+/* A message from its header to its end; no bytes, from 0 to 0, if none. */
+struct stretch {
+    uint32_t start;
+    uint32_t end;
+};
+
+/* The stretch of a slot's message: 1, or 0 if the message is damaged, which is
+ * the library's question 11. */
+int slot_stretch(const uint8_t *image, const struct header *h, uint32_t slot,
+                 struct stretch *s);
+
 /* Scramble number i, from 0 to E - F. */
 uint32_t scramble_number(const uint8_t *image, uint32_t i);
 

@@ -82,7 +82,9 @@ static const struct command commands[] = {
       WAITING },
     { "check", 0, 1, 1, run_check,
       "bhtf check FILE\n"
-      "Says whether the file is sound: status 0 if so, 1 if not.\n"
+      "Says whether the file is sound: status 0 if so, 1 if not. If not it says "
+      "where,\n"
+      "which two points share bytes, and what to do about that.\n"
       QUIET WAITING },
     { "stat", 0, 1, 1, run_stat,
       "bhtf stat FILE\n"

@@ -17,6 +17,7 @@ struct figures {
     uint64_t active;          /* bytes of active messages and their headers */
     uint64_t withdrawn;       /* bytes of inactive ones that a point keeps */
     uint32_t bad;             /* points whose message is damaged */
+    uint32_t verdict;         /* of the library's check */
 };
 
 static int row_of(uint32_t probes)
@@ -36,27 +37,17 @@ static void note_search(struct figures *f, uint32_t probes)
         f->longest = probes;
 }
 
-/* Question 11 for a slot's own message. */
 static void note_message(struct figures *f, const uint8_t *image,
-                         const struct header *h, uint32_t offset)
+                         const struct header *h, uint32_t slot)
 {
-    uint32_t length;
+    struct stretch s;
 
-    if (offset == 0)
-        return;
-    if (offset < h->data || offset > h->next - BHTF_MESSAGE_HEADER) {
+    if (!slot_stretch(image, h, slot, &s))
         f->bad++;
-        return;
-    }
-    length = read_u32(image + offset) & 0xFFFFFFu;
-    if (length < 1 || length > h->next - offset - BHTF_MESSAGE_HEADER)
-        f->bad++;
-    else if (image[offset] == 'a')
-        f->active += BHTF_MESSAGE_HEADER + length;
-    else if (image[offset] == 'd')
-        f->withdrawn += BHTF_MESSAGE_HEADER + length;
+    else if (s.end > 0 && image[s.start] == 'a')
+        f->active += s.end - s.start;
     else
-        f->bad++;
+        f->withdrawn += s.end - s.start;
 }
 
 static void gather(struct figures *f, const struct buffer *copy,
@@ -65,6 +56,7 @@ static void gather(struct figures *f, const struct buffer *copy,
     uint32_t slot, place;
 
     memset(f, 0, sizeof *f);
+    bhtf_check(copy->bytes, copy->length, &f->verdict, &slot);
     bhtf_walk(copy->bytes, copy->length, 0, &slot, &place);
     while (place != 0) {
         uint32_t home = home_slot(copy->bytes, h, copy->bytes + place);
@@ -72,7 +64,7 @@ static void gather(struct figures *f, const struct buffer *copy,
 
         f->points++;
         note_search(f, steps + 1);
-        note_message(f, copy->bytes, h, slot_message(copy->bytes, h, slot));
+        note_message(f, copy->bytes, h, slot);
         bhtf_walk(copy->bytes, copy->length, slot + 1, &slot, &place);
     }
 }
@@ -122,6 +114,7 @@ static void print_searches(const struct figures *f)
         print_row(f, row, most);
 }
 
+/* What is dead is known if every message is whole and shares no bytes. */
 static void print_space(const struct figures *f, const struct header *h,
                         size_t length)
 {
@@ -130,8 +123,8 @@ static void print_space(const struct figures *f, const struct header *h,
     printf("data: %lu bytes, %lu used, %lu free\n",
            (unsigned long)(length - h->data), (unsigned long)used,
            (unsigned long)(length - h->next));
-    if (f->active + f->withdrawn > used)
-        printf("dead: unknown, since messages share bytes\n");
+    if (f->verdict == BHTF_SLOT_FAILS)
+        printf("dead: unknown, since the file is not sound\n");
     else
         printf("dead: %lu bytes, of which %lu are kept by points without a "
                "text\n", (unsigned long)(used - f->active),
@@ -142,10 +135,8 @@ static int print_figures(const struct buffer *copy)
 {
     const struct header h = header_read(copy->bytes);
     struct figures f;
-    int sound;
 
     gather(&f, copy, &h);
-    sound = f.bad == 0 && f.points == h.count;
     printf("file: %lu bytes, key size %lu\n", (unsigned long)copy->length,
            (unsigned long)h.key_size);
     printf("load: %lu points in %lu slots, %.1f %%\n",
@@ -159,7 +150,10 @@ static int print_figures(const struct buffer *copy)
                (unsigned long)h.count);
     if (f.bad > 0)
         printf("damaged: the messages of %lu points\n", (unsigned long)f.bad);
-    return finish_output(sound ? DONE : REFUSED);
+    if (f.verdict == BHTF_SOUND)
+        return finish_output(DONE);
+    printf("unsound: bhtf check says where\n");
+    return finish_output(REFUSED);
 }
 
 int run_stat(const struct options *o)

@@ -273,10 +273,10 @@ gives "stat: histogram" 0 '^ +1 +4 #+$' bhtf stat names
 bhtf add names big 0123456789
 bhtf delete names big
 gives "stat: displacements" 0 '^displacements: 0 slots together$' bhtf stat names
-bhtf create full --key-size 1 --slots 2 --size 8192
-bhtf add full a x
-bhtf add full b x
-gives "stat: a full table" 0 '^the table is full: a delete looks at up to [23] slots$' bhtf stat full
+bhtf create brim --key-size 1 --slots 2 --size 8192
+bhtf add brim a x
+bhtf add brim b x
+gives "stat: a full table" 0 '^the table is full: a delete looks at up to [23] slots$' bhtf stat brim
 gives "stat: dead bytes" 0 'dead: 14 bytes' bhtf stat names
 
 # ---- import and export ----
@@ -401,6 +401,34 @@ gives "stat says damaged" 1 'damaged' bhtf stat damaged
 cp a damaged
 printf '\000\000\000\011' | dd of=damaged bs=1 seek=20 conv=notrunc status=none
 gives "check names the count" 1 'count of 9 points is wrong' bhtf check damaged
+
+# Two points on one message. Their texts stand from 4096 and 4105 on, each behind a header of 4 bytes.
+bhtf create apart --key-size 1 --slots 8 --size 8192 --quiet
+bhtf add apart a first
+bhtf add apart b second
+read -r low high < <(bhtf list apart --long | awk '{ print $1, $3 }' | sort -n | awk '{ printf "%s:%s ", $1, $2 }')
+# at FILE PLACE BYTES: written over, as printf takes them
+at() { printf "$3" | dd of="$1" bs=1 seek="$2" conv=notrunc status=none; }
+both="slot ${high%:*} \\(${high#*:}\\) and slot ${low%:*} \\(${low#*:}\\) share"
+gives "texts that touch share nothing" 0 '^sound: 2 points$' bhtf check apart
+cp apart joined
+for slot in "${low%:*}" "${high%:*}"; do at joined $((2048 + slot * 5 + 1)) '\000\000\020\000'; done
+gives "two points on one text: both are named" 1 "^unsound: $both bytes 4096 to 4104 of the file$" bhtf check joined
+gives "and what to do" 1 'bhtf dump FILE \| bhtf load NEW' bhtf check joined
+same "but not with --quiet" 1 "$(bhtf check joined --quiet | wc -l)"
+gives "stat does not guess" 1 'dead: unknown' bhtf stat joined
+gives "and says whom to ask" 1 '^unsound: bhtf check' bhtf stat joined
+holds "dump and load part them" sh -c 'bhtf dump joined | bhtf load parted --quiet'
+gives "the new file is sound" 0 '^sound: 2 points$' bhtf check parted
+same "and each point has the text" "first first" "$(bhtf get parted a) $(bhtf get parted b)"
+cp apart reaching
+at reaching 4099 '\006'
+gives "one byte shared" 1 "^unsound: $both byte 4105 of the file$" bhtf check reaching
+bhtf add reaching b '' --replace
+gives "by a withdrawn text too" 1 "$both byte 4105" bhtf check reaching
+cp apart twice
+at twice $((2048 + ${high%:*} * 5)) "${low#*:}"
+gives "a name that stands twice" 1 "^unsound: slot ${high%:*} \\(${low#*:}\\) is not found by its name$" bhtf check twice
 
 # Random damage, under the sanitizers: status 0 or 1 and no report.
 bhtf create site --key-size 8 --slots 31 --size 12288

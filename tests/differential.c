@@ -5,7 +5,9 @@
  *     at a list's end the file must find exactly the book's points.
  * (b) Lists of calls on made-up, damaged and random images: library against
  *     plain reference, answers and bytes.
- * In both, a refused or reading call must leave every byte.
+ * (c) The same on spliced images, in which points share bytes; the check's word
+ *     is also held against its definition, pair by pair.
+ * In all, a refused or reading call must leave every byte.
  *
  * Options: --seed N, --calls N, --seconds N, --quiet, --strict, --old-limits.
  * --old-limits keeps to images and tables within document 01's limits.
@@ -17,8 +19,8 @@
  * what it was lent crashes, and the crash is reported like a difference.
  *
  * The parts stand in differential/: memory.c has what is lent; choose.c,
- * images.c and damage.c make arguments and images, steps.c and lists.c calls
- * of them; compare.c and book.c hold the answers against each other, and
+ * images.c, damage.c and splice.c make arguments and images, steps.c and
+ * lists.c calls of them; compare.c and book.c hold the answers against each other, and
  * report.c says what differs. */
 #define _DEFAULT_SOURCE
 
@@ -93,6 +95,16 @@ static void print_seen(void)
     }
 }
 
+static void run_list(uint32_t style)
+{
+    if (style < 9)
+        list_from_create();
+    else if (style < 14)
+        list_on_damage();
+    else
+        list_on_splice();
+}
+
 int main(int argc, char **argv)
 {
     time_t start = time(NULL);
@@ -106,10 +118,7 @@ int main(int argc, char **argv)
     while (!is_over(start)) {
         alarm(HANG_SECONDS);
         list.number++;
-        if (below(8) < 5)
-            list_from_create();
-        else
-            list_on_damage();
+        run_list(below(16));
     }
     if (!run.quiet)
         print_seen();

@@ -300,14 +300,50 @@ fault "walk never ends" \
 fault "check forgets C" \
     'if (taken != v.count)' 'if (taken > v.slots)'
 fault "check names the highest failing slot" \
-    'for (uint32_t i = 0; i < v.slots; i++) {' \
-    'for (uint32_t i = v.slots; i-- > 0;) {'
+    'for (*taken = 0; slot < v->slots; slot++) {' \
+    'for (*taken = 0, slot = v->slots - 1; slot < v->slots; slot--) {'
 fault "check passes a second copy of a key" \
     'if (f.ending != MET || f.slot != slot)' 'if (f.ending != MET)'
 fault "check does not look at messages" \
-    'return read_message(v, message_in(v, slot), &m);' 'return 1;'
+    'return read_message(v, message_in(v, slot), m);' \
+    'return m->offset = 0, 1;'
 fault "check asks for C of at least 1" \
     'if (taken != v.count)' 'if (taken != v.count || taken == 0)'
+
+# Two points on one message.
+fault "check does not ask whether messages share bytes" \
+    'return first_meeting(s, noted, slot);' \
+    'return first_meeting(s, noted, slot), slot;'
+fault "a stretch begins behind its header" \
+    's->start = m->offset;' 's->start = m->offset + MESSAGE_HEADER;'
+fault "a stretch is as long as its text" \
+    's->end = m->offset + MESSAGE_HEADER + m->length;' \
+    's->end = m->offset + m->length;'
+fault "messages that touch share bytes" \
+    'if (s[i].start < end)' 'if (s[i].start <= end)'
+fault "one byte may be shared" \
+    'if (s[i].start < end)' 'if (s[i].start + 1 < end)'
+fault "only equal offsets share bytes" \
+    'if (s[i].start < end)' 'if (i > 0 && s[i].start == s[i - 1].start)'
+fault "only neighbours among the offsets are compared" \
+    'if (s[i].slot >= slot)' 'if (s[i].slot >= slot && (end = 0, 1))'
+fault "a stretch is compared with the slot before it only" \
+    'return first_meeting(s, noted, slot);' \
+    'for (uint32_t i = 1; i < noted; i++) if (s[i].start < s[i - 1].end && s[i - 1].start < s[i].end) return s[i].slot; return slot;'
+fault "only active messages share bytes" \
+    'if (m.offset != 0)' 'if (m.active)'
+fault "the lower slot of two is named" \
+    'return apart;' \
+    'for (uint32_t i = 0, j = 0;; j++) { while (s[i].slot != apart) i++; if (s[j].slot < apart && s[j].start < s[i].end && s[i].start < s[j].end) return s[j].slot; }'
+fault "shared bytes are asked for only where every slot is good" \
+    'return first_meeting(s, noted, slot);' \
+    'return slot < v->slots ? slot : first_meeting(s, noted, slot);'
+fault "shared bytes are asked for only where C is right" \
+    'return first_meeting(s, noted, slot);' \
+    'return *taken == v->count ? first_meeting(s, noted, slot) : slot;'
+fault "shared bytes behind 2 MiB are passed over" \
+    'if (m.offset != 0)' \
+    'if (m.offset != 0 && m.offset < v->data + 2097152)'
 
 echo "$passed passed, $failed failed"
 [ "$failed" -eq 0 ]

@@ -217,11 +217,12 @@ void ring_image(void);
 void grown_image(void);
 void random_image(void);
 
-/* ---- damage.c, lists.c ---- */
+/* ---- damage.c, splice.c, lists.c ---- */
 
 void damage(void);
 
 void list_from_create(void);
 void list_on_damage(void);
+void list_on_splice(void);
 
 #endif

@@ -2,6 +2,7 @@
  * are those of 02-change-requests.md; a build may set 01's instead. */
 #include "plain.h"
 
+#include <stdlib.h>
 #include <string.h>
 
 #define PAGE 4096u
@@ -631,40 +632,119 @@ uint32_t plain_walk(const uint8_t *image, size_t image_len, uint32_t from,
     return ACCEPTED;
 }
 
-/* A taken slot is good when its key's search ends there and its message
- * passes question 11. */
-static int slot_is_good(const struct view *v, uint32_t slot)
+/* A taken slot is good by itself when its key's search ends there and its
+ * message passes question 11. */
+static int slot_is_good(const struct view *v, uint32_t slot, struct message *m)
 {
     struct found f = search(v, key_in(v, slot));
-    struct message m;
 
     if (f.ending != MET || f.slot != slot)
         return 0;
-    return read_message(v, message_in(v, slot), &m);
+    return read_message(v, message_in(v, slot), m);
+}
+
+/* From a message's header to its end, and whose it is. */
+struct stretch {
+    uint32_t start;
+    uint32_t end;
+    uint32_t slot;
+};
+
+static void note(struct stretch *s, uint32_t slot, const struct message *m)
+{
+    s->start = m->offset;
+    s->end = m->offset + MESSAGE_HEADER + m->length;
+    s->slot = slot;
+}
+
+static int by_start(const void *a, const void *b)
+{
+    uint32_t one = ((const struct stretch *)a)->start;
+    uint32_t other = ((const struct stretch *)b)->start;
+
+    return (one > other) - (one < other);
+}
+
+/* Of the stretches in the order of their starts: do those of the slots below
+ * that one not meet? Then none begins before the last one's end. */
+static int are_apart(const struct stretch *s, uint32_t count, uint32_t slot)
+{
+    uint32_t end = 0;
+
+    for (uint32_t i = 0; i < count; i++) {
+        if (s[i].slot >= slot)
+            continue;
+        if (s[i].start < end)
+            return 0;
+        end = s[i].end;
+    }
+    return 1;
+}
+
+/* The lowest slot below limit whose stretch meets that of a lower one, or
+ * limit: the slots up to it are no longer apart, and those before it are; so
+ * it is found by halving. */
+static uint32_t first_meeting(struct stretch *s, uint32_t count,
+                              uint32_t limit)
+{
+    uint32_t apart = 0, meeting = limit;
+
+    if (count > 0)
+        qsort(s, count, sizeof *s, by_start);
+    if (are_apart(s, count, limit))
+        return limit;
+    while (meeting - apart > 1) {
+        uint32_t middle = apart + (meeting - apart) / 2;
+
+        if (are_apart(s, count, middle))
+            apart = middle;
+        else
+            meeting = middle;
+    }
+    return apart;
+}
+
+/* The lowest slot that fails, or N; counts the taken slots before it. */
+static uint32_t first_failing(const struct view *v, struct stretch *s,
+                              uint32_t *taken)
+{
+    struct message m;
+    uint32_t noted = 0, slot = 0;
+
+    for (*taken = 0; slot < v->slots; slot++) {
+        if (!is_taken(v, slot))
+            continue;
+        if (!slot_is_good(v, slot, &m))
+            break;
+        ++*taken;
+        if (m.offset != 0)
+            note(&s[noted++], slot, &m);
+    }
+    return first_meeting(s, noted, slot);
 }
 
 uint32_t plain_check(const uint8_t *image, size_t image_len,
                      uint32_t *verdict, uint32_t *slot)
 {
     struct view v;
-    uint32_t taken = 0;
+    struct stretch *s;
+    uint32_t taken, failing;
     uint32_t answer = open_image(&v, image, image_len);
 
     *verdict = 0;
     *slot = 0;
     if (answer != ACCEPTED)
         return answer;
-    for (uint32_t i = 0; i < v.slots; i++) {
-        if (!is_taken(&v, i))
-            continue;
-        taken++;
-        if (!slot_is_good(&v, i)) {
-            *verdict = 1;
-            *slot = i;
-            return ACCEPTED;
-        }
-    }
-    if (taken != v.count)
+    s = malloc(v.slots * sizeof *s);
+    if (s == NULL)
+        abort();
+    failing = first_failing(&v, s, &taken);
+    free(s);
+    if (failing < v.slots) {
+        *verdict = 1;
+        *slot = failing;
+    } else if (taken != v.count) {
         *verdict = 2;
+    }
     return ACCEPTED;
 }

@@ -1,15 +1,15 @@
 -- Laws of bytes: what is read at the place of a store, below it and above it, its length; numbers of any width.
 -- Every write to an image is a `store`, so these laws carry all that is said of bytes. Callers do not unfold `store`.
 -- Assumes nothing.
-use mathlib.Core.Path.{_≡_, refl, sym, ap, ap₂, _∙_}
+use mathlib.Core.Path.{_≡_, refl, sym, ap, ap₂, _∙_, subst}
 use Prim.Native.Nat.{ℕ, zero, suc, _+_, _-_, _*_, _/_, _%_, _^_, _≤_, _<_}
-use native.Mathlib.Nat.{zero-add, mod-eq-of-lt, mod-one, mul-suc, pow-succ'}
+use native.Mathlib.Nat.{zero-add, mod-eq-of-lt, mod-one, suc-mul, mul-suc, mul-le-mul-right, pow-succ'}
 use native.Mathlib.Omega.{arith}
 use mathlib.Core.Bool.{true, false, true≢false, false≢true}
 use mathlib.Core.Logic.{_⊎_, inl, inr}
 use mathlib.Core.List.{List, [], _∷_, _++_}
 use lib.ListN.{length, take, drop, getD, length-append, length-drop, length-replicate}
-use lib.Seq.{take-at, drop-at, take-append-le, drop-append-le, drop-append-add, drop-drop, take-take, length-take-le}
+use lib.Seq.{take-at, drop-at, take-append-le, drop-append-le, drop-append-add, drop-drop, take-take, length-take-le, getD-drop}
 use lib.Dec.{eqb}
 use lib.Pow.{pow-add, mod-pow-add}
 use borrow.Author.Tests.{eqb-true, eq-eqb}
@@ -151,6 +151,27 @@ number-digits-fits w n h = number-digits w n ∙ mod-eq-of-lt h
 -- every element is a byte: what owning a slice gives, as `c .shared-slice-known .given`
 abbrev pub AreBytes : Bytes → Type 0
 AreBytes b = (i : ℕ) → getD b i 0 < 256
+
+-- a number stored in bytes is below what its width can hold
+pub number-below : (v : Bytes) → AreBytes v → number v < 256 ^ length v
+unfolding number
+number-below [] h = omega arith
+number-below (b ∷ bs) h =
+    let ih : number bs < 256 ^ length bs = number-below bs (λ i. h (suc i)) in
+    let top : suc b * 256 ^ length bs ≤ 256 * 256 ^ length bs = mul-le-mul-right (256 ^ length bs) (h 0) in
+    omega (arith, ih, top, suc-mul b (256 ^ length bs), pow-succ' 256 (length bs))
+
+take-bytes : (m : ℕ) (b : Bytes) → AreBytes b → AreBytes (take m b)
+take-bytes zero b h i = omega arith
+take-bytes (suc m) [] h i = omega arith
+take-bytes (suc m) (x ∷ b) h zero = h zero
+take-bytes (suc m) (x ∷ b) h (suc i) = take-bytes m b (λ k. h (suc k)) i
+
+pub part-below : (b : Bytes) (p m : ℕ) → AreBytes b → p + m ≤ length b → number (part b p m) < 256 ^ m
+part-below b p m h l =
+    subst (λ (n : ℕ). number (part b p m) < 256 ^ n) (part-length b p m l)
+    (number-below (part b p m)
+    (unfold part in take-bytes m (drop p b) (λ i. rw (getD-drop p b i 0) (h (p + i)))))
 
 -- ---- zeros and comparisons
 

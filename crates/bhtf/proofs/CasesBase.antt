@@ -20,7 +20,7 @@ use Rattle.bhtf.specs.Messages.{headSize, letterAt, lengthAt, textAt, is
 use Rattle.bhtf.specs.Delete.{among, moved, closeFrom, closed, deletedAt, deleted}
 use Rattle.bhtf.specs.Questions.{ask, firstNo, sizeAllowed, keyAllowed, slotsAllowed, tableFits, versionKnown, headerSound, nameAllowed, modeKnown, newInMode1, slotToTake, messageSound, metMessageSound, somePoint, lengthAllowed, spaceLeft, createAsks, opened, named, pointAsks, addAsks, lookupAsks, deleteAsks, createNumber, openNumber, seekNumber, addNumber, deleteNumber, lookupNumber}
 use Rattle.bhtf.specs.Calls.{Call, adding, Answer, plain, settled, create, add, delete, lookupOffset, lookupStart, lookupLength, lookup, countOf, count, perform, answers, stateAfter}
-use Rattle.bhtf.specs.Inspect.{lowest, taken, takenFrom, nextTaken, stopAt, keyWalk, stopNumber, keyStart, keyLength, keyShown, endsAt, slotSound, slotFails, countSound, verdictOf, check, verdictNumber}
+use Rattle.bhtf.specs.Inspect.{lowest, taken, takenFrom, nextTaken, stopAt, keyWalk, stopNumber, keyStart, keyLength, keyShown, endsAt, entrySound, stretchStart, endAt, stretchEnd, meets, someBelow, meetsLower, slotSound, slotFails, countSound, verdictOf, check, verdictNumber}
 use Rattle.bhtf.specs.Book.{newBook, find, without, withEntry, stepOf, roomAsks, entered, placed, addAbsent, replace, append, addPresent, addFound, guarded, bookAdd, deleteFound, bookDelete, lookupFound, bookLookup, bookCount, bookStep}
 use Rattle.bhtf.specs.Demand.{fileText, textOf, bookText, termsOf, Agrees, Agreement}
 
@@ -50,7 +50,8 @@ book-definitions = 0
 
 unfoldable pub inspect-definitions : ℕ
 unfolding definitions
-    lowest taken takenFrom nextTaken stopAt keyWalk stopNumber keyStart keyLength keyShown endsAt slotSound slotFails
+    lowest taken takenFrom nextTaken stopAt keyWalk stopNumber keyStart keyLength keyShown endsAt
+    entrySound stretchStart endAt stretchEnd meets someBelow meetsLower slotSound slotFails
     countSound verdictOf check verdictNumber
 inspect-definitions = 0
 

@@ -25,6 +25,7 @@ pub mod Delete  -- the walk keeps what searches go by, and takes one key out
 pub mod Verdict  -- what a check that says sound has seen
 -- ---- messages and calls
 pub mod Stretch  -- a message as a stretch of bytes
+pub mod Meeting  -- stretches of slots, and whether they meet
 pub mod Texts  -- the text that each mode of add places
 pub mod Effects  -- the effects of a call, one by one
 pub mod Sought  -- the questions that every call on a name puts first
@@ -38,3 +39,4 @@ pub mod CasesHeader  -- create, the hash, the header
 pub mod CasesFile  -- messages, the table, images that no create left
 pub mod CasesBook  -- the book, and file and book side by side
 pub mod CasesInspect  -- walk and check
+pub mod CasesStretches  -- two points on one message

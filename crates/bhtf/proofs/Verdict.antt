@@ -2,7 +2,7 @@
 --     lowest-some, lowest-none      what the answer of `lowest` says
 --     lowest-yes, lowest-no, lowest-end      one number looked at, as a loop from i up to n has it
 --     searches-findable      a table where each taken slot's key, searched, ends there is findable
---     check-open, check-searches, check-messages, check-count, check-weight, check-findable
+--     check-open, check-searches, check-messages, check-apart, check-count, check-weight, check-findable
 --                         of an image that the check calls sound
 -- Assumes nothing.
 use mathlib.Core.Path.{_≡_, refl, sym, ap, _∙_}
@@ -11,13 +11,13 @@ use native.Mathlib.Omega.{arith}
 use mathlib.Core.Bool.{Bool, true, false, cond, not, _&&_}
 use mathlib.Core.Option.{Option, none, some}
 use lib.Dec.{eqb}
-use borrow.Author.Tests.{eqb-true, not-false}
+use borrow.Author.Tests.{eqb-true, not-true, not-false}
 use Rattle.bhtf.specs.Bytes.{Bytes}
 use Rattle.bhtf.specs.Limits.{pointsField}
 use Rattle.bhtf.specs.Image.{field, Layout, layoutOf, slot, offsetOf}
 use Rattle.bhtf.specs.Search.{Probe, met, empty, exhausted, search}
 use Rattle.bhtf.specs.Questions.{messageSound, openNumber}
-use Rattle.bhtf.specs.Inspect.{lowest, taken, takenFrom, endsAt, slotSound, slotFails, Verdict, sound, countSound, verdictOf, tableVerdict, check}
+use Rattle.bhtf.specs.Inspect.{lowest, taken, takenFrom, endsAt, entrySound, meetsLower, slotSound, slotFails, Verdict, sound, countSound, verdictOf, tableVerdict, check}
 use Rattle.bhtf.proofs.Tests.{by-bool, by-eq, and-left, and-right}
 use Rattle.bhtf.proofs.Table.{Taken, keyAt, Findable, weight}
 use Rattle.bhtf.proofs.Probe.{search-met}
@@ -145,6 +145,18 @@ module _ (img : Bytes) (ok : check img ≡ sound) where
       i (omega arith) (omega arith))
       t
 
+  check-entry : (i : ℕ) → i < layoutOf img .N → Taken (layoutOf img) img i → entrySound (layoutOf img) img i ≡ true
+  unfolding slotSound
+  check-entry i l t =
+      and-left (entrySound (layoutOf img) img i) (not (meetsLower (layoutOf img) img i)) (check-slot i l t)
+
+  -- its stretch meets no lower-numbered slot's
+  pub check-apart : (i : ℕ) → i < layoutOf img .N → Taken (layoutOf img) img i → meetsLower (layoutOf img) img i ≡ false
+  unfolding slotSound
+  check-apart i l t =
+      not-true (meetsLower (layoutOf img) img i)
+      (and-right (entrySound (layoutOf img) img i) (not (meetsLower (layoutOf img) img i)) (check-slot i l t))
+
   pub check-open : openNumber img ≡ 0
   check-open = eqb-true (openNumber img) 0 (parts .0)
 
@@ -154,14 +166,14 @@ module _ (img : Bytes) (ok : check img ≡ sound) where
       endsAt-met (search (layoutOf img) img (keyAt (layoutOf img) img i)) i
       (and-left (endsAt (search (layoutOf img) img (keyAt (layoutOf img) img i)) i)
       (messageSound (layoutOf img) img (offsetOf (layoutOf img) (slot (layoutOf img) img i)))
-      (unfold slotSound in check-slot i l t))
+      (unfold entrySound in check-entry i l t))
 
   pub check-messages : (i : ℕ) → i < layoutOf img .N → Taken (layoutOf img) img i
       → messageSound (layoutOf img) img (offsetOf (layoutOf img) (slot (layoutOf img) img i)) ≡ true
   check-messages i l t =
       and-right (endsAt (search (layoutOf img) img (keyAt (layoutOf img) img i)) i)
       (messageSound (layoutOf img) img (offsetOf (layoutOf img) (slot (layoutOf img) img i)))
-      (unfold slotSound in check-slot i l t)
+      (unfold entrySound in check-entry i l t)
 
   pub check-count : field img pointsField ≡ takenFrom (layoutOf img) img (layoutOf img .N) 0
   check-count =

@@ -1,13 +1,14 @@
 -- Document 01, "Walk, check, lister, C": the key walk and the check of an image. Both put questions 1, 5 and 6.
 -- Assumes nothing.
 use Prim.Native.Nat.{ℕ, zero, suc, _+_, _-_}
-use mathlib.Core.Bool.{Bool, true, false, cond, not, _&&_}
+use mathlib.Core.Bool.{Bool, true, false, cond, not, _&&_, _||_}
 use mathlib.Core.Option.{Option, none, some}
-use lib.Dec.{eqb}
+use lib.Dec.{ltb, eqb}
 use Rattle.bhtf.specs.Bytes.{Bytes, part}
 use Rattle.bhtf.specs.Limits.{pointsField}
 use Rattle.bhtf.specs.Image.{field, Layout, layoutOf, slotStart, slot, keyOf, offsetOf, vacant}
 use Rattle.bhtf.specs.Search.{Probe, met, empty, exhausted, search}
+use Rattle.bhtf.specs.Messages.{headSize, lengthAt}
 use Rattle.bhtf.specs.Questions.{messageSound, openNumber}
 
 -- the lowest slot at or above i, of those that are left, for which the test holds
@@ -70,15 +71,46 @@ endsAt (empty j) i = false
 endsAt exhausted i = false
 
 -- a taken slot whose "key, searched, ends there", and whose "message passes 11"
-unfoldable pub slotSound : Layout → Bytes → ℕ → Bool
-slotSound g img i =
+unfoldable pub entrySound : Layout → Bytes → ℕ → Bool
+entrySound g img i =
     endsAt (search g img (keyOf g (slot g img i))) i && messageSound g img (offsetOf g (slot g img i))
+
+-- Document 02, Job 1: "Now a taken slot with an offset other than 0 also fails the check when its stretch, from its
+-- header to the end of its message, meets the stretch of a lower-numbered taken slot." Inactive messages have stretches
+-- too; equal offsets meet, and a stretch that begins where another ends does not. Start and end are 0 where a slot has
+-- no stretch, so that it meets none.
+unfoldable pub stretchStart : Layout → Bytes → ℕ → ℕ
+stretchStart g img i = cond (taken g img i) (offsetOf g (slot g img i)) 0
+
+-- where the message at an offset ends; 0 for no offset
+unfoldable pub endAt : Layout → Bytes → ℕ → ℕ
+endAt g img o = cond (eqb o 0) 0 (o + headSize g + lengthAt g img o)
+
+unfoldable pub stretchEnd : Layout → Bytes → ℕ → ℕ
+stretchEnd g img i = endAt g img (stretchStart g img i)
+
+-- the stretches of two slots share a byte
+unfoldable pub meets : Layout → Bytes → ℕ → ℕ → Bool
+meets g img i j =
+    ltb (stretchStart g img i) (stretchEnd g img j) && ltb (stretchStart g img j) (stretchEnd g img i)
+
+-- whether the test holds for a number below n
+unfoldable pub someBelow : (ℕ → Bool) → ℕ → Bool
+someBelow p zero = false
+someBelow p (suc n) = p n || someBelow p n
+
+unfoldable pub meetsLower : Layout → Bytes → ℕ → Bool
+meetsLower g img i = someBelow (meets g img i) i
+
+unfoldable pub slotSound : Layout → Bytes → ℕ → Bool
+slotSound g img i = entrySound g img i && not (meetsLower g img i)
 
 unfoldable pub slotFails : Layout → Bytes → ℕ → Bool
 slotFails g img i = taken g img i && not (slotSound g img i)
 
 -- "The check says sound when each taken slot's key, searched, ends there, its message passes 11, and C is the number of
--- taken slots. Else it names the lowest failing slot, or, if only C fails, the count."
+-- taken slots. Else it names the lowest failing slot, or, if only C fails, the count." A slot fails for any of the
+-- three reasons.
 pub data Verdict : Type 0 where
   refused : ℕ → Verdict
   sound : Verdict

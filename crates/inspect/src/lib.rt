@@ -4,6 +4,7 @@ use layout::places::Slot;
 use layout::shape::Shape;
 use layout::shape::read_shape;
 use messages::message_sound;
+use overlap::first_meeting;
 use questions::open_number;
 use table::Found;
 use table::key_of;
@@ -15,8 +16,9 @@ use words::limits::POINTS_FIELD;
 ghost use mathlib.Core.Path.{_≡_};
 ghost use Prim.Native.Nat.{_<_};
 ghost use Rattle.bhtf.specs.Image.{layoutOf};
-ghost use Rattle.bhtf.specs.Inspect.{slotSound, tableVerdict, check};
+ghost use Rattle.bhtf.specs.Inspect.{entrySound, tableVerdict, check};
 ghost use Rattle.layout.specs.Shapes.{Open};
+ghost use Rattle.inspect.specs.Entries.{EntriesPassed};
 ghost use Rattle.inspect.specs.Verdicts.{verdictIn};
 
 // What the check says: refused with a number, sound, the lowest slot that fails, or that C alone fails.
@@ -28,9 +30,9 @@ pub enum Verdict {
 }
 
 // Whether the key of slot i, searched, ends there, and its message passes question 11.
-fn slot_sound(image: &[u8], shape: Shape, i: Slot) -> bool
+fn entry_sound(image: &[u8], shape: Shape, i: Slot) -> bool
     requires { ⌜ Open (now image) shape × (i .0 < shape .slots) ⌝ }
-    ensures { λ r. ⌜ r ≡ slotSound (layoutOf (now (image .entry))) (now (image .entry)) (i .0) ⌝ }
+    ensures { λ r. ⌜ r ≡ entrySound (layoutOf (now (image .entry))) (now (image .entry)) (i .0) ⌝ }
 {
     let Found::Met(j) = search(image, shape, key_of(image, shape, i)) else {
         return false;
@@ -41,10 +43,17 @@ fn slot_sound(image: &[u8], shape: Shape, i: Slot) -> bool
     message_sound(image, shape, offset_of(image, shape, i))
 }
 
-// The check of an accepted header's table.
-fn check_table(image: &[u8], shape: Shape) -> Verdict
+// The lowest taken slot whose entry fails so, or the number of slots; and how many slots below it are taken.
+struct Entries {
+    bound: usize,
+    count: usize,
+}
+
+// One search for each taken slot; the first that fails ends it.
+fn pass_entries(image: &[u8], shape: Shape) -> Entries
     requires { ⌜ Open (now image) shape ⌝ }
-    ensures { λ r. ⌜ verdictIn r ≡ tableVerdict (now (image .entry)) ⌝ }
+    ensures { λ r. ⌜ EntriesPassed (layoutOf (now (image .entry))) (now (image .entry)) (shape .slots)
+        (r .bound) (r .count) ⌝ }
 {
     let slots = shape.slots;
     let mut count = 0;
@@ -52,14 +61,30 @@ fn check_table(image: &[u8], shape: Shape) -> Verdict
     while i < slots {
         let at = Slot::new(i);
         if is_taken(image, shape, at) {
-            if !slot_sound(image, shape, at) {
-                return Verdict::SlotFails(at);
+            if !entry_sound(image, shape, at) {
+                return Entries { bound: i, count };
             }
             count += 1;
         }
         i += 1;
     }
-    if (read_u32(image, POINTS_FIELD) as usize) != count {
+    Entries {
+        bound: slots,
+        count,
+    }
+}
+
+// The check of an accepted header's table: entries up to the first that fails, stretches that meet below it, then C.
+fn check_table(image: &[u8], shape: Shape) -> Verdict
+    requires { ⌜ Open (now image) shape ⌝ }
+    ensures { λ r. ⌜ verdictIn r ≡ tableVerdict (now (image .entry)) ⌝ }
+{
+    let entries = pass_entries(image, shape);
+    let first = first_meeting(image, shape, entries.bound);
+    if first < shape.slots {
+        return Verdict::SlotFails(Slot::new(first));
+    }
+    if (read_u32(image, POINTS_FIELD) as usize) != entries.count {
         return Verdict::CountFails;
     }
     Verdict::Sound

@@ -1,129 +1,107 @@
--- No slot below i fails, and `count` of them are taken. Assumes nothing.
-use Prim.Native.Nat.{ℕ, _+_, _-_}
+-- Entries up to the first that fails, then stretches that meet below it, then C. Assumes nothing.
 use native.Mathlib.Omega.{arith}
-use mathlib.Core.Path.{sym, _∙_, subst}
+use mathlib.Core.Path.{sym, _∙_}
 use borrow.Author.Needs.{needs}
-use Rattle.bhtf.specs.Image.{layoutOf}
+use Rattle.bhtf.proofs.Opened.{opened-facts}
+use Rattle.table.proofs.Headers.{layout-slots}
 use Rattle.inspect.specs.Verdicts.{verdictIn}
-use Rattle.bhtf.proofs.Tests.{by-either, was-no, was-yes}
-use Rattle.inspect.proofs.Turns.{Passed, passed-start, passed-on, passed-over, passed-fails, passed-sound, passed-count}
-use Rattle.table.proofs.Headers.{header, layout-slots}
+use Rattle.inspect.proofs.Turns.{entries-checked, verdict-slot, verdict-count, verdict-sound}
 use Rattle.inspect.proofs.check_table.Statement.{statement}
 use Rattle.inspect.proofs.check_table.Tie as tie
 
-abbrev Inv-loop : tie.InvT-loop
-Inv-loop image shape slots count₀ i₀ count i =
-    Passed (layoutOf image) image slots count i
+pass-entries-requires : tie.Need-pass-entries-requires
+pass-entries-requires c κs = search needs
 
-abbrev μ-loop : tie.MeasureT-loop
-μ-loop image shape slots count₀ i₀ count i = slots - i
+first-meeting-requires : tie.Need-first-meeting-requires
+first-meeting-requires c κs =
+    let S = (c .before .before) in
+    let p = c .pass-entries in
+    entries-checked (S .args .image .now) (S .args .shape) (p .result .bound) (p .result .count) (S .pre) (p .ensures)
 
-loop-holds : tie.Need-loop-holds Inv-loop μ-loop
-loop-holds c =
-    let S = c .before in
-    let img = S .args .image .now in
-    passed-start (layoutOf img) img (S .args .shape .slots) (layout-slots img (S .args .shape) (S .pre .shape))
+new-requires : tie.Need-new-requires
+new-requires c κs = search needs
 
-new-requires : tie.Need-new-requires Inv-loop μ-loop
-new-requires c κs = tt
+abbrev start-at-new : tie.After-new → tie.Start
+start-at-new c = c .before .before .before .before .before .before
 
-is-taken-requires : tie.Need-is-taken-requires Inv-loop μ-loop
-is-taken-requires c κs =
-    let S = c .before .before .before .before in
-    (S .pre, omega (arith, c .new .ensures, c .before .loop-test .taken))
+abbrev pass-entries-at-new : tie.After-new → tie.After-pass-entries
+pass-entries-at-new c = c .before .before .before .before
 
-slot-sound-requires : tie.Need-slot-sound-requires Inv-loop μ-loop
-slot-sound-requires c κs =
-    let S = c .before .before .before .before .before .before in
-    (S .pre, omega (arith, c .before .before .new .ensures, c .before .before .before .loop-test .taken))
-
-returns : tie.Need-returns Inv-loop μ-loop
+returns : tie.Need-returns
 unfolding verdictIn
 returns c =
-    let L = c .before .before .before .before .before .before in
-    let S = L .before .before in
-    let T = c .before .before in
-    let N = T .before .before .new in
-    passed-fails (S .args .image .now) (S .args .shape .slots) (L .loop .count) (L .loop .i) (L .loop .inv)
-    (T .before .before .before .loop-test .taken) (N .result .0) (N .ensures)
-    (sym (T .before .is-taken .ensures) ∙ T .if1 .taken) (was-no (c .before .slot-sound .ensures) (c .if2 .taken))
+    let S = (start-at-new c) in
+    let A = S .args in
+    let p = (pass-entries-at-new c) .pass-entries in
+    let f = c .before .before .before .first-meeting in
+    verdict-slot (A .image .now) (A .shape .slots) (layout-slots (A .image .now) (A .shape) (S .pre .shape))
+    (p .result .bound) (p .result .count) (p .ensures) (f .result) (f .ensures) (c .before .if1 .taken) _
+    (c .new .ensures)
 
-add-count : tie.Need-add-count Inv-loop μ-loop
-add-count c =
-    let L = c .before .before .before .before .before .before in
-    let w = L .loop .inv in
-    let S = L .before .before in
-    let b = header (S .args .image .now) (S .args .shape) (S .pre) in
-    omega (arith, w .low, w .few, b .slots-high)
+abbrev start-at-else1 : tie.Else1 → tie.Start
+start-at-else1 c = c .before .before .before .before .before
 
-add-i : tie.Need-add-i Inv-loop μ-loop
-add-i c =
-    let L = c .before .before .before .before in
-    let w = L .loop .inv in
-    let S = L .before .before in
-    let b = header (S .args .image .now) (S .args .shape) (S .pre) in
-    omega (arith, w .low, b .slots-high)
+read-u32-requires : tie.Need-read-u32-requires
+read-u32-requires c κs = omega (arith, opened-facts _ ((start-at-else1 c) .pre .accepted) .size-low)
 
-loop-less : tie.Need-loop-less Inv-loop μ-loop
-loop-less c = omega (arith, c .before .before .before .loop-test .taken)
+cast-if2 : tie.Need-cast-if2
+cast-if2 c = search needs
 
-loop-again : tie.Need-loop-again Inv-loop μ-loop
-loop-again c =
-    let L = c .before .before .before .before in
-    let S = L .before .before in
-    let img = S .args .image .now in
-    let g = layoutOf img in
-    let n = S .args .shape .slots in
-    let N = c .before .before .new in
-    let l = c .before .before .before .loop-test .taken in
-    by-either (c .if1 .came)
-    (λ w. subst (λ (k : ℕ). Passed g img n k (L .loop .i + 1)) (sym (w .3))
-    (passed-on g img n (L .loop .count) (L .loop .i) (L .loop .inv) l (N .result .0) (N .ensures)
-    (sym (c .before .is-taken .ensures) ∙ w .0 .taken) (was-yes (w .1 .ensures) (w .2 .left))))
-    (λ w. subst (λ (k : ℕ). Passed g img n k (L .loop .i + 1)) (sym (w .1))
-    (passed-over g img n (L .loop .count) (L .loop .i) (L .loop .inv) l (N .result .0) (N .ensures)
-    (sym (c .before .is-taken .ensures) ∙ w .0 .left)))
+abbrev shared-slice-known-at-then2 : tie.Then2 → tie.After-shared-slice-known
+shared-slice-known-at-then2 c = c .before .before .before .before .before .before .before
 
-read-u32-requires : tie.Need-read-u32-requires Inv-loop μ-loop
-read-u32-requires c κs =
-    let S = c .before .before .before in
-    omega (arith, header (S .args .image .now) (S .args .shape) (S .pre) .size-low)
+abbrev start-at-then2 : tie.Then2 → tie.Start
+start-at-then2 c = (shared-slice-known-at-then2 c) .before
 
-cast-if3 : tie.Need-cast-if3 Inv-loop μ-loop
-cast-if3 c = search needs
+abbrev pass-entries-at-then2 : tie.Then2 → tie.After-pass-entries
+pass-entries-at-then2 c = c .before .before .before .before .before .before
 
-returns-2 : tie.Need-returns-2 Inv-loop μ-loop
+abbrev first-meeting-at-then2 : tie.Then2 → tie.After-first-meeting
+first-meeting-at-then2 c = c .before .before .before .before .before
+
+returns-2 : tie.Need-returns-2
 unfolding verdictIn
 returns-2 c =
-    let L = c .before .before .before in
-    let S = L .before .before in
-    passed-count (S .args .image .now) (S .args .shape .slots) (L .loop .count) (L .loop .i) (L .loop .inv)
-    (c .before .before .loop-test .left) (λ q. c .if3 .taken (c .before .read-u32 .ensures ∙ q))
+    let S = (start-at-then2 c) in
+    let A = S .args in
+    let p = (pass-entries-at-then2 c) .pass-entries in
+    let f = (first-meeting-at-then2 c) .first-meeting in
+    verdict-count (A .image .now) (A .shape .slots) (layout-slots (A .image .now) (A .shape) (S .pre .shape))
+    (p .result .bound) (p .result .count) (p .ensures) (f .result) (f .ensures) (c .before .before .before .if1 .left)
+    (λ q. c .if2 .taken (c .before .before .read-u32 .ensures ∙ q))
 
-returns-3 : tie.Need-returns-3 Inv-loop μ-loop
+abbrev shared-slice-known-at-else2 : tie.Else2 → tie.After-shared-slice-known
+shared-slice-known-at-else2 c = c .before .before .before .before .before .before .before
+
+abbrev start-at-else2 : tie.Else2 → tie.Start
+start-at-else2 c = (shared-slice-known-at-else2 c) .before
+
+abbrev pass-entries-at-else2 : tie.Else2 → tie.After-pass-entries
+pass-entries-at-else2 c = c .before .before .before .before .before .before
+
+abbrev first-meeting-at-else2 : tie.Else2 → tie.After-first-meeting
+first-meeting-at-else2 c = c .before .before .before .before .before
+
+returns-3 : tie.Need-returns-3
 unfolding verdictIn
 returns-3 c =
-    let L = c .before .before .before in
-    let S = L .before .before in
-    passed-sound (S .args .image .now) (S .args .shape .slots) (L .loop .count) (L .loop .i) (L .loop .inv)
-    (c .before .before .loop-test .left) (sym (c .before .read-u32 .ensures) ∙ c .if3 .left)
+    let S = (start-at-else2 c) in
+    let A = S .args in
+    let p = (pass-entries-at-else2 c) .pass-entries in
+    let f = (first-meeting-at-else2 c) .first-meeting in
+    verdict-sound (A .image .now) (A .shape .slots) (layout-slots (A .image .now) (A .shape) (S .pre .shape))
+    (p .result .bound) (p .result .count) (p .ensures) (f .result) (f .ensures) (c .before .before .before .if1 .left)
+    (sym (c .before .before .read-u32 .ensures) ∙ c .if2 .left)
 
 pub check-table-spec : {M : Type 1} → statement M
 check-table-spec =
     tie.close
     (tie.spec
-    Inv-loop
-    μ-loop
-    loop-holds
+    pass-entries-requires
+    first-meeting-requires
     new-requires
-    is-taken-requires
-    slot-sound-requires
     returns
-    add-count
-    add-i
-    loop-less
-    loop-again
     read-u32-requires
-    cast-if3
+    cast-if2
     returns-2
     returns-3)

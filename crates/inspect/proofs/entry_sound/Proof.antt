@@ -5,11 +5,11 @@ use mathlib.Core.Bool.{false}
 use borrow.Author.Needs.{needs}
 use Rattle.bhtf.specs.Bytes.{Bytes}
 use Rattle.bhtf.specs.Image.{layoutOf}
-use Rattle.bhtf.specs.Inspect.{endsAt, slotSound}
+use Rattle.bhtf.specs.Inspect.{endsAt, entrySound}
 use Rattle.table.specs.Probes.{probeOf}
 use Rattle.inspect.proofs.Turns.{ends-false, ends-true, not-met, met-other, met-here}
-use Rattle.inspect.proofs.slot_sound.Statement.{statement}
-use Rattle.inspect.proofs.slot_sound.Tie as tie
+use Rattle.inspect.proofs.entry_sound.Statement.{statement}
+use Rattle.inspect.proofs.entry_sound.Tie as tie
 
 key-of-requires : tie.Need-key-of-requires
 key-of-requires c κs = search needs
@@ -24,7 +24,7 @@ enum-known-j c = search needs
 ends-elsewhere : (c : tie.After-search)
     → let img : Bytes = c .before .before .before .args .image .now in
     let i : ℕ = c .before .before .before .args .i .0 in
-    endsAt (probeOf (c .search .result)) i ≡ false → false ≡ slotSound (layoutOf img) img i
+    endsAt (probeOf (c .search .result)) i ≡ false → false ≡ entrySound (layoutOf img) img i
 ends-elsewhere c n =
     let A = c .before .before .before .args in
     let img = A .image .now in
@@ -75,8 +75,8 @@ returns-3 c =
     (sym (N .number .ensures) ∙ E .if1 .left ∙ E .before .number2 .ensures))
     (m .result) (o .result .0) (o .ensures) (m .ensures)
 
-pub slot-sound-spec : {M : Type 1} → statement M
-slot-sound-spec =
+pub entry-sound-spec : {M : Type 1} → statement M
+entry-sound-spec =
     tie.close
     (tie.spec
     key-of-requires

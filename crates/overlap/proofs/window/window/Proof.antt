@@ -1,0 +1,24 @@
+-- `overlap::window::window` meets its contract: a map that is cleared marks no place. Assumes nothing.
+use native.Mathlib.Omega.{arith}
+use borrow.Author.Needs.{needs}
+use Rattle.overlap.proofs.Claims.{marked-zeros}
+use Rattle.overlap.proofs.window.window.Statement.{statement}
+use Rattle.overlap.proofs.window.window.Tie as tie
+
+zero-requires : tie.Need-zero-requires
+zero-requires c κs = search needs
+
+pass-requires : tie.Need-pass-requires
+pass-requires c κs =
+    let Z = c .before .before .before in
+    let S = Z .before .before .before .before in
+    (S .pre .0, omega (arith, S .pre .1, Z .zero .kept .0), marked-zeros _ _ (Z .zero .ensures))
+
+same-length : tie.Need-same-length
+same-length c = search needs
+
+returns : tie.Need-returns
+returns c = search needs
+
+pub window-spec : {M : Type 1} → statement M
+window-spec = tie.close (tie.spec zero-requires pass-requires same-length returns)
