@@ -3,8 +3,8 @@
 
 static const char *const sentences[] = {
     "The call was accepted.",
-    "The file's length is not a multiple of 4,096 from 4,096 to "
-    "1,073,741,824.",
+    ("The file's length is not a multiple of 4,096 from 4,096 to "
+     "1,073,741,824."),
     "The key size is not from 1 to 32 bytes.",
     "The table would have more than 1,048,576 slots.",
     "The table does not fit into a file of this length.",

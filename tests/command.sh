@@ -273,10 +273,10 @@ gives "stat: histogram" 0 '^ +1 +4 #+$' bhtf stat names
 bhtf add names big 0123456789
 bhtf delete names big
 gives "stat: displacements" 0 '^displacements: 0 slots together$' bhtf stat names
-bhtf create full --key-size 1 --slots 2 --size 8192
-bhtf add full a x
-bhtf add full b x
-gives "stat: a full table" 0 '^the table is full: a delete looks at up to [23] slots$' bhtf stat full
+bhtf create brim --key-size 1 --slots 2 --size 8192
+bhtf add brim a x
+bhtf add brim b x
+gives "stat: a full table" 0 '^the table is full: a delete looks at up to [23] slots$' bhtf stat brim
 gives "stat: dead bytes" 0 'dead: 14 bytes' bhtf stat names
 
 # ---- import and export ----
@@ -426,9 +426,9 @@ at reaching 4099 '\006'
 gives "one byte shared" 1 "^unsound: $both byte 4105 of the file$" bhtf check reaching
 bhtf add reaching b '' --replace
 gives "by a withdrawn text too" 1 "$both byte 4105" bhtf check reaching
-cp apart lost
-at lost $((2048 + ${high%:*} * 5)) "${low#*:}"
-gives "a name that stands twice" 1 "^unsound: slot ${high%:*} \\(${low#*:}\\) is not found by its name$" bhtf check lost
+cp apart twice
+at twice $((2048 + ${high%:*} * 5)) "${low#*:}"
+gives "a name that stands twice" 1 "^unsound: slot ${high%:*} \\(${low#*:}\\) is not found by its name$" bhtf check twice
 
 # Random damage, under the sanitizers: status 0 or 1 and no report.
 bhtf create site --key-size 8 --slots 31 --size 12288

@@ -75,11 +75,11 @@ done <<'LIST'
 LIST
 rm -f sized
 for size in 64X K 1.5M '' -1 64KK 99999999999999999999 99999999999G; do
-  gives "--size '$size' is none" 2 'needs a size from 4096 to 16777216' bhtf create sized --size="$size"
+  gives "--size '$size' is none" 2 'needs a size from 4096 to 1073741824' bhtf create sized --size="$size"
 done
-gives "--size 1G is beyond the limit" 1 'refused \(1\)' bhtf create sized --size 1G
+gives "--size 2G is beyond the limit" 1 'refused \(1\)' bhtf create sized --size 2G
 gives "the limits of --key-size" 2 'needs a number from 1 to 32' bhtf create sized --key-size x
-gives "the limits of --slots" 2 'needs a number from 0 to 65536, and not 4294967296' bhtf create sized --slots 4294967296
+gives "the limits of --slots" 2 'needs a number from 0 to 1048576, and not 4294967296' bhtf create sized --slots 4294967296
 gives "what a table needs" 1 'refused \(4\).*5507 slots for names of 16 bytes needs a file of 114688 bytes' \
   bhtf create sized --size 8K
 holds "and no file is left" test ! -e sized
@@ -126,10 +126,10 @@ mkfifo slow.dump
 bhtf create slow2 --slots 3000
 seq 2000 | sed 's/.*/S&,&,&,&,/' | bhtf import slow2 - --quiet -c PENZD
 bhtf dump slow2 >whole.dump
-for i in $(seq 100); do sed 1,6d whole.dump; done | sed 's/^"\(S[0-9]*\)" "\(.*\)"$/\1,\2/; /^end$/d' >long.csv
+for i in $(seq 400); do sed 1,6d whole.dump; done | sed 's/^"\(S[0-9]*\)" "\(.*\)"$/\1,\2/; /^end$/d' >long.csv
 on_terminal "$work/sanitize/bhtf import slow2 long.csv -r -c PENZD" >progress
 gives "a long import shows its share and the time left" 0 'bhtf: [0-9]+ points stored, [0-9]+ %, [0-9]+ s left' cat progress
-gives "and what it stored" 0 '200000 points stored: 0 new, 200000 in place of others' cat progress
+gives "and what it stored" 0 '800000 points stored: 0 new, 800000 in place of others' cat progress
 (head -n 1500 whole.dump; sleep 0.8; tail -n +1501 whole.dump) >slow.dump &
 helpers+=($!)
 on_terminal "bhtf load slow3 slow.dump" >progress
