@@ -1,0 +1,129 @@
+/* How much stack the check takes: it runs on a thread whose stack is little
+ * larger than the header (host/bhtf.h) says, with an unreadable page at its
+ * end, and the bytes that it wrote there are counted.
+ * Ends with "N passed, 0 failed". */
+#define _DEFAULT_SOURCE
+
+#include "calls.h"
+
+#include <pthread.h>
+#include <stdio.h>
+#include <string.h>
+#include <sys/mman.h>
+
+/* What the header says, and what the thread itself may take besides. */
+enum { SAID = 307200, BESIDES = 20480, STACK = SAID + BESIDES };
+enum { PAGE = 4096, PAINT = 0xA7, KEY = 4, TEXT = 200 };
+
+struct asked {
+    const uint8_t *image;
+    size_t length;
+    uint32_t number;
+    uint32_t verdict;
+    uint32_t slot;
+};
+
+static unsigned passed;
+static unsigned failed;
+
+static void expect(const char *what, unsigned long got, unsigned long want)
+{
+    if (got == want) {
+        passed++;
+        return;
+    }
+    failed++;
+    printf("FAILED: %s: got %lu, expected %lu\n", what, got, want);
+}
+
+static void *map(size_t size)
+{
+    void *at = mmap(NULL, size, PROT_READ | PROT_WRITE,
+                    MAP_PRIVATE | MAP_ANONYMOUS, -1, 0);
+
+    return at == MAP_FAILED ? NULL : at;
+}
+
+static void *run_check(void *given)
+{
+    struct asked *a = given;
+
+    a->number = subject.check(a->image, a->length, &a->verdict, &a->slot);
+    return NULL;
+}
+
+static void *run_nothing(void *given)
+{
+    return given;
+}
+
+/* Runs it on such a stack; answers how many bytes were written to, or 0. */
+static size_t stack_of(void *(*run)(void *), struct asked *a)
+{
+    uint8_t *wall = map(PAGE + STACK);
+    uint8_t *stack = wall + PAGE;
+    pthread_attr_t with;
+    pthread_t thread;
+    size_t free_bytes = 0;
+
+    if (wall == NULL || mprotect(wall, PAGE, PROT_NONE) != 0)
+        return 0;
+    memset(stack, PAINT, STACK);
+    if (pthread_attr_init(&with) != 0 ||
+        pthread_attr_setstack(&with, stack, STACK) != 0 ||
+        pthread_create(&thread, &with, run, a) != 0)
+        return 0;
+    pthread_join(thread, NULL);
+    pthread_attr_destroy(&with);
+    while (free_bytes < STACK && stack[free_bytes] == PAINT)
+        free_bytes++;
+    munmap(wall, PAGE + STACK);
+    return STACK - free_bytes;
+}
+
+/* So many slots half full, in an image of that length. */
+static void fill(uint8_t *image, size_t length, uint32_t slots)
+{
+    uint8_t text[TEXT];
+    uint8_t key[KEY] = { 0 };
+
+    memset(text, 't', sizeof text);
+    expect("create", subject.create(image, length, KEY, slots, 0), 0);
+    for (uint32_t i = 1; i <= slots / 2; i++) {
+        key[1] = (uint8_t)(i >> 16);
+        key[2] = (uint8_t)(i >> 8);
+        key[3] = (uint8_t)i;
+        subject.add(image, length, key, KEY, text, sizeof text, 1);
+    }
+}
+
+static void try(const char *what, size_t length, uint32_t slots)
+{
+    uint8_t *image = map(length);
+    struct asked a = { image, length, 77, 77, 77 };
+    size_t thread, taken;
+
+    if (image == NULL) {
+        failed++;
+        return;
+    }
+    fill(image, length, slots);
+    thread = stack_of(run_nothing, &a);
+    taken = stack_of(run_check, &a);
+    expect("the thread ran", thread > 0 && taken > 0, 1);
+    expect("answer", a.number, 0);
+    expect("verdict", a.verdict, 0);
+    expect("the check takes what the header says", taken <= SAID + thread, 1);
+    printf("%s: %zu bytes of stack, %zu of them the thread's own\n", what,
+           taken, thread);
+    munmap(image, length);
+}
+
+int main(void)
+{
+    try("100 slots", 20480, 100);
+    try("5507 slots", 1048576, 5507);
+    try("65536 slots", 16777216, 65536);
+    printf("%u passed, %u failed\n", passed, failed);
+    return failed != 0;
+}
