@@ -91,6 +91,35 @@ static int print_failing(const struct buffer *copy, const struct header *h,
     return done == 0 ? finish_output(REFUSED) : out_of_memory();
 }
 
+/* Bytes of active messages and their headers, of a sound file. */
+static uint64_t live_bytes(const struct buffer *copy, const struct header *h)
+{
+    struct stretch s;
+    uint32_t slot, place;
+    uint64_t live = 0;
+
+    bhtf_walk(copy->bytes, copy->length, 0, &slot, &place);
+    while (place != 0) {
+        if (slot_stretch(copy->bytes, h, slot, &s) && s.end > 0 &&
+            copy->bytes[s.start] == 'a')
+            live += s.end - s.start;
+        bhtf_walk(copy->bytes, copy->length, slot + 1, &slot, &place);
+    }
+    return live;
+}
+
+static void print_sound(const struct buffer *copy, const struct header *h)
+{
+    const uint8_t *version = copy->bytes + 5;
+    uint32_t used = h->next - h->data;
+
+    printf("sound: %lu %s\n", (unsigned long)h->count,
+           h->count == 1 ? "point" : "points");
+    printf("version %u.%u.%u, %lu bytes of data used, %lu of them dead\n",
+           version[0], version[1], version[2], (unsigned long)used,
+           (unsigned long)(used - live_bytes(copy, h)));
+}
+
 static int print_verdict(const struct buffer *copy, const struct options *o)
 {
     const struct header h = header_read(copy->bytes);
@@ -105,8 +134,7 @@ static int print_verdict(const struct buffer *copy, const struct options *o)
         return finish_output(REFUSED);
     }
     if (!o->quiet)
-        printf("sound: %lu %s\n", (unsigned long)h.count,
-               h.count == 1 ? "point" : "points");
+        print_sound(copy, &h);
     return finish_output(DONE);
 }
 

@@ -99,6 +99,7 @@ int run_get(const struct options *o);
 int run_count(const struct options *o);
 int run_list(const struct options *o);
 int run_check(const struct options *o);
+int run_book(const struct options *o);
 int run_stat(const struct options *o);
 int run_import(const struct options *o);
 int run_export(const struct options *o);

@@ -82,10 +82,18 @@ static const struct command commands[] = {
       WAITING },
     { "check", 0, 1, 1, run_check,
       "bhtf check FILE\n"
-      "Says whether the file is sound: status 0 if so, 1 if not. If not it says "
+      "Says whether the file is sound: status 0 if so, 1 if not. If so it says "
+      "the\n"
+      "number of points, the version and how many bytes are dead; if not, "
       "where,\n"
       "which two points share bytes, and what to do about that.\n"
       QUIET WAITING },
+    { "book", 0, 1, 1, run_book,
+      "bhtf book FILE\n"
+      "Prints the book that calls on a sound file start from: its terms, and "
+      "of each\n"
+      "point the name, the bytes held and the text, in the order of slots.\n"
+      WAITING },
     { "stat", 0, 1, 1, run_stat,
       "bhtf stat FILE\n"
       "Prints how full the file is, how many slots are read to find its "
@@ -239,6 +247,7 @@ void help_print(FILE *to)
           "  bhtf count FILE             print the number of points\n"
           "  bhtf list FILE              print the names\n"
           "  bhtf check FILE             say whether the file is sound\n"
+          "  bhtf book FILE              print the book that a file starts from\n"
           "  bhtf stat FILE              load, searches and dead bytes\n"
           "  bhtf import FILE CSV        store points from a CSV file\n"
           "  bhtf export FILE            print all points as CSV\n"

@@ -156,7 +156,7 @@ gives "--help" 0 'bhtf create FILE' bhtf --help
 gives "--version" 0 '^bhtf [0-9.]+, file format 1\.0\.1$' bhtf --version
 gives "no command" 2 'bhtf create FILE' bhtf
 gives "unknown command" 2 'no command frob' bhtf frob
-for command in create add delete get count list check stat import export dump load; do
+for command in create add delete get count list check book stat import export dump load; do
   gives "$command --help" 0 "^bhtf $command FILE" bhtf $command --help
   gives "$command without arguments" 2 'too few arguments' bhtf $command
   gives "$command with an unknown option" 2 'unknown option --frob' bhtf $command x --frob
@@ -421,6 +421,23 @@ gives "and says whom to ask" 1 '^unsound: bhtf check' bhtf stat joined
 holds "dump and load part them" sh -c 'bhtf dump joined | bhtf load parted --quiet'
 gives "the new file is sound" 0 '^sound: 2 points$' bhtf check parted
 same "and each point has the text" "first first" "$(bhtf get parted a) $(bhtf get parted b)"
+
+# ---- the book that a file starts from ----
+
+cp apart season
+at season 7 '\000'
+bhtf add season b '' --replace
+book_of() { printf 'version 1.0.0\nkey-size 1\nslots %s\nroom %s\nused %s\npoints 2\n' "$1" "$2" "$3"; }
+same "book: terms of an old season's file" "$(book_of "$(bhtf dump apart | sed -n 's/^slots //p')" \
+  "$(($(stat -c %s apart) - 4096))" 19)" "$(bhtf book season | sed 6q)"
+same "book: a text, and one that was withdrawn" $'"a" 5 "first"\n"b" 6 -' "$(bhtf book season | sed 1,6d | sort)"
+same "book: in the order of slots" "$(bhtf list season --by slot)" "$(bhtf book season | sed '1,6d; s/^"//; s/".*//')"
+gives "check tells version and dead bytes" 0 '^version 1\.0\.0, 19 bytes of data used, 10 of them dead$' bhtf check season
+gives "the withdrawn text's bytes are used again" 0 '' bhtf add season b 123456 --replace
+gives "as the book says" 0 '^used 19$' bhtf book season
+gives "a file that is not sound has no book" 1 'joined: not sound.*bhtf check' bhtf book joined
+gives "nor has what is no file" 2 'not a regular file' bhtf book /dev/null
+
 cp apart reaching
 at reaching 4099 '\006'
 gives "one byte shared" 1 "^unsound: $both byte 4105 of the file$" bhtf check reaching
@@ -455,7 +472,7 @@ damage() {
       printf '%b' "\\x$(printf %02x $((RANDOM % 256)))" |
         dd of=hurt bs=1 seek=$place conv=notrunc status=none
     done
-    for words in 'count' 'list:--long' 'check' 'stat' 'export' 'dump' 'get:CP-101' 'add:CP-102:more:--append' \
+    for words in 'count' 'list:--long' 'check' 'book' 'stat' 'export' 'dump' 'get:CP-101' 'add:CP-102:more:--append' \
       'add:CP-104:0:--replace' 'add:new:text' 'delete:CP-105' 'delete:BM-1' 'import:'"$root/host/site.csv"':--replace'; do
       IFS=: read -r command one two three <<<"$words"
       clean_status "$command" hurt ${one:+"$one"} ${two:+"$two"} ${three:+"$three"} || return 1

@@ -3,9 +3,11 @@
  * (a) Lists of calls from create on: library, plain reference and control
  *     book. Every answer is compared, and every image byte after every call;
  *     at a list's end the file must find exactly the book's points.
- * (b) Lists of calls on made-up, damaged and random images: library against
+ * (b) The same from sound images that no call made, with the book read off
+ *     their bytes.
+ * (c) Lists of calls on made-up, damaged and random images: library against
  *     plain reference, answers and bytes.
- * (c) The same on spliced images, in which points share bytes; the check's word
+ * (d) The same on spliced images, in which points share bytes; the check's word
  *     is also held against its definition, pair by pair.
  * In all, a refused or reading call must leave every byte.
  *
@@ -19,9 +21,9 @@
  * what it was lent crashes, and the crash is reported like a difference.
  *
  * The parts stand in differential/: memory.c has what is lent; choose.c,
- * images.c, damage.c and splice.c make arguments and images, steps.c and
- * lists.c calls of them; compare.c and book.c hold the answers against each other, and
- * report.c says what differs. */
+ * images.c, reopened.c, damage.c and splice.c make arguments and images,
+ * steps.c and lists.c calls of them; compare.c and book.c hold the answers
+ * against each other, and report.c says what differs. */
 #define _DEFAULT_SOURCE
 
 #include "differential/parts.h"
@@ -97,8 +99,10 @@ static void print_seen(void)
 
 static void run_list(uint32_t style)
 {
-    if (style < 9)
+    if (style < 8)
         list_from_create();
+    else if (style < 11)
+        list_reopened();
     else if (style < 14)
         list_on_damage();
     else

@@ -3,7 +3,7 @@
 #   LIB=path    the library, from the repository's root; target/staticlib/libstation.a unless given
 #   ARGS=".."   for the program, e.g. "--seed 1 --lists 100000"
 # Then the test's own test: plain C in the library's place, right, and with the fault of the firm's second version, which must be
-# found. The last line is 'N passed, M failed'.
+# found; faults that only reopened images meet, and books read wrongly off them. The last line is 'N passed, M failed'.
 set -u
 cd "$(dirname "$0")/.." || exit 2
 lib=$(realpath "${LIB:-target/staticlib/libstation.a}") || exit 2
@@ -11,10 +11,10 @@ command -v rustc >/dev/null || .ci/install rustc || exit 2
 work=$(mktemp -d)
 trap 'rm -rf "$work"' EXIT
 
-# links NAME ARCHIVE: the program NAME over the archive
+# links NAME ARCHIVE CODE LEVEL: the program NAME over the archive, from CODE, optimised to LEVEL
 links() {
   mkdir "$work/$1.lib" && cp "$2" "$work/$1.lib/libstation.a" &&
-    rustc --edition 2021 -O -o "$work/$1" tests/station.rs -L native="$work/$1.lib" -l static=station
+    rustc --edition 2021 -C opt-level="$4" -o "$work/$1" "$3" -L native="$work/$1.lib" -l static=station
 }
 
 # plain NAME CODE: CODE, which is plain C, as an archive under the library's names
@@ -22,21 +22,51 @@ plain() {
   local names
   names=$(grep -oE -- '-Dplain_[a-z]+=bhtf_[a-z]+' tests/Makefile)
   # shellcheck disable=SC2086
-  gcc -std=c99 -O2 -Itests/reference $names -c "$2" -o "$work/$1.o" && ar rcs "$work/$1.a" "$work/$1.o" && links "$1" "$work/$1.a"
+  gcc -std=c99 -O2 -Itests/reference $names -c "$2" -o "$work/$1.o" && ar rcs "$work/$1.a" "$work/$1.o" &&
+    links "$1" "$work/$1.a" tests/station.rs 0
+}
+
+# edited FILE EDIT INTO: a copy of the file that sed changed
+edited() {
+  sed "$2" "$1" >"$3"
+  ! cmp -s "$1" "$3" || { echo "no place in $1 for $2"; exit 2; }
 }
 
 . tests/tally.sh
 
 finds() { ! "$work/$1" --seed 1 --lists 100 >"$work/said" && grep -q '^FAILED: list' "$work/said"; }
 
-links library "$lib" || exit 2
+# only images tell: the lists from create agree
+only_images() { finds "$1" && grep -q '^from create: .* 0 that do not$' "$work/said"; }
+
+# wrong NAME EDIT: plain C with a fault that no list from create meets
+wrong() {
+  edited tests/reference/plain.c "$2" "$work/$1.c"
+  plain "$1" "$work/$1.c" || exit 2
+  test_that "plain C, $1: found, from images only" only_images "$1"
+}
+
+# misread NAME EDIT: the library beside a book that is read wrongly
+misread() {
+  edited tests/station.rs "$2" "$work/$1.rs"
+  links "$1" "$lib" "$work/$1.rs" 0 || exit 2
+  test_that "the book, $1: found, from images only" only_images "$1"
+}
+
+links library "$lib" tests/station.rs 3 || exit 2
 # shellcheck disable=SC2086
 test_that "file and book agree" "$work/library" ${ARGS:-}
 plain right tests/reference/plain.c || exit 2
 test_that "plain C passes" "$work/right" --seed 1 --lists 100 >/dev/null
 # version two: the slot is emptied, and no entry behind it moves
-sed 's/^    close_hole(image, &v, slot);$//' tests/reference/plain.c >"$work/two.c"
+edited tests/reference/plain.c 's/^    close_hole(image, &v, slot);$//' "$work/two.c"
 plain two "$work/two.c" || exit 2
 test_that "the fault of version two is found" finds two
+wrong one-round 's/^    while (is_taken(v, slot)) {$/    for (uint32_t i = 1; i < v->slots \&\& is_taken(v, slot); i++) {/'
+wrong no-version-1.0.0 's/ image\[7\] <= 1;/ image[7] == 1;/'
+misread used-from-0 's/used: next - data/used: next/'
+misread inactive-shown 's/let shown = .*/let shown = held;/'
+misread held-0 '/^impl Point/,/^}/s/to_vec(), held }/to_vec(), held: 0 }/'
+misread slot-0-left-out 's/\.take(slots);/&\n        let table = table.skip(1);/'
 
 tally

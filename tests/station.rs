@@ -1,9 +1,10 @@
 //! The static library linked into Rust: random lists of calls on a file, beside a plain book written from document 01.
 //!   station [--seed S] [--lists N]
+//! N lists start from create, N from a sound image that no call made, with the book read off it.
 //! Compared after every call: the number, C, and the message's bytes; after every list: that the file finds the book's points with
 //! the book's texts, that the walk shows each of them once, and that the check calls the file sound.
 //! Status 0 if every list agreed.
-use std::collections::BTreeMap;
+use std::collections::{BTreeMap, BTreeSet};
 
 extern "C" {
     fn bhtf_create(image: *mut u8, len: usize, key_size: u32, slots: u32, seed: u32) -> u32;
@@ -16,6 +17,8 @@ extern "C" {
 }
 
 const HEADER: usize = 4;
+const SCRAMBLE: usize = 512;
+const TABLE: usize = 2048;
 
 /// The file: the calls on one image.
 struct File(Vec<u8>);
@@ -82,7 +85,37 @@ struct Book {
     points: BTreeMap<Vec<u8>, Point>,
 }
 
+/// The number at that place of an image.
+fn field(image: &[u8], at: usize) -> usize {
+    u32::from_be_bytes(image[at..at + 4].try_into().unwrap()) as usize
+}
+
+impl Point {
+    /// A taken slot's point: an inactive message holds its bytes and shows no text.
+    fn read(image: &[u8], offset: usize) -> Point {
+        if offset == 0 {
+            return Point::default();
+        }
+        let held = field(image, offset) & 0xFF_FFFF;
+        let shown = if image[offset] == b'a' { held } else { 0 };
+        let start = offset + HEADER;
+        Point { text: image[start..start + shown].to_vec(), held }
+    }
+}
+
 impl Book {
+    /// The book that a sound image holds.
+    fn read(image: &[u8]) -> Book {
+        let (key_size, slots) = (field(image, 12), field(image, 16));
+        let (data, next) = (field(image, 48), field(image, 52));
+        let table = image[TABLE..].chunks(key_size + 4).take(slots);
+        let taken = table.filter(|slot| slot[..key_size].iter().any(|&c| c != 0));
+        let points = taken
+            .map(|slot| (slot[..key_size].to_vec(), Point::read(image, field(slot, key_size))))
+            .collect();
+        Book { key_size, slots, room: image.len() - data, used: next - data, points }
+    }
+
     fn named(&self, key: &[u8]) -> bool {
         key.len() == self.key_size && key.iter().any(|&c| c != 0)
     }
@@ -191,27 +224,274 @@ impl Chance {
     fn bytes(&mut self, n: usize) -> Vec<u8> {
         (0..n).map(|_| self.below(256) as u8).collect()
     }
+
+    fn one_in(&mut self, n: usize) -> bool {
+        self.below(n) == 0
+    }
+
+    fn shuffle<T>(&mut self, list: &mut [T]) {
+        for i in (1..list.len()).rev() {
+            list.swap(i, self.below(i + 1));
+        }
+    }
 }
 
 fn data_start(key_size: usize, slots: usize) -> usize {
     (2048 + slots * (key_size + 4) + 4095) / 4096 * 4096
 }
 
-/// A name of a small pool, so that names meet again; now and then one that is refused.
-fn some_name(chance: &mut Chance, key_size: usize) -> Vec<u8> {
+// ---- sound images that no call made ----
+
+fn put(image: &mut [u8], at: usize, number: usize) {
+    image[at..at + 4].copy_from_slice(&(number as u32).to_be_bytes());
+}
+
+fn slot_at(image: &[u8], slot: usize) -> usize {
+    TABLE + slot * (field(image, 12) + 4)
+}
+
+fn slot_offset(image: &[u8], slot: usize) -> usize {
+    slot_at(image, slot) + field(image, 12)
+}
+
+fn is_taken(image: &[u8], slot: usize) -> bool {
+    image[slot_at(image, slot)..slot_offset(image, slot)].iter().any(|&c| c != 0)
+}
+
+/// F, E and the scramble: its numbers stay random, or each becomes its own index.
+fn make_scramble(chance: &mut Chance, image: &mut [u8]) {
+    let any = chance.below(256);
+    let above = any + chance.below(256 - any);
+    let (first, last) = [(32, 126), (0, 255), (any, any), (any, above)][chance.below(4)];
+    put(image, 32, first);
+    put(image, 36, last);
+    if chance.one_in(4) {
+        (0..=last - first).for_each(|i| put(image, SCRAMBLE + 4 * i, i));
+    }
+}
+
+/// The header of an image of random bytes; serial and M, which may be any number, stay so.
+fn make_header(chance: &mut Chance, image: &mut [u8], key_size: usize, slots: usize) {
+    let data = data_start(key_size, slots);
+    let room = image.len() - data;
+    let used = [room, chance.below(room + 1), chance.below(room.min(200) + 1)][chance.below(3)];
+    let multiplier = [0x0100_0193, chance.below(1 << 32), chance.below(3)][chance.below(3)];
+    let start = [0x811C_9DC5, chance.below(1 << 32)][chance.below(2)];
+    image[..7].copy_from_slice(b"BHTFv\x01\x00");
+    image[7] = chance.below(2) as u8;
+    let fields = [
+        (12, key_size),
+        (16, slots),
+        (20, 0),
+        (24, multiplier),
+        (28, start),
+        (40, SCRAMBLE),
+        (44, TABLE),
+        (48, data),
+        (52, data + used),
+    ];
+    fields.iter().for_each(|&(at, number)| put(image, at, number));
+}
+
+/// All slots empty, some with bytes left in the offset.
+fn clear_table(chance: &mut Chance, image: &mut [u8]) {
+    for slot in 0..field(image, 16) {
+        let (key, offset) = (slot_at(image, slot), slot_offset(image, slot));
+        image[key..offset].fill(0);
+        if !chance.one_in(3) {
+            put(image, offset, 0);
+        }
+    }
+}
+
+fn home(image: &[u8], key: &[u8]) -> usize {
+    let (first, last) = (field(image, 32), field(image, 36));
+    let multiplier = field(image, 24) as u32;
+    let mut hash = field(image, 28) as u32;
+    for c in key.iter().map(|&c| c as usize) {
+        hash = hash.wrapping_mul(multiplier);
+        if first <= c && c <= last {
+            hash ^= field(image, SCRAMBLE + 4 * (c - first)) as u32;
+        }
+    }
+    hash as usize % field(image, 16)
+}
+
+/// The empty slot where a search for the key ends.
+fn empty_slot(image: &[u8], key: &[u8]) -> usize {
+    let (home, slots) = (home(image, key), field(image, 16));
+    let mut probe = (home..home + slots).map(|i| i % slots);
+    probe.find(|&slot| !is_taken(image, slot)).expect("an empty slot")
+}
+
+fn take_slot(image: &mut [u8], slot: usize, key: &[u8]) {
+    let at = slot_at(image, slot);
+    image[at..at + key.len()].copy_from_slice(key);
+    put(image, at + key.len(), 0);
+    put(image, 20, field(image, 20) + 1);
+}
+
+/// A message of the slot at that place or a little behind; answers its end, or the place if there
+/// is no room.
+fn place_message(chance: &mut Chance, image: &mut [u8], slot: usize, at: usize) -> usize {
+    let start = at + [0, 0, chance.below(8)][chance.below(3)];
+    let next = field(image, 52);
+    if start + HEADER >= next {
+        return at;
+    }
+    let space = next - start - HEADER;
+    let most = if chance.one_in(16) { 300 } else { 12 };
+    let some = 1 + chance.below(space.min(most));
+    let length = if chance.one_in(40) { space } else { some };
+    put(image, start, length);
+    image[start] = [b'a', b'a', b'd'][chance.below(3)];
+    put(image, slot_offset(image, slot), start);
+    start + HEADER + length
+}
+
+/// Messages from D on, of most taken slots, in any order of the slots.
+fn place_messages(chance: &mut Chance, image: &mut [u8]) {
+    let mut taken: Vec<usize> = (0..field(image, 16)).filter(|&i| is_taken(image, i)).collect();
+    chance.shuffle(&mut taken);
+    let most = taken.len() - taken.len() / 4;
+    let mut at = field(image, 48);
+    for &slot in &taken[..most] {
+        at = place_message(chance, image, slot, at);
+    }
+}
+
+/// Distinct names in any order, at most as many as wanted.
+fn distinct_names(chance: &mut Chance, key_size: usize, wanted: usize) -> Vec<Vec<u8>> {
+    let few = chance.one_in(2);
+    let mut names = BTreeSet::new();
+    for _ in 0..wanted {
+        names.insert(if few { pool_name(chance, key_size) } else { chance.bytes(key_size) });
+    }
+    names.remove(&vec![0; key_size]);
+    let mut names: Vec<_> = names.into_iter().collect();
+    chance.shuffle(&mut names);
+    names
+}
+
+/// A full table is found through in any order; in another each name goes where its search ends.
+fn fill_table(image: &mut [u8], names: &[Vec<u8>]) {
+    let full = names.len() == field(image, 16);
+    for (i, name) in names.iter().enumerate() {
+        let slot = if full { i } else { empty_slot(image, name) };
+        take_slot(image, slot, name);
+    }
+}
+
+/// A sound image, and names to call: those it holds, and in a table with empty slots some more.
+fn sound_image(chance: &mut Chance) -> (Vec<u8>, Vec<Vec<u8>>) {
+    let (key_size, wanted) = shape(chance);
+    let names = distinct_names(chance, key_size, wanted);
+    let full = chance.one_in(2) && !names.is_empty();
+    let slots = if full { names.len() } else { wanted };
+    let held = if full { slots } else { chance.below(names.len() + 1) };
+    let pages = if chance.one_in(8) { 0 } else { 1 + chance.below(2) };
+    let mut image = chance.bytes(data_start(key_size, slots) + 4096 * pages);
+    make_header(chance, &mut image, key_size, slots);
+    make_scramble(chance, &mut image);
+    clear_table(chance, &mut image);
+    fill_table(&mut image, &names[..held]);
+    place_messages(chance, &mut image);
+    (image, names)
+}
+
+// ---- lists ----
+
+/// K and N, mostly small.
+fn shape(chance: &mut Chance) -> (usize, usize) {
+    let large = chance.below(4) == 0;
+    let key_size = 1 + chance.below(if large { 32 } else { 3 });
+    (key_size, 1 + chance.below(if large { 300 } else { 8 }))
+}
+
+/// A name of a small pool, so that names meet again.
+fn pool_name(chance: &mut Chance, key_size: usize) -> Vec<u8> {
+    (0..key_size).map(|_| chance.below(4) as u8 * 31).collect()
+}
+
+/// A name of the pool or a known one; now and then one that is refused.
+fn some_name(chance: &mut Chance, key_size: usize, known: &[Vec<u8>]) -> Vec<u8> {
     match chance.below(40) {
         0 => vec![0; key_size],
         1 => vec![1; key_size + 1],
         2 => vec![1; key_size - 1],
-        _ => (0..key_size).map(|_| chance.below(4) as u8 * 31).collect(),
+        3..=30 if !known.is_empty() => known[chance.below(known.len())].clone(),
+        _ => pool_name(chance, key_size),
     }
 }
 
+/// What a call answers: its number, and the bytes of the text or of C.
+type Answer = (u32, Vec<u8>);
+
+/// One call on the file and on the book: its name and both answers.
+fn call(
+    chance: &mut Chance,
+    file: &mut File,
+    book: &mut Book,
+    key: &[u8],
+) -> (&'static str, Answer, Answer) {
+    let number = |n| (n, Vec::new());
+    match chance.below(10) {
+        0..=4 => {
+            let size = [0, 1, 5, 40, book.room][chance.below(5)];
+            let length = chance.below(size + 1);
+            let data = chance.bytes(length);
+            let mode = [1, 2, 2, 3, 3, 0, 4, !0][chance.below(8)];
+            ("add", number(file.add(key, &data, mode)), number(book.add(key, &data, mode)))
+        }
+        5 | 6 => ("delete", number(file.delete(key)), number(book.delete(key))),
+        7 | 8 => ("lookup", file.lookup(key), book.lookup(key)),
+        _ => {
+            let (number, points) = file.count();
+            let want = book.points.len() as u32;
+            ("count", (number, points.to_le_bytes().to_vec()), (0, want.to_le_bytes().to_vec()))
+        }
+    }
+}
+
+/// A list of calls on both; their number, or the first that differed.
+fn calls(
+    chance: &mut Chance,
+    file: &mut File,
+    book: &mut Book,
+    known: &[Vec<u8>],
+) -> Result<usize, String> {
+    let calls = 1 + chance.below(200);
+    for i in 0..calls {
+        let key = some_name(chance, book.key_size, known);
+        let (what, got, want) = call(chance, file, book, &key);
+        if got != want {
+            return Err(format!("call {i}, {what} {key:?}: {got:?}, the book {want:?}"));
+        }
+    }
+    Ok(calls)
+}
+
+/// The file holds the book's points with their texts and no others, and is sound.
+fn same_points(file: &File, book: &Book) -> Result<(), String> {
+    let found = |name: &[u8], point: &Point| file.lookup(name) == (0, point.text.clone());
+    let lost = book.points.iter().find(|(name, point)| !found(name, point));
+    if let Some((name, _)) = lost {
+        return Err(format!("{name:?} is not found with its text"));
+    }
+    let mut names = file.names(book.key_size);
+    names.sort();
+    if !names.iter().eq(book.points.keys()) {
+        return Err("the walk shows other names than the book's".into());
+    }
+    if !file.sound() {
+        return Err("the check does not say sound".into());
+    }
+    Ok(())
+}
+
 /// One list of calls on a new file and a new book; what differed, if anything.
-fn list(chance: &mut Chance) -> Result<usize, String> {
-    let large = chance.below(4) == 0;
-    let key_size = 1 + chance.below(if large { 32 } else { 3 });
-    let slots = 1 + chance.below(if large { 300 } else { 8 });
+fn from_create(chance: &mut Chance) -> Result<usize, String> {
+    let (key_size, slots) = shape(chance);
     let length = data_start(key_size, slots) + 4096 * chance.below(3);
     let seed = if chance.below(2) == 0 { 0 } else { chance.below(1 << 32) as u32 };
     let (number, mut file) = File::create(length, key_size as u32, slots as u32, seed);
@@ -220,42 +500,77 @@ fn list(chance: &mut Chance) -> Result<usize, String> {
     }
     let room = length - data_start(key_size, slots);
     let mut book = Book { key_size, slots, room, used: 0, points: BTreeMap::new() };
-    let calls = 1 + chance.below(200);
-    for call in 0..calls {
-        let key = some_name(chance, key_size);
-        let (what, got, want) = match chance.below(10) {
-            0..=4 => {
-                let size = [0, 1, 5, 40, room][chance.below(5)];
-                let length = chance.below(size + 1);
-                let data = chance.bytes(length);
-                let mode = [1, 2, 2, 3, 3, 0, 4, !0][chance.below(8)];
-                ("add", (file.add(&key, &data, mode), Vec::new()), (book.add(&key, &data, mode), Vec::new()))
-            }
-            5 | 6 => ("delete", (file.delete(&key), Vec::new()), (book.delete(&key), Vec::new())),
-            7 | 8 => ("lookup", file.lookup(&key), book.lookup(&key)),
-            _ => {
-                let (number, points) = file.count();
-                ("count", (number, points.to_le_bytes().to_vec()), (0, (book.points.len() as u32).to_le_bytes().to_vec()))
-            }
-        };
-        if got != want {
-            return Err(format!("call {call}, {what} {key:?}: {got:?}, the book {want:?}"));
-        }
-    }
-    for (name, point) in &book.points {
-        if file.lookup(name) != (0, point.text.clone()) {
-            return Err(format!("{name:?} is not found with its text"));
-        }
-    }
-    let mut names = file.names(key_size);
-    names.sort();
-    if !names.iter().eq(book.points.keys()) {
-        return Err("the walk shows other names than the book's".into());
-    }
+    let calls = calls(chance, &mut file, &mut book, &[])?;
+    same_points(&file, &book).map(|()| calls)
+}
+
+/// One list of calls on a sound image and the book read off it; what differed, if anything.
+fn from_image(chance: &mut Chance, ran: &mut Ran) -> Result<usize, String> {
+    let (image, known) = sound_image(chance);
+    let mut file = File(image);
     if !file.sound() {
-        return Err("the check does not say sound".into());
+        return Err("the check does not call the image sound".into());
     }
-    Ok(calls)
+    let mut book = Book::read(&file.0);
+    ran.start(&file.0, &book);
+    let calls = calls(chance, &mut file, &mut book, &known)?;
+    same_points(&file, &book).map(|()| calls)
+}
+
+/// What ran, and of the images read: with a full table, of version 1.0.0, points, messages.
+#[derive(Default)]
+struct Ran {
+    passed: usize,
+    failed: usize,
+    calls: usize,
+    full: usize,
+    old: usize,
+    points: usize,
+    active: usize,
+    inactive: usize,
+}
+
+impl Ran {
+    fn start(&mut self, image: &[u8], book: &Book) {
+        let points = || book.points.values();
+        self.full += (book.points.len() == book.slots) as usize;
+        self.old += (image[7] == 0) as usize;
+        self.points += book.points.len();
+        self.active += points().filter(|p| !p.text.is_empty()).count();
+        self.inactive += points().filter(|p| p.held > 0 && p.text.is_empty()).count();
+    }
+
+    fn list(&mut self, what: &str, i: u64, answer: Result<usize, String>) {
+        match answer {
+            Ok(calls) => (self.passed, self.calls) = (self.passed + 1, self.calls + calls),
+            Err(difference) => self.fail(what, i, difference),
+        }
+    }
+
+    fn fail(&mut self, what: &str, i: u64, difference: String) {
+        self.failed += 1;
+        if self.failed <= 5 {
+            println!("FAILED: list {i} {what}: {difference}");
+        }
+    }
+
+    /// Whether all agreed.
+    fn report(&self, what: &str) -> bool {
+        let Ran { passed, failed, calls, .. } = self;
+        println!("{what}: {calls} calls in {passed} lists that agree, {failed} that do not");
+        *failed == 0 && *passed > 0
+    }
+
+    fn report_starts(&self) {
+        let Ran { full, old, points, active, inactive, .. } = self;
+        println!("  the images: {full} full, {old} of version 1.0.0; {points} points,");
+        println!("  {active} active messages, {inactive} inactive");
+    }
+}
+
+/// A state of its own for each list, so that one can be run again.
+fn chance_of(seed: u64, i: u64) -> Chance {
+    Chance((seed ^ (i + 1).wrapping_mul(0x9E37_79B9_7F4A_7C15)) | 1)
 }
 
 fn main() {
@@ -272,20 +587,14 @@ fn main() {
             }
         }
     }
-    println!("seed {seed}, {lists} lists");
-    let (mut passed, mut failed, mut calls) = (0u64, 0u64, 0);
+    println!("seed {seed}, {lists} lists from create, {lists} from images");
+    let (mut created, mut read) = (Ran::default(), Ran::default());
     for i in 0..lists {
-        // a state of its own for each list, so that one can be run again
-        match list(&mut Chance((seed ^ (i + 1).wrapping_mul(0x9E37_79B9_7F4A_7C15)) | 1)) {
-            Ok(n) => (passed, calls) = (passed + 1, calls + n),
-            Err(what) => {
-                failed += 1;
-                if failed <= 5 {
-                    println!("FAILED: list {i}: {what}");
-                }
-            }
-        }
+        created.list("from create", i, from_create(&mut chance_of(seed, i)));
+        let answer = from_image(&mut chance_of(!seed, i), &mut read);
+        read.list("from an image", i, answer);
     }
-    println!("{calls} calls in {passed} lists that agree, {failed} that do not");
-    std::process::exit((failed != 0 || passed == 0) as i32);
+    let agreed = [created.report("from create"), read.report("from images")];
+    read.report_starts();
+    std::process::exit((agreed != [true, true]) as i32);
 }

@@ -22,7 +22,7 @@ static void make_scramble(void)
             poke32(512 + 4 * i, counted ? i : random32());
 }
 
-static void make_header(uint32_t data)
+void make_header(uint32_t data)
 {
     static const uint8_t start[] = { 'B', 'H', 'T', 'F', 'v', 1, 0 };
     uint32_t room = lent.length - data;

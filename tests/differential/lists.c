@@ -1,7 +1,10 @@
-/* The two kinds of lists. */
+/* The three kinds of lists. */
 #include "parts.h"
 
-/* ---- from create on, with the book ---- */
+/* ---- with the book ---- */
+
+static const uint8_t usual[] = { 0, 52, 72, 87, 90, 94, 98 };
+static const uint8_t many_deletes[] = { 0, 40, 78, 90, 92, 95, 99 };
 
 /* The walk shows as many points as the book has, upwards. */
 static void walk_all(void)
@@ -53,8 +56,6 @@ static uint32_t list_length(uint32_t data)
 
 void list_from_create(void)
 {
-    static const uint8_t usual[] = { 0, 52, 72, 87, 90, 94, 98 };
-    static const uint8_t many_deletes[] = { 0, 40, 78, 90, 92, 95, 99 };
     const uint8_t *weights = one_in(2) ? usual : many_deletes;
     uint32_t calls = 10 + below(one_in(8) ? 200 : 70);
     uint32_t k, n;
@@ -79,6 +80,24 @@ void list_from_create(void)
     }
     if (one_in(2))
         add_all_names();
+    while (calls-- > 0)
+        step(weights);
+    close_list();
+    book_close(&list.book);
+    list.with_book = 0;
+}
+
+/* From a sound image of others on; the check must call it sound. */
+void list_reopened(void)
+{
+    const uint8_t *weights = one_in(2) ? usual : many_deletes;
+    uint32_t calls = 10 + below(70);
+
+    sound_image();
+    book_read(&list.book, lent.library, lent.length);
+    list.with_book = 1;
+    step_plain(CHECK);
+    close_list();
     while (calls-- > 0)
         step(weights);
     close_list();

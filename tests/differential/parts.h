@@ -206,6 +206,9 @@ struct messages {
 };
 extern struct messages messages;
 
+/* A header that questions 5 and 6 take, but for C, with any hash numbers. */
+void make_header(uint32_t data);
+
 /* A length for a message header at an offset with so much space behind. */
 uint32_t make_length(uint32_t space);
 
@@ -217,11 +220,16 @@ void ring_image(void);
 void grown_image(void);
 void random_image(void);
 
+/* ---- sound images of others (reopened.c) ---- */
+
+void sound_image(void);
+
 /* ---- damage.c, splice.c, lists.c ---- */
 
 void damage(void);
 
 void list_from_create(void);
+void list_reopened(void);
 void list_on_damage(void);
 void list_on_splice(void);
 

@@ -133,6 +133,46 @@ static uint32_t replace_text(struct book *b, struct entry *e,
     return set_in_new_space(b, e, 0, data, m);
 }
 
+/* ---- a book read off an image ---- */
+
+static uint32_t number_at(const uint8_t *at)
+{
+    return (uint32_t)at[0] << 24 | (uint32_t)at[1] << 16 |
+           (uint32_t)at[2] << 8 | at[3];
+}
+
+/* The message at an offset other than 0. */
+static void read_message(struct entry *e, const uint8_t *at)
+{
+    e->held = number_at(at) & 0xFFFFFF;
+    if (at[0] == 'a')
+        set_text(e, 0, at + 4, e->held);
+}
+
+void book_read(struct book *b, const uint8_t *image, size_t image_len)
+{
+    uint32_t data = number_at(image + 48);
+
+    memset(b, 0, sizeof *b);
+    b->key_size = number_at(image + 12);
+    b->slots = number_at(image + 16);
+    b->used = number_at(image + 52) - data;
+    b->room = image_len - data;
+    for (uint32_t i = 0; i < b->slots; i++) {
+        const uint8_t *slot = image + 2048 + i * (size_t)(b->key_size + 4);
+        uint32_t offset = number_at(slot + b->key_size);
+        struct entry *e;
+
+        if (!name_fits(b, slot, b->key_size))
+            continue;
+        e = new_entry(b, slot);
+        if (offset != 0)
+            read_message(e, image + offset);
+    }
+}
+
+/* ---- calls ---- */
+
 uint32_t book_add(struct book *b, const uint8_t *key, size_t key_len,
                   const uint8_t *data, size_t data_len, uint32_t mode)
 {

@@ -26,6 +26,11 @@ struct book {
 /* An empty book for an image of the given length; slots 0 means 5507. */
 void book_open(struct book *b, size_t image_len, uint32_t key_size,
                uint32_t slots);
+
+/* The book that a sound image gives (02, Job 3): entries from taken slots,
+ * text from active messages, held from the length at the offset,
+ * U = X - D. */
+void book_read(struct book *b, const uint8_t *image, size_t image_len);
 void book_close(struct book *b);
 
 uint32_t book_add(struct book *b, const uint8_t *key, size_t key_len,

@@ -26,11 +26,11 @@ removed name b = record { terms = b .terms; entries = without name (b .entries);
 same-no : (a b : Bytes) → (a ≡ b → ⊥) → same a b ≡ false
 same-no a b n = by-bool (same a b) (λ h. absurd (n (same-true a b h))) (λ h. h)
 
-find-here : (e : Entry) (es : List Entry) (name : Bytes) → e .name ≡ name → find name (e ∷ es) ≡ some e
+pub find-here : (e : Entry) (es : List Entry) (name : Bytes) → e .name ≡ name → find name (e ∷ es) ≡ some e
 unfolding find
 find-here e es name q = rw (ap (λ (x : Bytes). same x name) q ∙ same-refl name) refl
 
-find-on : (e : Entry) (es : List Entry) (name : Bytes) → (e .name ≡ name → ⊥) → find name (e ∷ es) ≡ find name es
+pub find-on : (e : Entry) (es : List Entry) (name : Bytes) → (e .name ≡ name → ⊥) → find name (e ∷ es) ≡ find name es
 unfolding find
 find-on e es name n = rw (same-no (e .name) name n) refl
 

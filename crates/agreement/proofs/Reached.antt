@@ -1,5 +1,7 @@
--- What holds of every file that calls have reached from an accepted create, in words that a user thinks in.
---     Reached img b       img is the file, and b the book, after some list of calls from an accepted create
+-- What holds of every file that calls have reached, from an accepted create or from any sound image, in words that a
+-- user thinks in.
+--     Reached img b       img is the file, and b the book, after some list of calls from such a start
+--     reached-start, reached-reopened      a start is reached, and so is any sound image, with the book read off it
 --     reached-after       more calls reach on
 --     no-point-twice      no point stands in two slots
 --     reached-sound       the check says sound
@@ -7,35 +9,42 @@
 use mathlib.Core.Path.{_≡_, refl, sym, ap, _∙_, subst}
 use Prim.Native.Nat.{ℕ, _<_}
 use mathlib.Core.List.{List, [], _∷_, _++_}
-use lib.ListN.{length}
+use mathlib.Core.Logic.{inr}
 use Rattle.bhtf.specs.Bytes.{Bytes}
 use Rattle.bhtf.specs.Image.{Layout, layoutOf}
-use Rattle.bhtf.specs.Create.{slotsAsked}
-use Rattle.bhtf.specs.Calls.{Outcome, create, perform, Call, stateAfter}
-use Rattle.bhtf.specs.Book.{Book, newBook, bookStep}
-use Rattle.bhtf.specs.Demand.{termsOf}
+use Rattle.bhtf.specs.Calls.{Outcome, perform, Call, stateAfter}
+use Rattle.bhtf.specs.Book.{Book, bookStep}
+use Rattle.bhtf.specs.Reopened.{bookOf, Starts}
 use Rattle.bhtf.specs.Inspect.{check, sound}
+use Rattle.bhtf.proofs.Bytes.{AreBytes}
 use Rattle.bhtf.proofs.Table.{Taken, keyAt}
 use Rattle.agreement.proofs.File.{File}
 use Rattle.agreement.proofs.Reflect.{Reflected}
 use Rattle.agreement.proofs.Checked.{file-check}
-use Rattle.agreement.proofs.Theorem.{reflects-after, reflects-created}
+use Rattle.agreement.proofs.Theorem.{reflects-after, started}
 
--- the file and the book after some list of calls from an accepted create
+-- the file and the book after some list of calls from a start: an accepted create, or any sound image
 pub record Reached (img : Bytes) (b : Book) : Type 0 where
-  pub slice : Bytes
-  pub K : ℕ
-  pub N : ℕ
-  pub seed : ℕ
-  pub accepted : create slice K N seed .answer .number ≡ 0
+  pub first : Bytes
+  pub opening : Book
+  pub starts : Starts first opening
   pub calls : List Call
-  pub file-is : img ≡ stateAfter perform calls (create slice K N seed .after)
-  pub book-is : b ≡ stateAfter bookStep calls (newBook (termsOf (length slice) K (slotsAsked N)))
+  pub file-is : img ≡ stateAfter perform calls first
+  pub book-is : b ≡ stateAfter bookStep calls opening
+
+pub reached-start : (img : Bytes) (b : Book) → Starts img b → Reached img b
+unfolding stateAfter
+reached-start img b s = record { first = img; opening = b; starts = s; calls = []; file-is = refl; book-is = refl }
+
+-- a sound image is reached, with the book read off it
+pub reached-reopened : (img : Bytes) → AreBytes img → check img ≡ sound → Reached img (bookOf img)
+unfolding Starts
+reached-reopened img bytes ok =
+    reached-start img (bookOf img) (inr (record { bytes = bytes; checked = ok; book-is = refl }))
 
 pub reached-reflects : (img : Bytes) (b : Book) → Reached img b → Reflected img b
 reached-reflects img b r =
-    rw (r .file-is, r .book-is)
-    (reflects-after (r .calls) _ _ (reflects-created (r .slice) (r .K) (r .N) (r .seed) (r .accepted)))
+    rw (r .file-is, r .book-is) (reflects-after (r .calls) _ _ (started (r .first) (r .opening) (r .starts)))
 
 -- ---- more calls reach on
 
@@ -50,11 +59,9 @@ pub reached-after : (img : Bytes) (b : Book) → Reached img b → (calls : List
     → Reached (stateAfter perform calls img) (stateAfter bookStep calls b)
 reached-after img b r calls =
     record {
-      slice = r .slice;
-      K = r .K;
-      N = r .N;
-      seed = r .seed;
-      accepted = r .accepted;
+      first = r .first;
+      opening = r .opening;
+      starts = r .starts;
       calls = r .calls ++ calls;
       file-is = ap (stateAfter perform calls) (r .file-is) ∙ sym (after-append perform (r .calls) calls _);
       book-is = ap (stateAfter bookStep calls) (r .book-is) ∙ sym (after-append bookStep (r .calls) calls _);

@@ -1,15 +1,18 @@
--- Demand 3: on every list of calls, from every accepted create, file and book give the same answers, and after it the
--- file finds exactly the book's points with the book's texts. It is `Agreement` of crates/bhtf/specs/Demand.antt.
+-- Demand 3: on every list of calls, from every accepted create and from every sound image, file and book give the same
+-- answers, and after it the file finds exactly the book's points with the book's texts: `AgreementFrom` of
+-- crates/bhtf/specs/Reopened.antt, and `Agreement` of Demand.antt, its case from create.
 --     step            one call keeps the relation, with equal answers; step-kept: and the layout
 --     same-answers, reflects-after    so does every list
 --     points-agree    files and books in the relation find the same points with the same texts
 --     from-reflected  the theorem for every file and book in the relation
---     agreement       the theorem from create
+--     started         every start is in the relation
+--     agreement-from, agreement       the theorem from every start, and from create
 -- Assumes nothing.
 use mathlib.Core.Path.{_≡_, refl, sym, ap, ap₂, _∙_, subst}
 use Prim.Native.Nat.{ℕ}
 use mathlib.Core.Bool.{Bool, cond, _&&_}
 use mathlib.Core.List.{List, [], _∷_}
+use mathlib.Core.Logic.{inl, inr}
 use mathlib.Core.Option.{none, some}
 use lib.ListN.{length}
 use Rattle.bhtf.specs.Bytes.{Bytes}
@@ -20,12 +23,15 @@ use Rattle.bhtf.specs.Create.{slotsAsked, freshImage}
 use Rattle.bhtf.specs.Calls.{Answer, plain, create, lookup, Call, adding, deleting, looking, counting, perform, answers, stateAfter}
 use Rattle.bhtf.specs.Book.{Book, newBook, bookStep}
 use Rattle.bhtf.specs.Demand.{fileText, textOf, bookText, termsOf, Agrees, Agreement}
+use Rattle.bhtf.specs.Reopened.{Starts, AgreementFrom}
 use Rattle.bhtf.proofs.Tests.{by-bool}
 use Rattle.bhtf.proofs.Accepted.{accepted-facts}
 use Rattle.bhtf.proofs.Outcomes.{settled-yes}
 use Rattle.agreement.proofs.Reflect.{Reflects, Reflected}
 use Rattle.agreement.proofs.Simple.{Same, Alike, same-count, same-lookup, same-delete, lookup-is, found-met, found-none, by-met}
 use Rattle.agreement.proofs.Add.{same-add}
+use Rattle.agreement.proofs.Checked.{check-file}
+use Rattle.agreement.proofs.Reopened.{file-reflects}
 use Rattle.agreement.proofs.Fresh.{slotsAsked-some, fresh-reflects}
 
 -- a call that keeps the layout, as every one does
@@ -98,6 +104,22 @@ reflects-created img K N seed ok =
           (slotsAsked-some N)),
     )
 
+-- every start is in the relation
+pub started : (img : Bytes) (b : Book) → Starts img b → Reflected img b
+unfolding Starts
+started img b (inl c) =
+    rw (c .file-is, c .book-is) (reflects-created (c .slice) (c .K) (c .N) (c .seed) (c .accepted))
+started img b (inr r) =
+    rw (r .book-is) (layoutOf img, file-reflects img (check-file img (r .bytes) (r .checked)))
+
+-- from every start
+pub agreement-from : AgreementFrom
+unfolding AgreementFrom
+agreement-from img b s calls = from-reflected img b (started img b s) calls
+
+-- from create
 pub agreement : Agreement
-unfolding Agreement
-agreement img K N seed ok calls = from-reflected _ _ (reflects-created img K N seed ok) calls
+unfolding Agreement AgreementFrom Starts
+agreement img K N seed ok calls =
+    agreement-from _ _
+    (inl (record { slice = img; K = K; N = N; seed = seed; accepted = ok; file-is = refl; book-is = refl })) calls

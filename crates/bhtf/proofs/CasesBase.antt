@@ -1,6 +1,6 @@
 -- What the cases compute with and look at. The cases stand in `Cases` (01's proved table), `CasesHeader` (create, hash
--- and header), `CasesFile` (opened images and messages), `CasesBook` (file and book side by side) and `CasesInspect`
--- (walk and check).
+-- and header), `CasesFile` (opened images and messages), `CasesBook` (file and book side by side), `CasesInspect`
+-- (walk and check), `CasesStretches` (two points on one message) and `CasesReopened` (books read off images).
 --     definitions        unfolding it unfolds all of `specs` that a file's calls compute with; book-definitions the
 --                        book's too, inspect-definitions those of walk and check too
 --     fresh L N          the image that create leaves of L bytes: K = 1, seed 0

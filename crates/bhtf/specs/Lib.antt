@@ -10,3 +10,4 @@ pub mod Calls
 pub mod Inspect
 pub mod Book
 pub mod Demand
+pub mod Reopened

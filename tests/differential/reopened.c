@@ -1,0 +1,132 @@
+/* Sound images that no list of calls gives, to start from with the book read
+ * off them: any hash numbers, version 1.0.0, permuted full tables, gaps
+ * between messages, inactive messages, bytes left in empty slots. */
+#include "parts.h"
+
+#include <string.h>
+
+static int is_known(const uint8_t *name, uint32_t names)
+{
+    for (uint32_t i = 0; i < names; i++)
+        if (memcmp(list.name[i], name, list.key_size) == 0)
+            return 1;
+    return 0;
+}
+
+static void drop_doubles(void)
+{
+    uint32_t kept = 0;
+
+    for (uint32_t i = 0; i < list.names; i++)
+        if (!is_known(list.name[i], kept))
+            memmove(list.name[kept++], list.name[i], sizeof list.name[i]);
+    list.names = kept;
+}
+
+static uint32_t slot_at(uint32_t slot)
+{
+    return 2048 + slot * (list.key_size + 4);
+}
+
+static void clear_table(void)
+{
+    for (uint32_t at = 2048; at < slot_at(list.slots); at++)
+        poke(at, 0);
+    poke32(20, 0);
+}
+
+/* A full table is found through in any order. */
+static void fill_table(void)
+{
+    uint32_t first = below(list.names);
+    uint32_t back = below(2);
+
+    for (uint32_t i = 0; i < list.slots; i++) {
+        uint32_t turn = back ? list.slots - i : i;
+        const uint8_t *name = list.name[(first + turn) % list.slots];
+
+        for (uint32_t c = 0; c < list.key_size; c++)
+            poke(slot_at(i) + c, name[c]);
+    }
+    poke32(20, list.slots);
+}
+
+/* Some names where the image's own numbers put them. */
+static void add_some(void)
+{
+    for (uint32_t i = below(list.slots + 1); i > 0; i--) {
+        new_call(ADD);
+        memcpy(lend_key(list.key_size), list.name[below(list.names)],
+               list.key_size);
+        list.now.mode = 3;
+        run_call();
+    }
+}
+
+static int is_taken(uint32_t slot)
+{
+    for (uint32_t c = 0; c < list.key_size; c++)
+        if (lent.library[slot_at(slot) + c] != 0)
+            return 1;
+    return 0;
+}
+
+/* A message of the slot at that place or a little behind; answers its end,
+ * or the place if there is no room. */
+static uint32_t place_message(uint32_t slot, uint32_t at)
+{
+    uint32_t start = at + (one_in(3) ? below(8) : 0);
+    uint32_t end = field(52);
+    uint32_t length;
+
+    if (start + 5 > end)
+        return at;
+    length = 1 + below(end - start - 4 < 12 ? end - start - 4 : 12);
+    if (one_in(16))
+        length = end - start - 4;
+    poke32(start, (uint32_t)(one_in(3) ? 'd' : 'a') << 24 | length);
+    poke32(slot_at(slot) + list.key_size, start);
+    return start + 4 + length;
+}
+
+/* Messages from D on, those of the slots from a random one on, round. */
+static void place_messages(void)
+{
+    uint32_t first = below(list.slots);
+    uint32_t at = field(48);
+
+    for (uint32_t i = 0; i < list.slots; i++) {
+        uint32_t slot = (first + i) % list.slots;
+
+        if (is_taken(slot) && below(4) > 0)
+            at = place_message(slot, at);
+        else if (!is_taken(slot) && one_in(3))
+            poke32(slot_at(slot) + list.key_size, random32());
+    }
+}
+
+void sound_image(void)
+{
+    int full = one_in(2);
+    uint32_t data;
+    uint32_t k, n;
+
+    list.what = "reopened";
+    choose_shape(&k, &n);
+    list.key_size = k;
+    list.slots = n == 0 || n > NAMES ? 1 + below(8) : n;
+    choose_names();
+    drop_doubles();
+    if (full && list.slots > list.names)
+        list.slots = list.names;
+    data = data_offset(list.key_size, list.slots);
+    set_length(choose_image_length(data));
+    old_content();
+    make_header(data);
+    clear_table();
+    if (full)
+        fill_table();
+    else
+        add_some();
+    place_messages();
+}
