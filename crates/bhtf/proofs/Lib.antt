@@ -17,6 +17,7 @@ pub mod Kept  -- the bytes that no call changes
 -- ---- the table
 pub mod Table  -- taken slots, tables in which searches find what stands, a name's slot
 pub mod Probe  -- what a search says
+pub mod SlotsRead  -- how many slots a search reads
 pub mod Spread  -- how far entries stand from their homes
 pub mod Insert  -- a slot written where a search ended
 pub mod Closing  -- delete's walk: its turns, and that it ends

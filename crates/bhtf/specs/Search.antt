@@ -33,6 +33,18 @@ probe g img key (suc left) i =
 unfoldable pub search : Layout → Bytes → Bytes → Probe
 search g img key = probe g img key (g .N) (home g key)
 
+-- Document 02, Job 7: "the number of slots that the search read". From slot i on, with so many slots left to read.
+unfoldable pub readFrom : Layout → Bytes → Bytes → ℕ → ℕ → ℕ
+readFrom g img key zero i = 0
+readFrom g img key (suc left) i =
+    elim (same (keyOf g (slot g img i)) key) [
+      | true ↦ 1
+      | false ↦ elim (vacant g (slot g img i)) [ true ↦ 1 | false ↦ suc (readFrom g img key left (next (g .N) i)) ]
+    ]
+
+unfoldable pub slotsRead : Layout → Bytes → Bytes → ℕ
+slotsRead g img key = readFrom g img key (g .N) (home g key)
+
 unfoldable pub isMet : Probe → Bool
 isMet (met i) = true
 isMet (empty i) = false
