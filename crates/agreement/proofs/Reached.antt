@@ -94,7 +94,8 @@ reached-sound img b r =
 -- ---- how many slots a search reads: at most all, and at most one more than C
 
 pub reached-read : (img : Bytes) (b : Book) → Reached img b → (key : Bytes)
-    → (slotsRead (layoutOf img) img key ≤ layoutOf img .N) × (slotsRead (layoutOf img) img key ≤ field img pointsField + 1)
+    → (slotsRead (layoutOf img) img key ≤ layoutOf img .N)
+    × (slotsRead (layoutOf img) img key ≤ field img pointsField + 1)
 unfolding layoutOf
 reached-read img b r key =
     let ok = reached-sound img b r in
