@@ -1,4 +1,4 @@
-/* The check of the library beside that of plain C with a map on the heap, in
+/* The check of the library beside that of tuned C, with a map on the heap, in
  * one process and in turns. Prints for each file the best of the samples of
  * both in microseconds, and the median of the ratios; ends with
  * "N passed, M failed": answers that are equal, and ratios within the bounds.
@@ -13,7 +13,7 @@
 #include <string.h>
 #include <time.h>
 
-extern const struct calls plain_c;
+extern const struct calls tuned_c;
 
 enum { KEY = 16, SAMPLES = 15, MOST = 101 };
 
@@ -69,10 +69,10 @@ static uint8_t *make(const struct file *f)
     if (image == NULL || text == NULL)
         exit(2);
     memset(text, 't', f->text);
-    answers = plain_c.create(image, f->length, KEY, f->slots, 1);
+    answers = tuned_c.create(image, f->length, KEY, f->slots, 1);
     for (uint32_t i = 0; i < f->points; i++) {
         name_of(key, i);
-        answers |= plain_c.add(image, f->length, key, KEY, text, f->text, 1);
+        answers |= tuned_c.add(image, f->length, key, KEY, text, f->text, 1);
     }
     expect("the file is made", answers == 0);
     free(text);
@@ -104,21 +104,21 @@ static void compare(const struct file *f, int samples)
 {
     uint8_t *image = make(f);
     uint32_t runs = 200000 / f->points;
-    double ratio[MOST], plain = 1e300, library = 1e300;
+    double ratio[MOST], tuned = 1e300, library = 1e300;
 
     runs = runs > 0 ? runs : 1;
     for (int i = 0; i < samples; i++) {
-        double p = spent(&plain_c, image, f, runs);
+        double t = spent(&tuned_c, image, f, runs);
         double l = spent(&subject, image, f, runs);
 
-        plain = p < plain ? p : plain;
+        tuned = t < tuned ? t : tuned;
         library = l < library ? l : library;
-        ratio[i] = l / p;
+        ratio[i] = l / t;
     }
     qsort(ratio, (size_t)samples, sizeof *ratio, rising);
-    printf("N %u, %u points, %zu bytes: plain %.1f, library %.1f, "
+    printf("N %u, %u points, %zu bytes: tuned %.1f, library %.1f, "
            "ratio %.2f (at most %.2f)\n", f->slots, f->points, f->length,
-           plain, library, ratio[samples / 2], f->most);
+           tuned, library, ratio[samples / 2], f->most);
     expect("the ratio", ratio[samples / 2] <= f->most);
     free(image);
 }

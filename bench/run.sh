@@ -184,7 +184,7 @@ if [ "$counts" = 1 ]; then
   echo "done: counts ($SECONDS s)"
 fi
 
-# The check beside plain C with a map on the heap, on small and large files; plain C in the library's place sorts, and is no measure.
+# The check beside tuned C with a map on the heap, on small and large files.
 # Ratios and the target of each are shown, and nothing is counted: on a busy machine they are no test.
 run_check() {
   "${pin[@]}" "$bin/check" 15 >"$bin/check.txt" || echo "a ratio of the check lies above its target"
