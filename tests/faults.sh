@@ -6,6 +6,7 @@
 # Usage: ./faults.sh [seed]        CC, CALLS and OUT may be set.
 
 cd "$(dirname "$0")" || exit 2
+. ./edited.sh
 CC=${CC:-gcc}
 CALLS=${CALLS:-2000000}
 OUT=${OUT:-build/faults}
@@ -42,17 +43,7 @@ fail() {
 
 # fault NAME OLD NEW: OLD must stand in plain.c exactly once, in one line.
 fault() {
-    OLD=$2 NEW=$3 awk '
-        BEGIN { old = ENVIRON["OLD"]; new = ENVIRON["NEW"] }
-        {
-            at = index($0, old)
-            if (at > 0) {
-                n++
-                $0 = substr($0, 1, at - 1) new substr($0, at + length(old))
-            }
-            print
-        }
-        END { exit n != 1 }' reference/plain.c > "$OUT/faulty.c" ||
+    edited "$2" "$3" reference/plain.c >"$OUT/faulty.c" ||
         { fail "$1" "the edit does not apply exactly once"; return; }
     build "$OUT/faulty.c" || { fail "$1" "does not build"; return; }
     report=$(run)

@@ -7,6 +7,7 @@
 
 cd "$(dirname "$0")" || exit 2
 . ./tally.sh
+. ./edited.sh
 SEED=${1:-1}
 CALLS=${CALLS:-2000000}
 OUT=build/tuned
@@ -19,23 +20,9 @@ differs() {
         --calls "$CALLS" --quiet >"$OUT/report"
 }
 
-# faulty OLD NEW: OLD must stand in tuned.c exactly once, in one line.
-faulty() {
-    OLD=$1 NEW=$2 awk '
-        BEGIN { old = ENVIRON["OLD"]; new = ENVIRON["NEW"] }
-        {
-            at = index($0, old)
-            if (at > 0) {
-                n++
-                $0 = substr($0, 1, at - 1) new substr($0, at + length(old))
-            }
-            print
-        }
-        END { exit n != 1 }' reference/tuned.c >"$COPY"
-}
-
+# finds OLD NEW: the edit of tuned.c is found.
 finds() {
-    faulty "$1" "$2" || { echo "the edit does not apply exactly once"; return 1; }
+    edited "$1" "$2" reference/tuned.c >"$COPY" || { echo "the edit does not apply exactly once"; return 1; }
     differs "$COPY"
     [ $? -eq 1 ]
 }

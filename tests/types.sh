@@ -7,6 +7,7 @@ cd "$(dirname "$0")/.." || exit 2
 work=$(mktemp -d)
 trap 'rm -rf "$work"' EXIT
 . tests/tally.sh
+. tests/edited.sh
 
 # refused CRATE FILE OLD NEW: the edit does not compile
 refused() {
@@ -14,13 +15,11 @@ refused() {
   rm -rf "$work/repo"
   mkdir "$work/repo"
   tar -c --exclude=target/must-fail --exclude=target/bench crates.txt crates target | tar -x -C "$work/repo"
-  if [ "$(grep -cF -- "$old" "$work/repo/$file")" -ne 1 ]; then
+  if ! edited "$old" "$new" "$file" >"$work/repo/$file"; then
     failed=$((failed + 1))
     echo "FAILED: '$old' does not stand once in $file"
     return
   fi
-  OLD=$old NEW=$new awk '{ i = index($0, ENVIRON["OLD"]); if (i) $0 = substr($0, 1, i - 1) ENVIRON["NEW"] substr($0, i + length(ENVIRON["OLD"])); print }' \
-    "$file" >"$work/repo/$file"
   out=$(cd "$work/repo" && rt check "$crate" 2>&1)
   if [ $? -ne 0 ] && grep -qE 'error\[(type-mismatch|mismatched-types|types?-[a-z-]*|[a-z-]*mismatch[a-z-]*)\]' <<<"$out"; then
     passed=$((passed + 1))
