@@ -8,22 +8,12 @@
 /* K, N, R, U and the number of entries, in document 01's words. */
 static void print_terms(const struct buffer *copy, const struct header *h)
 {
-    const uint8_t *version = copy->bytes + 5;
-
-    printf("version %u.%u.%u\n", version[0], version[1], version[2]);
+    printf("version %u.%u.%u\n", h->version[0], h->version[1], h->version[2]);
     printf("key-size %lu\n", (unsigned long)h->key_size);
     printf("slots %lu\n", (unsigned long)h->slots);
     printf("room %lu\n", (unsigned long)(copy->length - h->data));
     printf("used %lu\n", (unsigned long)(h->next - h->data));
     printf("points %lu\n", (unsigned long)h->count);
-}
-
-/* The name without its padding. */
-static int put_name(struct buffer *line, const uint8_t *key, size_t length)
-{
-    while (length > 0 && key[length - 1] == 0)
-        length--;
-    return quoted_put(line, key, length);
 }
 
 /* The bytes held, whether they are a text or were one. */
@@ -50,7 +40,7 @@ static int print_entry(struct buffer *line, const struct buffer *copy,
 
     bhtf_lookup(copy->bytes, copy->length, key, h->key_size, &offset, &length);
     line->length = 0;
-    done = put_name(line, key, h->key_size) |
+    done = quoted_put_name(line, key, h->key_size) |
            buffer_put(line, held, (size_t)size);
     if (offset == 0)
         done |= buffer_put_byte(line, '-');

@@ -110,13 +110,12 @@ static uint64_t live_bytes(const struct buffer *copy, const struct header *h)
 
 static void print_sound(const struct buffer *copy, const struct header *h)
 {
-    const uint8_t *version = copy->bytes + 5;
     uint32_t used = h->next - h->data;
 
     printf("sound: %lu %s\n", (unsigned long)h->count,
            h->count == 1 ? "point" : "points");
     printf("version %u.%u.%u, %lu bytes of data used, %lu of them dead\n",
-           version[0], version[1], version[2], (unsigned long)used,
+           h->version[0], h->version[1], h->version[2], (unsigned long)used,
            (unsigned long)(used - live_bytes(copy, h)));
 }
 

@@ -76,16 +76,6 @@ static int leave_out_point(struct dump *d, const uint8_t *key, uint32_t number)
     return status;
 }
 
-/* The name without its padding, which load puts back. */
-static int put_name(struct dump *d, const uint8_t *key)
-{
-    size_t length = d->key_size;
-
-    while (length > 0 && key[length - 1] == 0)
-        length--;
-    return quoted_put(&d->line, key, length);
-}
-
 /* Name and text, or a minus for a point without one. */
 static int print_point(struct dump *d, size_t i)
 {
@@ -101,7 +91,9 @@ static int print_point(struct dump *d, size_t i)
     if (number != BHTF_ACCEPTED)
         return leave_out_point(d, key, number);
     d->line.length = 0;
-    done = put_name(d, key) | buffer_put_byte(&d->line, ' ');
+    /* load puts the padding back */
+    done = quoted_put_name(&d->line, key, d->key_size) |
+           buffer_put_byte(&d->line, ' ');
     if (offset == 0)
         done |= buffer_put_byte(&d->line, '-');
     else

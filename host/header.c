@@ -4,6 +4,8 @@
 #include "bhtf.h"
 #include "limits.h"
 
+#include <string.h>
+
 enum { SCRAMBLE = 512, TABLE = 2048, OFFSET_SIZE = 4 };
 
 uint32_t read_u32(const uint8_t *at)
@@ -22,6 +24,7 @@ struct header header_read(const uint8_t *image)
 {
     struct header h;
 
+    memcpy(h.version, image + 5, sizeof h.version);
     h.key_size = read_u32(image + 12);
     h.slots = read_u32(image + 16);
     h.count = read_u32(image + 20);

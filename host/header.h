@@ -5,6 +5,7 @@
 #include <stdint.h>
 
 struct header {
+    uint8_t version[3];
     uint32_t key_size;
     uint32_t slots;
     uint32_t count;

@@ -35,6 +35,13 @@ int quoted_put(struct buffer *to, const uint8_t *bytes, size_t length)
     return done | buffer_put_byte(to, '"');
 }
 
+int quoted_put_name(struct buffer *to, const uint8_t *key, size_t length)
+{
+    while (length > 0 && key[length - 1] == 0)
+        length--;
+    return quoted_put(to, key, length);
+}
+
 static int digit(uint8_t c)
 {
     static const char digits[] = "0123456789ABCDEFabcdef";

@@ -8,6 +8,9 @@
 /* 0, or -1 for no memory. */
 int quoted_put(struct buffer *to, const uint8_t *bytes, size_t length);
 
+/* A name without the zero bytes that pad it: 0, or -1 for no memory. */
+int quoted_put_name(struct buffer *to, const uint8_t *key, size_t length);
+
 /* Reads quoted text at `at`: where it ends, or NULL after *wrong was set. */
 const uint8_t *quoted_take(struct buffer *to, const uint8_t *at,
                            const uint8_t *end, const char **wrong);
