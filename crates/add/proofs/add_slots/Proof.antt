@@ -1,11 +1,13 @@
--- `add::add` meets its contract: a refusal leaves the image, else the search's end tells what is done. Assumes nothing.
+-- A refusal leaves the image, else the search's end tells what is done. Assumes nothing.
 use mathlib.Core.Path.{sym, _∙_}
 use borrow.Author.Needs.{needs}
-use Rattle.seek.proofs.Reaching.{refused-is, reached-is, reached-key}
+use Rattle.bhtf.specs.Calls.{addRead}
+use Rattle.bhtf.specs.Calls.{soughtRead}
+use Rattle.seek.proofs.Reaching.{refused-is, reached-is, reached-key, refused-read, reached-read}
 use Rattle.bhtf.proofs.Sought.{seek-known}
 use Rattle.add.proofs.Added.{refused-answer, found-answer}
-use Rattle.add.proofs.add.Statement.{statement}
-use Rattle.add.proofs.add.Tie as tie
+use Rattle.add.proofs.add_slots.Statement.{statement}
+use Rattle.add.proofs.add_slots.Tie as tie
 
 mode-known-requires : tie.Need-mode-known-requires
 mode-known-requires c κs = search needs
@@ -95,8 +97,8 @@ returns-2 c =
     (d .last .0) _
     (r .ended) (d .ensures .0) (d .ensures .1)
 
-pub add-spec : {M : Type 1} → statement M
-add-spec =
+pub add-slots-spec : {M : Type 1} → statement M
+add-slots-spec =
     tie.close
     (tie.spec
     mode-known-requires
