@@ -35,7 +35,8 @@ fn entry_sound(image: &[u8], shape: Shape, i: Slot) -> bool
     ensures { λ r. ⌜ r ≡ entrySound (layoutOf (now (image .entry))) (now (image .entry)) (i .0) ⌝ }
 {
     let probed = search(image, shape, key_of(image, shape, i));
-    let Found::Met(j) = probed.found else {
+    let found = probed.found;
+    let Found::Met(j) = found else {
         return false;
     };
     if j.number() != i.number() {

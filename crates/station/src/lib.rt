@@ -64,26 +64,26 @@ pub extern "C" fn bhtf_add_slots(
     key: &[u8],
     bytes: &[u8],
     mode: u32,
-    slots_read: &mut u32,
+    read: &mut u32,
 ) -> u32
     ensures { λ r. ⌜ (r ≡ add (now (image .entry)) (now (key .entry)) (now (bytes .entry)) mode .answer .number)
         × (now (image .exit) ≡ add (now (image .entry)) (now (key .entry)) (now (bytes .entry)) mode .after)
-        × (now (slots_read .exit) ≡ addRead (now (image .entry)) (now (key .entry)) mode) ⌝ }
+        × (now (read .exit) ≡ addRead (now (image .entry)) (now (key .entry)) mode) ⌝ }
 {
     let told = add::add_slots(image, key, bytes, mode);
-    *slots_read = told.read as u32;
+    *read = told.read as u32;
     told.number
 }
 
 // Deletes as `bhtf_delete` does; and how many slots the search read, 0 when refused with 1 or 5 to 7.
 #[no_mangle]
-pub extern "C" fn bhtf_delete_slots(image: &mut [u8], key: &[u8], slots_read: &mut u32) -> u32
+pub extern "C" fn bhtf_delete_slots(image: &mut [u8], key: &[u8], read: &mut u32) -> u32
     ensures { λ r. ⌜ (r ≡ delete (now (image .entry)) (now (key .entry)) .answer .number)
         × (now (image .exit) ≡ delete (now (image .entry)) (now (key .entry)) .after)
-        × (now (slots_read .exit) ≡ deleteRead (now (image .entry)) (now (key .entry))) ⌝ }
+        × (now (read .exit) ≡ deleteRead (now (image .entry)) (now (key .entry))) ⌝ }
 {
     let told = delete::delete_slots(image, key);
-    *slots_read = told.read as u32;
+    *read = told.read as u32;
     told.number
 }
 
@@ -94,20 +94,20 @@ pub extern "C" fn bhtf_lookup_slots(
     key: &[u8],
     offset: &mut u32,
     length: &mut u32,
-    slots_read: &mut u32,
+    read: &mut u32,
 ) -> u32
     ensures { λ r. ⌜ (r ≡ lookup (now (image .entry)) (now (key .entry)) .answer .number)
         × (now (offset .exit) ≡ lookupStart (now (image .entry)) (now (key .entry)))
         × (now (length .exit) ≡ lookupLength (now (image .entry)) (now (key .entry)))
         × (now (image .exit) ≡ lookup (now (image .entry)) (now (key .entry)) .after)
-        × (now (slots_read .exit) ≡ lookupRead (now (image .entry)) (now (key .entry))) ⌝ }
+        × (now (read .exit) ≡ lookupRead (now (image .entry)) (now (key .entry))) ⌝ }
 {
     let looked = locate_slots(image, key);
     let found = looked.located;
     let start = found.start;
     *offset = start.at() as u32;
     *length = found.length as u32;
-    *slots_read = looked.read as u32;
+    *read = looked.read as u32;
     found.number
 }
 

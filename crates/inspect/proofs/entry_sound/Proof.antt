@@ -17,8 +17,8 @@ key-of-requires c κs = search needs
 search-requires : tie.Need-search-requires
 search-requires c κs = search needs
 
-enum-known-j : tie.Need-enum-known-j
-enum-known-j c = search needs
+enum-known-found : tie.Need-enum-known-found
+enum-known-found c = search needs
 
 -- a search that does not end at the slot
 ends-elsewhere : (c : tie.After-search)
@@ -49,7 +49,7 @@ returns-2 c =
     let J = N .before .before in
     let F = J .before .before in
     ends-elsewhere F
-    (met-other (F .search .result .found) (J .j .given .1) (F .before .before .before .args .i .0)
+    (met-other (F .search .result .found) (J .found .given .1) (F .before .before .before .args .i .0)
     (λ q. c .if1 .taken (N .number .ensures ∙ q ∙ sym (c .before .number2 .ensures))))
 
 offset-of-requires : tie.Need-offset-of-requires
@@ -71,7 +71,7 @@ returns-3 c =
     let f = F .search in
     let m = c .message-sound in
     ends-true (layoutOf img) img (A .i .0) (K .result .now) (K .ensures) (f .result .found) (f .ensures .0)
-    (met-here (f .result .found) (J .j .given .1) (A .i .0)
+    (met-here (f .result .found) (J .found .given .1) (A .i .0)
     (sym (N .number .ensures) ∙ E .if1 .left ∙ E .before .number2 .ensures))
     (m .result) (o .result .0) (o .ensures) (m .ensures)
 
@@ -81,7 +81,7 @@ entry-sound-spec =
     (tie.spec
     key-of-requires
     search-requires
-    enum-known-j
+    enum-known-found
     returns
     number-requires
     number-requires-2

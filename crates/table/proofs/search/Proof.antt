@@ -1,9 +1,9 @@
 -- `table::search` meets its contract: with `left` slots left to read, the search goes on from slot i, also over the
 -- slots that it passes over.
 -- Assumes nothing.
-use Prim.Native.Nat.{ℕ, _-_, _<_}
+use Prim.Native.Nat.{ℕ, _<_}
 use native.Mathlib.Omega.{arith}
-use mathlib.Core.Path.{_≡_, sym, ap, ap₂, _∙_}
+use mathlib.Core.Path.{sym, ap, _∙_}
 use Rattle.bhtf.specs.Image.{layoutOf, home}
 use Rattle.bhtf.specs.Search.{next}
 use Rattle.bhtf.proofs.Cyclic.{next-lt}
