@@ -21,8 +21,8 @@ held = setField (store (store (headed 1 4 4096) 2048 (slotBytes two 60)) 2063 (s
 unfoldable pub crowded : Bytes
 unfolding headed
 crowded =
-    setField (store (headed 1 4 4096) 2048 (slotBytes two 0 ++ slotBytes three 0 ++ slotBytes (4 ∷ []) 0 ++ slotBytes one 0))
-    pointsField 4
+    setField (store (headed 1 4 4096) 2048
+    (slotBytes two 0 ++ slotBytes three 0 ++ slotBytes (4 ∷ []) 0 ++ slotBytes one 0)) pointsField 4
 
 -- "the number of slots that the search read": met at home, met a slot further round the table's end, and the empty slot
 -- behind both
@@ -33,7 +33,8 @@ unfolding held
 read-each = (refl, refl, refl)
 
 -- the last slot, and no slot of N
-pub read-crowded : lookupRead crowded (4 ∷ []) ∷ lookupRead crowded (5 ∷ []) ∷ addRead crowded (5 ∷ []) 1 ∷ [] ≡ 4 ∷ 4 ∷ 4 ∷ []
+pub read-crowded : lookupRead crowded (4 ∷ []) ∷ lookupRead crowded (5 ∷ []) ∷ addRead crowded (5 ∷ []) 1 ∷ []
+    ≡ 4 ∷ 4 ∷ 4 ∷ []
 unfolding crowded
 read-crowded = refl
 

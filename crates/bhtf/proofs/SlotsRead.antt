@@ -25,7 +25,8 @@ module _ (g : Layout) (img key : Bytes) (left i : ℕ) where
   unfolding readFrom
   from-met e = rw (e, readFrom)
 
-  pub from-empty : same (keyAt g img i) key ≡ false → vacant g (slot g img i) ≡ true → readFrom g img key (suc left) i ≡ 1
+  pub from-empty : same (keyAt g img i) key ≡ false → vacant g (slot g img i) ≡ true
+      → readFrom g img key (suc left) i ≡ 1
   unfolding readFrom
   from-empty e v = rw (e, readFrom, v)
 

@@ -83,9 +83,9 @@ count img = record { after = img; answer = record { number = openNumber img; amo
 
 -- ---- how long a search was
 
--- Document 02, Job 7: "The search, and lookup, add and delete above it, report the number of slots that the search read,
--- or 0 when refused before it": with 1, 5, 6 or 7, or add's 8. Refused behind it, with 9 to 14, a call reports too. "Demand
--- 3 doesn't compare this number, since the book has no slots": it is beside the `Answer` and not in it.
+-- Document 02, Job 7: "The search, and lookup, add and delete above it, report the number of slots that the search
+-- read, or 0 when refused before it": with 1, 5, 6 or 7, or add's 8. Refused behind it, with 9 to 14, a call reports
+-- too. "Demand 3 doesn't compare this number, since the book has no slots": it is beside the `Answer` and not in it.
 unfoldable pub soughtRead : Bytes → Bytes → Bool → ℕ
 soughtRead img key known = cond (eqb (seekNumber img key known) 0) (slotsRead (layoutOf img) img key) 0
 

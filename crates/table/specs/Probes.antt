@@ -1,7 +1,7 @@
 -- The search's answer in code, as the specification's.
 --     probeOf f        how the search ended
 --     Within n s       the slot where it ended, if it ended at one, is one of n
---     GoesOn g img key most i left j     a search that has `most` slots left at slot i goes on with `left` at slot j: it
+--     GoesOn g img key most i left j     a search with `most` slots left at slot i goes on with `left` at slot j: it
 --                      ends as from there, and the slots between are read
 -- Assumes nothing.
 use mathlib.Core.Path.{_≡_}

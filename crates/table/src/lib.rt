@@ -119,7 +119,8 @@ fn pass_over(image: &[u8], shape: Shape, key: &[u8], from: Slot, most: usize) ->
 // From home upwards, wrapping, until the key is met, an empty slot is met, or all slots were read.
 pub fn search(image: &[u8], shape: Shape, key: &[u8]) -> Probed
     requires { ⌜ Open (now image) shape ⌝ }
-    ensures { λ r. ⌜ (probeOf (r .found) ≡ search (layoutOf (now (image .entry))) (now (image .entry)) (now (key .entry)))
+    ensures { λ r. ⌜ (probeOf (r .found)
+        ≡ search (layoutOf (now (image .entry))) (now (image .entry)) (now (key .entry)))
         × (r .read ≡ slotsRead (layoutOf (now (image .entry))) (now (image .entry)) (now (key .entry))) ⌝ }
 {
     let slots = shape.slots;
