@@ -9,7 +9,7 @@ use mathlib.Core.List.{List, [], _∷_}
 use mathlib.Core.Option.{Option, none, some}
 use lib.ListN.{length}
 use lib.Dec.{eqb, ltb}
-use borrow.Author.Tests.{eq-eqb, ne-eqb, ltb-true, le-ltb}
+use borrow.Author.Tests.{ltb-true, le-ltb}
 use Rattle.bhtf.specs.Bytes.{Bytes}
 use Rattle.bhtf.specs.Limits.{pointsField, freeField}
 use Rattle.bhtf.specs.Image.{field, Layout, layoutOf, slot}
@@ -117,21 +117,23 @@ module _ (g : Layout) (img : Bytes) (b : Book) (r : Reflects g img b) (key : Byt
         none-is = unfold shown held isActive bare in refl
 
     -- without a message: mode 3 with no data
-    same-bare : mode ≡ 3 → length bytes ≡ 0 → Same g (add img key bytes mode) (addAbsent b key bytes mode)
+    same-bare : (eqb mode 3 && eqb (length bytes) 0) ≡ true
+        → Same g (add img key bytes mode) (addAbsent b key bytes mode)
     unfolding add addAbsent
-    same-bare three z =
-        let fr = fresh-none bytes mode three z in
-        rw (other, eq-eqb mode 3 three, eq-eqb (length bytes) 0 z)
+    same-bare y =
+        let fr = fresh-none bytes mode y in
+        rw (other, y)
         (same-accepted g img b r (addNumber img key bytes mode) _ _ _
         (empty-number none fr ∙ room-none g img)
         (book-ten [] ∙ firstNo-none)
         (rw (after-empty none fr) (noted-reflects g _ _ bytes mode (unfold inserted in entered-bare))))
 
     -- with one, in new space
-    same-placed : eqb mode 3 && eqb (length bytes) 0 ≡ false → freshText bytes mode ≡ some bytes
+    same-placed : (eqb mode 3 && eqb (length bytes) 0) ≡ false
         → Same g (add img key bytes mode) (addAbsent b key bytes mode)
     unfolding add addAbsent
-    same-placed e fr =
+    same-placed e =
+        let fr = fresh-some bytes mode e in
         let n = addNumber img key bytes mode in
         let num : n ≡ firstNo (roomAsks b (length bytes)) = empty-number (some bytes) fr ∙ place-both g img b r bytes in
         rw (other, e)
@@ -143,12 +145,7 @@ module _ (g : Layout) (img : Bytes) (b : Book) (r : Reflects g img b) (key : Byt
         (λ q. same-refused g img b r n _ _ _ (num ∙ sym (book-ten _)) (λ w. q (sym (book-ten _) ∙ w))))
 
     same-empty : Same g (add img key bytes mode) (addAbsent b key bytes mode)
-    same-empty =
-        by-eq mode 3
-        (λ three. by-eq (length bytes) 0
-        (λ z. same-bare three z)
-        (λ n. same-placed (rw (eq-eqb mode 3 three, ne-eqb (length bytes) 0 n) refl) (fresh-some bytes mode (λ t. n))))
-        (λ n. same-placed (rw (ne-eqb mode 3 n) refl) (fresh-some bytes mode (λ t. absurd (n t))))
+    same-empty = by-bool (eqb mode 3 && eqb (length bytes) 0) same-bare same-placed
 
   pub same-absent : Same g (add img key bytes mode) (addFound b key bytes mode (find key (b .entries)))
   unfolding addFound

@@ -4,12 +4,12 @@ use mathlib.Core.Path.{_≡_, refl, sym, ap, _∙_}
 use Prim.Native.Nat.{ℕ, _+_, _≤_}
 use native.Mathlib.Omega.{arith}
 use native.Mathlib.Nat.{add-zero}
-use mathlib.Core.Bool.{true, false}
+use mathlib.Core.Bool.{true, false, not, _&&_}
 use mathlib.Core.List.{[], _∷_, _++_}
 use mathlib.Core.Option.{Option, none, some}
-use lib.ListN.{length, length-append}
-use lib.Dec.{eqb}
-use borrow.Author.Tests.{eq-eqb, ne-eqb, le-leb, lt-leb}
+use lib.ListN.{length}
+use lib.Dec.{eqb, leb}
+use borrow.Author.Tests.{eq-eqb, ne-eqb}
 use Rattle.bhtf.specs.Bytes.{Bytes}
 use Rattle.bhtf.specs.Limits.{pointsField, freeField, tableStart}
 use Rattle.bhtf.specs.Image.{field, Layout, layoutOf, slot, offsetOf}
@@ -18,10 +18,10 @@ use Rattle.bhtf.specs.Messages.{shown, bytesOf, held, retire, overwrite, renewe
 use Rattle.bhtf.specs.Questions.{ask, firstNo, modeKnown, openNumber, addNumber, placeNumber}
 use Rattle.bhtf.specs.Calls.{add}
 use Rattle.bhtf.specs.Book.{Entry, Book, find, withEntry, stepOf, roomAsks, entered, noting, placed, replace, append, withdrawn, addPresent, addFound}
-use Rattle.bhtf.proofs.Tests.{by-eq, by-le}
+use Rattle.bhtf.proofs.Tests.{by-bool, by-eq}
 use Rattle.bhtf.proofs.Opened.{firstNo-none, firstNo-no}
 use Rattle.bhtf.proofs.Outcomes.{room-none, add-9, add-renewed}
-use Rattle.bhtf.proofs.Texts.{by-mode, replaced-none, replaced-new, replaced-some, replaced-over, appended-none, appended-some, appended-same, withdrawn-none, withdrawn-retired, renewed-moved}
+use Rattle.bhtf.proofs.Texts.{by-mode, replaced-none, replaced-some, replaced-held, replaced-written, appended-none, appended-some, appended-same, withdrawn-none, withdrawn-retired, renewed-moved}
 use Rattle.bhtf.proofs.Table.{entryOf}
 use Rattle.bhtf.proofs.Insert.{entry-met}
 use Rattle.agreement.proofs.File.{Allowed, valueOf}
@@ -131,18 +131,14 @@ module _ (g : Layout) (img : Bytes) (b : Book) (r : Reflects g img b) (key : Byt
   same-2 : Same g (add img key bytes 2) (addPresent b (valueOf g img key o) bytes 2)
   unfolding addPresent replace modeKnown
   same-2 =
-      by-eq o 0
-      (λ z. rw (eq-eqb o 0 z) (same-placed 2 bytes refl refl (replaced-new g img i o key bytes z)))
-      (λ z.
-      rw (ne-eqb o 0 z)
-      (by-le (length bytes) (held g img o)
-      (λ l.
-      rw (le-leb (length bytes) (held g img o) l)
-      (same-in-place 2 (overwrite g img o bytes) _ refl refl
-      (replaced-none g img i o key bytes z l) (replaced-over g img i o key bytes z l) (in-place z l)))
-      (λ l.
-      rw (lt-leb (length bytes) (held g img o) l)
-      (same-placed 2 bytes refl refl (replaced-some g img i o key bytes l)))))
+      by-bool (not (eqb o 0) && leb (length bytes) (held g img o))
+      (λ y.
+      let none′ = replaced-none g img i o key bytes y in
+      let held′ = replaced-held g img i o key bytes none′ in
+      rw y
+      (same-in-place 2 (overwrite g img o bytes) _ refl refl none′ (replaced-written g img i o key bytes none′)
+      (in-place (held′ .0) (held′ .1))))
+      (λ n. rw n (same-placed 2 bytes refl refl (replaced-some g img i o key bytes n)))
 
   -- ---- mode 3
   same-3 : Same g (add img key bytes 3) (addPresent b (valueOf g img key o) bytes 3)

@@ -7,17 +7,17 @@
 use mathlib.Core.Path.{_≡_, refl, sym, _∙_}
 use Prim.Native.Nat.{ℕ, _≤_, _<_}
 use native.Mathlib.Omega.{arith}
-use mathlib.Core.Bool.{true}
+use mathlib.Core.Bool.{Bool, true, false, _&&_, not}
 use mathlib.Core.List.{_++_}
 use mathlib.Core.Option.{none, some, Option·none-ne-some}
 use lib.ListN.{length}
-use lib.Dec.{leb}
-use borrow.Author.Tests.{leb-true, le-leb, lt-leb, eq-eqb, ne-eqb}
+use lib.Dec.{eqb, leb}
+use borrow.Author.Tests.{leb-true, eq-eqb, ne-eqb, not-true}
 use Rattle.bhtf.specs.Bytes.{Bytes}
 use Rattle.bhtf.specs.Image.{Layout}
 use Rattle.bhtf.specs.Messages.{shown, bytesOf, held, retire, overwrite, relocated, freshText, renewedText, renewed, renewedAt}
 use Rattle.bhtf.specs.Questions.{modeKnown}
-use Rattle.bhtf.proofs.Tests.{by-eq, by-le, and-left, and-right}
+use Rattle.bhtf.proofs.Tests.{by-bool, by-eq, and-left, and-right, not-both}
 
 -- ---- the modes
 
@@ -35,49 +35,43 @@ mode-four mode k n₁ n₂ n₃ =
 
 -- ---- a point that is absent
 
-pub fresh-none : (bytes : Bytes) (mode : ℕ) → mode ≡ 3 → length bytes ≡ 0 → freshText bytes mode ≡ none
+pub fresh-none : (bytes : Bytes) (mode : ℕ) → (eqb mode 3 && eqb (length bytes) 0) ≡ true → freshText bytes mode ≡ none
 unfolding freshText
-fresh-none bytes mode three h = rw (eq-eqb mode 3 three, eq-eqb (length bytes) 0 h) refl
+fresh-none bytes mode y = rw y refl
 
--- but for no data in mode 3
-pub fresh-some : (bytes : Bytes) (mode : ℕ) → (mode ≡ 3 → length bytes ≡ 0 → ⊥) → freshText bytes mode ≡ some bytes
+pub fresh-some : (bytes : Bytes) (mode : ℕ) → (eqb mode 3 && eqb (length bytes) 0) ≡ false
+    → freshText bytes mode ≡ some bytes
 unfolding freshText
-fresh-some bytes mode h =
-    by-eq mode 3
-    (λ three. rw (eq-eqb mode 3 three, ne-eqb (length bytes) 0 (h three)) refl)
-    (λ other. rw (ne-eqb mode 3 other) refl)
+fresh-some bytes mode n = rw n refl
 
 -- ---- a point that is present, in slot i with message offset o
 
 module _ (g : Layout) (img : Bytes) (i o : ℕ) (key bytes : Bytes) where
   -- mode 2
-  pub replaced-none : (o ≡ 0 → ⊥) → length bytes ≤ held g img o → renewedText g img o bytes 2 ≡ none
-  unfolding renewedText
-  replaced-none z h = rw (ne-eqb o 0 z, le-leb (length bytes) (held g img o) h) refl
+  abbrev in-place? : Bool
+  in-place? = not (eqb o 0) && leb (length bytes) (held g img o)
 
-  -- new space where there is no offset, or the length there is less
-  pub replaced-new : o ≡ 0 → renewedText g img o bytes 2 ≡ some bytes
+  pub replaced-none : in-place? ≡ true → renewedText g img o bytes 2 ≡ none
   unfolding renewedText
-  replaced-new z = rw (eq-eqb o 0 z) refl
+  replaced-none y = rw y refl
 
-  pub replaced-some : held g img o < length bytes → renewedText g img o bytes 2 ≡ some bytes
+  pub replaced-some : in-place? ≡ false → renewedText g img o bytes 2 ≡ some bytes
   unfolding renewedText
-  replaced-some h =
-      by-eq o 0 replaced-new (λ z. rw (ne-eqb o 0 z, lt-leb (length bytes) (held g img o) h) refl)
+  replaced-some n = rw n refl
 
   -- where no text is placed there is an offset, and the data fits there
   pub replaced-held : renewedText g img o bytes 2 ≡ none → (o ≡ 0 → ⊥) × (length bytes ≤ held g img o)
-  replaced-held q = (
-    λ z. Option·none-ne-some bytes (sym q ∙ replaced-new z),
-    by-le (length bytes) (held g img o)
-        (λ le. le)
-        (λ lt. absurd (Option·none-ne-some bytes (sym q ∙ replaced-some lt))),
-  )
+  replaced-held q =
+      by-bool in-place?
+      (λ y. (
+        λ z. not-both (eqb o 0) (eq-eqb o 0 z) (not-true (eqb o 0) (and-left (not (eqb o 0)) _ y)),
+        leb-true _ _ (and-right (not (eqb o 0)) _ y),
+      ))
+      (λ n. absurd (Option·none-ne-some bytes (sym q ∙ replaced-some n)))
 
-  pub replaced-over : (o ≡ 0 → ⊥) → length bytes ≤ held g img o
-      → renewedAt g img i o key bytes 2 ≡ overwrite g img o bytes
+  pub replaced-written : renewedText g img o bytes 2 ≡ none → renewedAt g img i o key bytes 2 ≡ overwrite g img o bytes
   unfolding renewedAt renewed
-  replaced-over z h = rw (replaced-none z h) refl
+  replaced-written q = rw q refl
 
   -- mode 3
   pub appended-none : length bytes ≡ 0 → renewedText g img o bytes 3 ≡ none
