@@ -1,5 +1,5 @@
 -- The text that each mode places in new space, and the image that each case of an add leaves.
---     by-mode, mode-four              the modes are four
+--     by-mode, mode-three             the modes are four
 --     fresh-none, fresh-some          of a point that is absent
 --     replaced-.., appended-.., withdrawn-..      of a point that is present, modes 2, 3 and 4
 --     renewed-moved                   where a text is placed, whatever the mode
@@ -29,9 +29,9 @@ by-mode mode k one two three four =
     let hi : mode ≤ 4 = leb-true mode 4 (and-right (leb 1 mode) (leb mode 4) k) in
     by-eq mode 1 one (λ n₁. by-eq mode 2 two (λ n₂. by-eq mode 3 three (λ n₃. four (omega arith))))
 
-pub mode-four : (mode : ℕ) → modeKnown mode ≡ true → (mode ≡ 1 → ⊥) → (mode ≡ 2 → ⊥) → (mode ≡ 3 → ⊥) → mode ≡ 4
-mode-four mode k n₁ n₂ n₃ =
-    by-mode mode k (λ e. absurd (n₁ e)) (λ e. absurd (n₂ e)) (λ e. absurd (n₃ e)) (λ e. e)
+pub mode-three : (mode : ℕ) → modeKnown mode ≡ true → (mode ≡ 1 → ⊥) → (mode ≡ 2 → ⊥) → (mode ≡ 4 → ⊥) → mode ≡ 3
+mode-three mode k n₁ n₂ n₄ =
+    by-mode mode k (λ e. absurd (n₁ e)) (λ e. absurd (n₂ e)) (λ e. e) (λ e. absurd (n₄ e))
 
 -- ---- a point that is absent
 

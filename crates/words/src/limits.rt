@@ -13,6 +13,9 @@ pub const MAGIC_FIELD: usize = 0;
 
 pub const VERSION_FIELD: usize = 4;
 
+// The version's three bytes, behind the letter.
+pub const VERSION_BYTES: usize = 5;
+
 pub const KEY_FIELD: usize = 12;
 
 pub const SLOTS_FIELD: usize = 16;

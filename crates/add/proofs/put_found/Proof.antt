@@ -7,8 +7,8 @@ use Rattle.bhtf.specs.Messages.{addedAt}
 use Rattle.bhtf.specs.Questions.{firstNo, pointAsks}
 use Rattle.bhtf.specs.Calls.{settled}
 use Rattle.table.proofs.Taken.{other-met, met-is, met-within}
-use Rattle.add.proofs.add_found.Statement.{statement}
-use Rattle.add.proofs.add_found.Tie as tie
+use Rattle.add.proofs.put_found.Statement.{statement}
+use Rattle.add.proofs.put_found.Tie as tie
 
 enum-known-found : tie.Need-enum-known-found
 enum-known-found c = search needs
@@ -59,8 +59,8 @@ returns-2 c =
           (addedAt g img s (A .key .now) (A .bytes .now) (A .mode))) is,
     )
 
-pub add-found-spec : {M : Type 1} → statement M
-add-found-spec =
+pub put-found-spec : {M : Type 1} → statement M
+put-found-spec =
     tie.close
     (tie.spec
     enum-known-found
