@@ -6,7 +6,7 @@
 --     added g img key data mode       the image that an accepted add leaves
 -- Assumes nothing.
 use Prim.Native.Nat.{ℕ, _+_, _-_}
-use mathlib.Core.Bool.{Bool, cond, not, _&&_, _||_}
+use mathlib.Core.Bool.{Bool, true, false, cond, not, _&&_, _||_}
 use mathlib.Core.List.{[], _∷_, _++_}
 use mathlib.Core.Option.{Option, none, some}
 use lib.ListN.{length}
@@ -41,6 +41,11 @@ shown g img o = cond (isActive img o) (some (textAt g img o)) none
 unfoldable pub bytesOf : Option Bytes → Bytes
 bytesOf none = []
 bytesOf (some t) = t
+
+-- whether there is one
+unfoldable pub isText : Option Bytes → Bool
+isText none = false
+isText (some t) = true
 
 -- the length of that text, 0 for none
 unfoldable pub shownLength : Layout → Bytes → ℕ → ℕ
