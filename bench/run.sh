@@ -1,7 +1,8 @@
 #!/usr/bin/env bash
 # The benchmark: the library, plain C, tuned C and four other engines, in turns.
 #
-#   bench/run.sh             writes docs/PERFORMANCE.md and docs/performance.svg
+#   bench/run.sh             writes docs/PERFORMANCE.md, docs/performance.svg
+#                            and docs/slots-read.svg
 #   bench/run.sh --quick     a small run as a test; writes to target/bench only
 #     --seed S               of names, messages and orders (default 1)
 #     --rounds R             of three samples each
@@ -15,7 +16,7 @@
 set -u
 
 usage() {
-  sed -n '2,14s/^# \{0,1\}//p' "$0"
+  sed -n '2,15s/^# \{0,1\}//p' "$0"
   exit 2
 }
 
@@ -192,6 +193,19 @@ run_check() {
 }
 [ "$self" = 1 ] || [ "$quick" = 1 ] || run_check
 
+# How many slots lookups read, by load: counted, so that one run is enough.
+slots_key=16 slots_tables=$([ "$quick" = 1 ] && echo 2 || echo 20)
+slots_of=$([ "$quick" = 1 ] && echo 5507 || echo 65521)
+if "$bin/slots" "$seed" "$slots_key" "$slots_of" "$slots_tables" >"$work/slots"; then
+  passed=$((passed + 1))
+else
+  fail "slots read: a lookup answered wrongly, or read too many"
+fi
+# slots_read FORM: a page or a picture
+slots_read() {
+  awk -v form="$1" -v tables="$slots_tables" -v key_size="$slots_key" -f bench/svg.awk -f bench/slots.awk "$work/slots"
+}
+
 read -r same different < <(awk -f bench/compare.awk "$results") || fail "the answers were not compared"
 passed=$((passed + same))
 failed=$((failed + different))
@@ -207,11 +221,13 @@ pages=docs
 if [ "$quick" = 1 ] || [ "$self" = 1 ] || [ "$failed" -gt 0 ]; then pages=$bin; fi
 mkdir -p "$pages"
 cp "$results" "$bin/results"
-awk -v rounds="$rounds" -v head=bench/head.md -v tried=bench/tried.md -v command="$given" -v seed="$seed" -v files="$files_say" \
+slots_read page >"$work/slots.md" || fail "the slots read"
+awk -v rounds="$rounds" -v head=bench/head.md -v tried=bench/tried.md -v slots="$work/slots.md" -v command="$given" -v seed="$seed" -v files="$files_say" \
   -v machine="Machine: $(nproc) cores, $(uname -m), gcc $(gcc -dumpfullversion)" \
   -v engines="Engines: gdbm $(version libgdbm-dev), tdb $(version libtdb-dev), LMDB $(version liblmdb-dev), Kyoto Cabinet $(version libkyotocabinet-dev)" \
   -f bench/table.awk "$results" >"$pages/PERFORMANCE.md" || fail "the page"
-awk -f bench/plot.awk "$results" >"$pages/performance.svg" || fail "the plot"
+awk -f bench/svg.awk -f bench/plot.awk "$results" >"$pages/performance.svg" || fail "the plot"
+slots_read picture >"$pages/slots-read.svg" || fail "the plot of slots read"
 grep -E '^(Library|Noise|Instructions|Branches)' "$pages/PERFORMANCE.md"
-echo "written: $pages/PERFORMANCE.md, $pages/performance.svg"
+echo "written: $pages/PERFORMANCE.md, $pages/performance.svg, $pages/slots-read.svg"
 finish

@@ -42,6 +42,13 @@ int refuse_point(const char *file, const char *name, uint32_t number,
     return REFUSED;
 }
 
+void say_slots(const struct options *o, const char *name, uint32_t slots_read)
+{
+    if (o->given & OPTION_SLOTS_READ)
+        complain("%s: %s: %lu %s read", o->word[0], name,
+                 (unsigned long)slots_read, slots_read == 1 ? "slot" : "slots");
+}
+
 int leave_out(const char *file, const struct buffer *name, uint32_t number)
 {
     complain("%s: %.*s: left out: %s", file, (int)name->length,
@@ -103,14 +110,21 @@ static int open_for_point(struct image *i, struct buffer *key,
     return status;
 }
 
-/* Ends a change of a point: closes the file and says what was refused. */
+/* What the library said of a point. */
+struct answer {
+    uint32_t number;
+    uint32_t slots_read;
+};
+
+/* Ends a call for a point: closes the file and says what was refused. */
 static int close_point(struct image *i, const struct options *o,
-                       uint32_t number, uint32_t key_size)
+                       const struct answer *a, uint32_t key_size)
 {
     int status = image_close(i) == 0 ? DONE : TROUBLE;
 
-    if (number != BHTF_ACCEPTED)
-        return refuse_point(o->word[0], o->word[1], number, key_size);
+    if (a->number != BHTF_ACCEPTED)
+        status = refuse_point(o->word[0], o->word[1], a->number, key_size);
+    say_slots(o, o->word[1], a->slots_read);
     return status;
 }
 
@@ -223,10 +237,12 @@ static int add_text(const struct options *o, const struct buffer *text)
     int status = open_for_point(&i, &key, o, 1, &key_size);
 
     if (status == DONE) {
-        uint32_t number = bhtf_add(i.bytes, i.length, key.bytes, key.length,
-                                   text->bytes, text->length, mode_of(o));
+        struct answer a;
 
-        status = close_point(&i, o, number, key_size);
+        a.number = bhtf_add_slots(i.bytes, i.length, key.bytes, key.length,
+                                  text->bytes, text->length, mode_of(o),
+                                  &a.slots_read);
+        status = close_point(&i, o, &a, key_size);
     }
     buffer_free(&key);
     return status;
@@ -253,10 +269,11 @@ int run_delete(const struct options *o)
     int status = open_for_point(&i, &key, o, 1, &key_size);
 
     if (status == DONE) {
-        uint32_t number = bhtf_delete(i.bytes, i.length, key.bytes,
-                                      key.length);
+        struct answer a;
 
-        status = close_point(&i, o, number, key_size);
+        a.number = bhtf_delete_slots(i.bytes, i.length, key.bytes, key.length,
+                                     &a.slots_read);
+        status = close_point(&i, o, &a, key_size);
     }
     buffer_free(&key);
     return status;
@@ -284,19 +301,20 @@ int run_get(const struct options *o)
     struct buffer key = { NULL, 0, 0 };
     struct buffer text = { NULL, 0, 0 };
     struct image i;
-    uint32_t key_size, number, offset, length;
+    struct answer a;
+    uint32_t key_size, offset, length;
     int status;
 
-    if (o->words > 2 || o->given != 0)
+    if (o->words > 2 || (o->given & (OPTION_TSV | OPTION_JSON)))
         return get_several(o);
     status = open_for_point(&i, &key, o, 0, &key_size);
     if (status == DONE) {
-        number = bhtf_lookup(i.bytes, i.length, key.bytes, key.length, &offset,
-                             &length);
+        a.number = bhtf_lookup_slots(i.bytes, i.length, key.bytes, key.length,
+                                     &offset, &length, &a.slots_read);
         if (buffer_put(&text, i.bytes + offset, length) != 0)
             status = out_of_memory();
         if (status == DONE)
-            status = close_point(&i, o, number, key_size);
+            status = close_point(&i, o, &a, key_size);
         else
             image_close(&i);
     }

@@ -28,6 +28,7 @@
 #define OPTION_SKIP OPTION(15)
 #define OPTION_ANY_TEXT OPTION(16)
 #define OPTION_DRY_RUN OPTION(17)
+#define OPTION_SLOTS_READ OPTION(18)
 #define OPTION_AGAINST OPTION(32)
 #define OPTION_PAPER OPTION(33)
 #define OPTION_STATION OPTION(34)
@@ -118,6 +119,9 @@ int refuse(const char *file, uint32_t number);
 /* The same for a point; the name is as it was typed. */
 int refuse_point(const char *file, const char *name, uint32_t number,
                  uint32_t key_size);
+
+/* With --slots: how many slots the search for a point read. */
+void say_slots(const struct options *o, const char *name, uint32_t slots_read);
 
 /* A key from a typed name, padded with zero bytes to the key size. A longer
  * name stays longer, and the library refuses it. 0, or -1 for no memory. */

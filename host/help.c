@@ -16,6 +16,9 @@
     "  -w, --wait S       seconds to wait while others use the file; {wait}\n" \
     "                     unless given\n"
 
+#define SLOTS_READ \
+    "      --slots        say on standard error how many slots were read\n"
+
 #define QUIET "  -q, --quiet        say nothing but errors and warnings\n"
 
 static const struct command commands[] = {
@@ -34,8 +37,9 @@ static const struct command commands[] = {
       "                     {image}, also as 64K or 16M; unless given, the\n"
       "                     table and {slot_bytes} bytes a slot\n" },
     { "add", OPTION_REPLACE | OPTION_APPEND | OPTION_EASTING |
-             OPTION_NORTHING | OPTION_HEIGHT | OPTION_NOTE, 2, 3, run_add,
-      "bhtf add FILE NAME [TEXT] [--replace | --append]\n"
+             OPTION_NORTHING | OPTION_HEIGHT | OPTION_NOTE |
+             OPTION_SLOTS_READ, 2, 3, run_add,
+      "bhtf add FILE NAME [TEXT] [--replace | --append] [--slots]\n"
       "bhtf add FILE NAME --easting E --northing N [--height H] [--note TEXT]\n"
       "Stores a point with a text: TEXT, or all of standard input, or one of\n"
       "  -E, --easting E    a number, with a decimal point\n"
@@ -46,18 +50,21 @@ static const struct command commands[] = {
       "  -r, --replace      put the text in place of its own; an empty one\n"
       "                     withdraws it\n"
       "  -a, --append       put the text behind its own\n"
-      QUIET WAITING NAMES },
-    { "delete", 0, 2, 2, run_delete,
-      "bhtf delete FILE NAME\n"
+      SLOTS_READ QUIET WAITING NAMES },
+    { "delete", OPTION_SLOTS_READ, 2, 2, run_delete,
+      "bhtf delete FILE NAME [--slots]\n"
       "Takes a point out.\n"
-      WAITING NAMES },
-    { "get", OPTION_TSV | OPTION_JSON, 2, ANY_NUMBER, run_get,
-      "bhtf get FILE NAME.. [--tsv | --json]\n"
+      SLOTS_READ WAITING NAMES },
+    { "get", OPTION_TSV | OPTION_JSON | OPTION_SLOTS_READ, 2, ANY_NUMBER,
+      run_get,
+      "bhtf get FILE NAME.. [--tsv | --json] [--slots]\n"
       "Prints a point's text, byte for byte. Of several points, each on a "
       "line\n"
       "behind its name and a tab.\n"
       "      --tsv          fields with tabs between them, as list prints them\n"
       "      --json         an object a line, as list prints them\n"
+      SLOTS_READ
+      "                     for each point; fields and objects have it, too\n"
       QUIET WAITING NAMES },
     { "count", 0, 1, 1, run_count,
       "bhtf count FILE\n"
@@ -96,9 +103,9 @@ static const struct command commands[] = {
       WAITING },
     { "stat", 0, 1, 1, run_stat,
       "bhtf stat FILE\n"
-      "Prints how full the file is, how many slots are read to find its "
-      "points\n"
-      "and how many bytes of its data are dead.\n"
+      "Prints how full the file is, how many slots are read to find its points "
+      "and\n"
+      "where a name is not there, and how many bytes of its data are dead.\n"
       WAITING },
     { "import", OPTION_REPLACE | OPTION_COLUMNS | OPTION_DELIMITER |
                 OPTION_DECIMAL | OPTION_SKIP | OPTION_ANY_TEXT |

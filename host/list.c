@@ -109,14 +109,16 @@ static int get_row(struct rows *r, const struct options *o,
         buffer_free(&key);
         return out_of_memory();
     }
-    number = bhtf_lookup(s->copy.bytes, s->copy.length, key.bytes, key.length,
-                         &offset, &length);
+    number = bhtf_lookup_slots(s->copy.bytes, s->copy.length, key.bytes,
+                               key.length, &offset, &length, &r->slots_read);
     for (whole = key.length; whole > 0 && key.bytes[whole - 1] == 0;)
         whole--;
     if (number != BHTF_ACCEPTED)
         status = refuse_point(o->word[0], typed, number, s->key_size);
     else
         status = rows_put(r, site_find(s, key.bytes, whole));
+    if (number != BHTF_ACCEPTED || !r->counted)
+        say_slots(o, typed, r->slots_read);
     buffer_free(&key);
     return status;
 }
@@ -143,6 +145,7 @@ int get_several(const struct options *o)
 
     memset(&r, 0, sizeof r);
     r.form = form_of(o, ROW_TEXT);
+    r.counted = (o->given & OPTION_SLOTS_READ) && r.form != ROW_TEXT;
     if (!one_form(o))
         return TROUBLE;
     status = site_open(&s, o->word[0], (unsigned)o->wait);

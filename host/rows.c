@@ -41,6 +41,8 @@ static void put_tsv_row(struct rows *r, const struct spot *s)
         fputs("\t\t\t\t", stdout);
         put_tsv(s->text);
     }
+    if (r->counted)
+        printf("\t%lu", (unsigned long)r->slots_read);
     putchar('\n');
 }
 
@@ -134,6 +136,8 @@ static void put_json_row(struct rows *r, const struct spot *s)
     }
     if (!utf8_whole(s->text.bytes, s->text.length))
         put_hex(s->text);
+    if (r->counted)
+        printf(",\"slots_read\":%lu", (unsigned long)r->slots_read);
     fputs("}\n", stdout);
 }
 
@@ -162,7 +166,8 @@ static void put_text_row(const struct rows *r, const struct spot *s)
 void rows_begin(const struct rows *r)
 {
     if (r->form == ROW_TSV)
-        puts("name\tslot\teasting\tnorthing\theight\tnote");
+        printf("name\tslot\teasting\tnorthing\theight\tnote%s\n",
+               r->counted ? "\tslots_read" : "");
 }
 
 int rows_put(struct rows *r, const struct spot *s)

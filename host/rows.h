@@ -14,6 +14,8 @@ enum row_form {
 
 struct rows {
     enum row_form form;
+    int counted;          /* do fields and objects tell the slots read? */
+    uint32_t slots_read;  /* to find the next point */
     struct buffer name;
     struct record record;
 };

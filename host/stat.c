@@ -14,6 +14,9 @@ struct figures {
     uint32_t rows[ROWS];      /* points by the slots that a search reads */
     uint32_t longest;
     uint64_t total;           /* slots read to find each point once */
+    uint64_t displaced;       /* slots between points and their homes */
+    uint32_t missed_longest;  /* slots read where a name is not there */
+    uint64_t missed_total;    /* the same, once from each home */
     uint64_t active;          /* bytes of active messages and their headers */
     uint64_t withdrawn;       /* bytes of inactive ones that a point keeps */
     uint32_t bad;             /* points whose message is damaged */
@@ -29,12 +32,58 @@ static int row_of(uint32_t probes)
     return row;
 }
 
-static void note_search(struct figures *f, uint32_t probes)
+/* The slots that a lookup of this slot's name reads. */
+static void note_search(struct figures *f, const struct buffer *copy,
+                        const struct header *h, uint32_t slot)
 {
-    f->rows[row_of(probes)]++;
-    f->total += probes;
-    if (probes > f->longest)
-        f->longest = probes;
+    const uint8_t *key = copy->bytes + slot_offset(h, slot);
+    uint32_t home = home_slot(copy->bytes, h, key);
+    uint32_t offset, length, read;
+
+    bhtf_lookup_slots(copy->bytes, copy->length, key, h->key_size, &offset,
+                      &length, &read);
+    f->rows[row_of(read)]++;
+    f->total += read;
+    f->displaced += slot >= home ? slot - home : slot + h->slots - home;
+    if (read > f->longest)
+        f->longest = read;
+}
+
+/* A run of taken slots and the empty one behind it: from each of them a search
+ * for a name that is not there goes on to the empty one. */
+static void note_run(struct figures *f, uint32_t run)
+{
+    f->missed_total += ((uint64_t)run + 1) * ((uint64_t)run + 2) / 2;
+    if (run + 1 > f->missed_longest)
+        f->missed_longest = run + 1;
+}
+
+/* Run by run; the last one goes on at the table's start. */
+static void note_misses(struct figures *f, const struct buffer *copy,
+                        const struct header *h)
+{
+    uint32_t run = 0, front = 0, empty = 0;
+    uint32_t taken, place;
+
+    bhtf_walk(copy->bytes, copy->length, 0, &taken, &place);
+    for (uint32_t slot = 0; slot < h->slots; slot++) {
+        if (place != 0 && taken == slot) {
+            run++;
+            bhtf_walk(copy->bytes, copy->length, slot + 1, &taken, &place);
+            continue;
+        }
+        if (empty++ == 0)
+            front = run;
+        else
+            note_run(f, run);
+        run = 0;
+    }
+    if (empty > 0) {
+        note_run(f, run + front);
+    } else {
+        f->missed_total = (uint64_t)h->slots * h->slots;
+        f->missed_longest = h->slots;
+    }
 }
 
 static void note_message(struct figures *f, const uint8_t *image,
@@ -59,14 +108,12 @@ static void gather(struct figures *f, const struct buffer *copy,
     bhtf_check(copy->bytes, copy->length, &f->verdict, &slot);
     bhtf_walk(copy->bytes, copy->length, 0, &slot, &place);
     while (place != 0) {
-        uint32_t home = home_slot(copy->bytes, h, copy->bytes + place);
-        uint32_t steps = slot >= home ? slot - home : slot + h->slots - home;
-
         f->points++;
-        note_search(f, steps + 1);
+        note_search(f, copy, h, slot);
         note_message(f, copy->bytes, h, slot);
         bhtf_walk(copy->bytes, copy->length, slot + 1, &slot, &place);
     }
+    note_misses(f, copy, h);
 }
 
 static void print_row(const struct figures *f, int row, uint32_t most)
@@ -90,12 +137,18 @@ static void print_row(const struct figures *f, int row, uint32_t most)
 /* From it follows what a delete costs: see bhtf_delete. */
 static void print_displacements(const struct figures *f, uint32_t slots)
 {
-    uint64_t sum = f->total - f->points;
-
-    printf("displacements: %llu slots together\n", (unsigned long long)sum);
+    printf("displacements: %llu slots together\n",
+           (unsigned long long)f->displaced);
     if (f->points == slots)
         printf("the table is full: a delete looks at up to %llu slots\n",
-               (unsigned long long)(slots + sum));
+               (unsigned long long)(slots + f->displaced));
+}
+
+static void print_misses(const struct figures *f, uint32_t slots)
+{
+    printf("slots read where a name is not there: %.2f on average, %lu at "
+           "most\n", (double)f->missed_total / slots,
+           (unsigned long)f->missed_longest);
 }
 
 static void print_searches(const struct figures *f)
@@ -144,6 +197,7 @@ static int print_figures(const struct buffer *copy)
            100.0 * f.points / h.slots);
     print_space(&f, &h, copy->length);
     print_searches(&f);
+    print_misses(&f, h.slots);
     print_displacements(&f, h.slots);
     if (f.points != h.count)
         printf("damaged: the header counts %lu points\n",

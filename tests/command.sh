@@ -273,11 +273,14 @@ gives "stat: histogram" 0 '^ +1 +4 #+$' bhtf stat names
 bhtf add names big 0123456789
 bhtf delete names big
 gives "stat: displacements" 0 '^displacements: 0 slots together$' bhtf stat names
+bhtf create tiny2 --key-size 1 --slots 2 --size 8192
 bhtf create brim --key-size 1 --slots 2 --size 8192
 bhtf add brim a x
 bhtf add brim b x
 gives "stat: a full table" 0 '^the table is full: a delete looks at up to [23] slots$' bhtf stat brim
 gives "stat: dead bytes" 0 'dead: 14 bytes' bhtf stat names
+gives "stat: an empty table" 0 '^slots read where a name is not there: 1\.00 on average, 1 at most$' bhtf stat tiny2
+gives "stat: a miss in a full table" 0 'is not there: 2\.00 on average, 2 at most$' bhtf stat brim
 
 # ---- import and export ----
 
@@ -496,7 +499,7 @@ holds "import and export under the sanitizers" csv_cleanly
 
 # ---- parts in files of their own ----
 
-for part in import roundtrip habits completion; do
+for part in slots import roundtrip habits completion; do
   # shellcheck source=/dev/null
   . "$root/tests/command/$part.sh"
 done
