@@ -39,7 +39,7 @@ _bhtf() {
       --by | -b) words=(name slot) ;;
       --paper | -p) words=(A4 A3 A2 A1 A0) ;;
       *)
-        if { [ "$place" -eq 3 ] && [[ $command =~ ^(get|delete|add)$ ]]; } ||
+        if { [ "$place" -eq 3 ] && [[ $command =~ ^(get|delete|withdraw|add)$ ]]; } ||
           { [ "$place" -gt 2 ] && [[ $command =~ ^(get|figure)$ ]]; }; then
           mapfile -t words < <("$program" list "${COMP_WORDS[2]}" --wait 0 2>/dev/null)
         else
