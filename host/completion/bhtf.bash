@@ -37,6 +37,7 @@ _bhtf() {
       --delimiter | -d) words=(comma semicolon tab) ;;
       --decimal) words=(comma point) ;;
       --by | -b) words=(name slot) ;;
+      --format) words=(1.0.2 1.0.1 1.0.0) ;;
       --paper | -p) words=(A4 A3 A2 A1 A0) ;;
       *)
         if { [ "$place" -eq 3 ] && [[ $command =~ ^(get|delete|withdraw|add)$ ]]; } ||
