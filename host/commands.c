@@ -266,12 +266,13 @@ static int change_text(const struct options *o, const struct piece *text,
 
     if (status == DONE) {
         const struct target to = { i.bytes, i.length };
-        uint8_t version = header_read(i.bytes).version[2];
+        uint8_t before = header_read(i.bytes).version[2], now;
         struct answer a;
 
         a.number = store(to, &key, text, mode, &a.slots_read);
-        say_version(o->word[0], i.bytes, version);
+        now = header_read(i.bytes).version[2];
         status = close_point(&i, o, &a, key_size);
+        say_version(o->word[0], before, now);
     }
     buffer_free(&key);
     return status;

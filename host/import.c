@@ -477,13 +477,13 @@ static int store_point(struct import *m, const struct point *p)
 /* Once, of a file that gets its first empty text. */
 static void warn_of_version(struct import *m)
 {
-    const uint8_t *image = target(m).image;
+    uint8_t now = header_read(target(m).image).version[2];
 
-    if (header_read(image).version[2] == m->version)
+    if (now == m->version)
         return;
     progress_end(&m->progress);
-    say_version(m->o->word[0], image, m->version);
-    m->version = header_read(image).version[2];
+    say_version(m->o->word[0], m->version, now);
+    m->version = now;
 }
 
 static int store_points(struct import *m)

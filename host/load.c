@@ -324,7 +324,8 @@ int run_load(const struct options *o)
     if (status == DONE)
         status = read_dump(&l);
     if (status == DONE && l.terms.version[0] != 0)
-        say_version(o->word[0], l.image, (uint8_t)l.terms.version[2]);
+        say_version(o->word[0], (uint8_t)l.terms.version[2],
+                    header_read(l.image).version[2]);
     if (status == DONE)
         status = write_file(&l);
     if (l.file != NULL && l.file != stdin)

@@ -5,7 +5,6 @@
 #include "storing.h"
 
 #include "bhtf.h"
-#include "header.h"
 
 static uint32_t put(struct target to, const struct buffer *key,
                     const struct piece *text, uint32_t mode,
@@ -45,13 +44,10 @@ uint32_t store(struct target to, const struct buffer *key,
         ? put(to, key, NULL, BHTF_APPEND, slots_read) : number;
 }
 
-void say_version(const char *file, const uint8_t *image, uint8_t before)
+void say_version(const char *file, uint8_t before, uint8_t now)
 {
-    const struct header h = header_read(image);
-
-    if (h.version[2] != before)
+    if (now != before)
         complain("%s: warning: with an empty text the file is of version "
-                 "%u.%u.%u; a station that knows 1.0.%u and no later one "
-                 "refuses it (5)", file, h.version[0], h.version[1],
-                 h.version[2], before);
+                 "1.0.%u; a station that knows 1.0.%u and no later one refuses "
+                 "it (5)", file, now, before);
 }

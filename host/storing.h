@@ -17,7 +17,8 @@ uint32_t store(struct target to, const struct buffer *key,
                const struct piece *text, uint32_t mode, uint32_t *slots_read);
 
 /* Says that an empty text took a file to another version than it had, if one
- * did: those who do not know that one refuse the file. */
-void say_version(const char *file, const uint8_t *image, uint8_t before);
+ * did: those who do not know that one refuse the file. Of both, the last
+ * number. */
+void say_version(const char *file, uint8_t before, uint8_t now);
 
 #endif
