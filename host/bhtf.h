@@ -45,6 +45,7 @@ extern "C" {
 #define BHTF_NEW 1u      /* the key must be absent */
 #define BHTF_REPLACE 2u  /* new data in place of the old */
 #define BHTF_APPEND 3u   /* new data behind the old */
+#define BHTF_WITHDRAW 4u /* no message; the key must be there */
 
 /* ---- answers ---- */
 

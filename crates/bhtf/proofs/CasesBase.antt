@@ -37,8 +37,8 @@ unfolding part store number digits zeros allZero same
     freshText renewedText placedText enter inserted relocated renewed renewedAt addedAt noted added
     among moved closeFrom closed deletedAt deleted
     ask firstNo sizeAllowed keyAllowed slotsAllowed tableFits versionKnown headerSound nameAllowed modeKnown metInMode4
-    newInMode1 slotToTake messageSound metMessageSound somePoint lengthAllowed spaceLeft createAsks opened named pointAsks
-    addAsks lookupAsks deleteAsks createNumber openNumber seekNumber addNumber deleteNumber lookupNumber
+    newInMode1 slotToTake messageSound metMessageSound somePoint lengthAllowed spaceLeft createAsks opened named
+    pointAsks addAsks lookupAsks deleteAsks createNumber openNumber seekNumber addNumber deleteNumber lookupNumber
     plain settled create add delete lookupOffset lookupStart lookupLength lookupText lookup countOf count
     soughtRead addRead deleteRead lookupRead perform answers stateAfter
 definitions = 0
