@@ -5,6 +5,8 @@
 #include "header.h"
 #include "quoted.h"
 
+#include <string.h>
+
 /* K, N, R, U and the number of entries, in document 01's words. */
 static void print_terms(const struct buffer *copy, const struct header *h)
 {
@@ -16,15 +18,19 @@ static void print_terms(const struct buffer *copy, const struct header *h)
     printf("points %lu\n", (unsigned long)h->count);
 }
 
-/* The bytes held, whether they are a text or were one. */
-static uint32_t held_by(const struct buffer *copy, const struct header *h,
-                        uint32_t slot)
+/* The bytes held, whether they are a text or were one; a minus for a point
+ * without an offset. */
+static int put_held(struct buffer *line, const struct buffer *copy,
+                    const struct header *h, uint32_t slot)
 {
     struct stretch s;
+    char held[16];
 
     if (!slot_stretch(copy->bytes, h, slot, &s) || s.end == 0)
-        return 0;
-    return s.end - s.start - BHTF_MESSAGE_HEADER;
+        return buffer_put(line, " - ", 3);
+    snprintf(held, sizeof held, " %lu ",
+             (unsigned long)(s.end - s.start - BHTF_MESSAGE_HEADER));
+    return buffer_put(line, held, strlen(held));
 }
 
 /* Name, held and text; a minus where there is none: 0, or -1 for no memory. */
@@ -33,15 +39,12 @@ static int print_entry(struct buffer *line, const struct buffer *copy,
 {
     const uint8_t *key = copy->bytes + slot_offset(h, slot);
     uint32_t offset, length;
-    char held[16];
-    int size = snprintf(held, sizeof held, " %lu ",
-                        (unsigned long)held_by(copy, h, slot));
     int done;
 
     bhtf_lookup(copy->bytes, copy->length, key, h->key_size, &offset, &length);
     line->length = 0;
     done = quoted_put_name(line, key, h->key_size) |
-           buffer_put(line, held, (size_t)size);
+           put_held(line, copy, h, slot);
     if (offset == 0)
         done |= buffer_put_byte(line, '-');
     else

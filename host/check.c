@@ -2,7 +2,7 @@
 #include "commands.h"
 
 #include "bhtf.h"
-#include "header.h"
+#include "space.h"
 
 /* Prints "slot 5 (name)": 0, or -1 for no memory. */
 static int print_slot(const struct buffer *copy, const struct header *h,
@@ -91,23 +91,6 @@ static int print_failing(const struct buffer *copy, const struct header *h,
     return done == 0 ? finish_output(REFUSED) : out_of_memory();
 }
 
-/* Bytes of active messages and their headers, of a sound file. */
-static uint64_t live_bytes(const struct buffer *copy, const struct header *h)
-{
-    struct stretch s;
-    uint32_t slot, place;
-    uint64_t live = 0;
-
-    bhtf_walk(copy->bytes, copy->length, 0, &slot, &place);
-    while (place != 0) {
-        if (slot_stretch(copy->bytes, h, slot, &s) && s.end > 0 &&
-            copy->bytes[s.start] == 'a')
-            live += s.end - s.start;
-        bhtf_walk(copy->bytes, copy->length, slot + 1, &slot, &place);
-    }
-    return live;
-}
-
 static void print_sound(const struct buffer *copy, const struct header *h)
 {
     uint32_t used = h->next - h->data;
@@ -116,7 +99,7 @@ static void print_sound(const struct buffer *copy, const struct header *h)
            h->count == 1 ? "point" : "points");
     printf("version %u.%u.%u, %lu bytes of data used, %lu of them dead\n",
            h->version[0], h->version[1], h->version[2], (unsigned long)used,
-           (unsigned long)(used - live_bytes(copy, h)));
+           (unsigned long)(used - space_measure(copy, h).active));
 }
 
 static int print_verdict(const struct buffer *copy, const struct options *o)

@@ -4,7 +4,8 @@
 #include <string.h>
 
 const char *const column_words[COLUMNS] = { "easting", "northing", "height",
-                                            "note", "name", "text" };
+                                            "note", "name", "text",
+                                            "empty" };
 
 /* ---- words ---- */
 
@@ -37,7 +38,8 @@ static const struct {
     { "desc.", NOTE }, { "description", NOTE }, { "code", NOTE },
     { "remark", NOTE }, { "remarks", NOTE }, { "comment", NOTE },
     { "bemerkung", NOTE }, { "beschreibung", NOTE },
-    { "text", COLUMN_TEXT }, { "-", COLUMN_SKIPPED },
+    { "text", COLUMN_TEXT }, { "empty", COLUMN_EMPTY },
+    { "-", COLUMN_SKIPPED },
     { "x", COLUMN_X }, { "y", COLUMN_Y }
 };
 
@@ -175,8 +177,8 @@ int columns_from_option(struct columns *c, const char *value)
     if (wrong == NULL)
         return DONE;
     complain("--columns %s: %s; it takes PNEZD, PENZD, or words out of name, "
-             "easting, northing, height, note, text and - (a column to pass "
-             "over)", value, wrong);
+             "easting, northing, height, note, text, empty and - (a column to "
+             "pass over)", value, wrong);
     return TROUBLE;
 }
 
@@ -204,8 +206,8 @@ int is_heading(const struct record *r)
 static int complain_of_heading(const char *place, const char *wrong)
 {
     complain("%s: the heading: %s; --columns names the columns (name, easting, "
-             "northing, height, note, text, or - for one to pass over)", place,
-             wrong);
+             "northing, height, note, text, empty, or - for one to pass over)",
+             place, wrong);
     return TROUBLE;
 }
 

@@ -8,6 +8,7 @@
 enum {
     COLUMN_NAME = POINT_FIELDS,
     COLUMN_TEXT,    /* the whole text, byte for byte */
+    COLUMN_EMPTY,   /* yes: the text is empty, which is not none */
     COLUMNS,
     COLUMN_SKIPPED = COLUMNS, /* a field that is not wanted */
     COLUMN_X,       /* easting or northing: only their order tells */

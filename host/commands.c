@@ -1,10 +1,11 @@
-/* create, add, delete, get and count. */
+/* create, add, withdraw, delete, get and count. */
 #include "commands.h"
 
 #include "header.h"
 #include "limits.h"
 #include "point.h"
 #include "progress.h"
+#include "storing.h"
 
 #include <errno.h>
 #include <string.h>
@@ -47,6 +48,26 @@ void say_slots(const struct options *o, const char *name, uint32_t slots_read)
     if (o->given & OPTION_SLOTS_READ)
         complain("%s: %s: %lu %s read", o->word[0], name,
                  (unsigned long)slots_read, slots_read == 1 ? "slot" : "slots");
+}
+
+int no_text(const struct options *o, const char *name)
+{
+    if (!o->quiet)
+        complain("%s: %s: the point has no text", o->word[0], name);
+    return REFUSED;
+}
+
+int format_read(const struct options *o, uint8_t *last)
+{
+    for (*last = 0; *last <= FORMAT_EMPTY; (*last)++) {
+        char version[8];
+
+        snprintf(version, sizeof version, "1.0.%u", *last);
+        if (strcmp(o->format, version) == 0)
+            return DONE;
+    }
+    complain("--format is 1.0.0, 1.0.1 or 1.0.2, and not %s", o->format);
+    return TROUBLE;
 }
 
 int leave_out(const char *file, const struct buffer *name, uint32_t number)
@@ -153,7 +174,10 @@ int run_create(const struct options *o)
                                            : usual_size(key_size, o->slots);
     struct image i;
     uint32_t number;
+    uint8_t format;
 
+    if (o->format != NULL && format_read(o, &format) != DONE)
+        return TROUBLE;
     if (!size_fits(size))
         return refuse(o->word[0], BHTF_BAD_LENGTH);
     if (image_create(&i, o->word[0], (size_t)size) != 0)
@@ -164,6 +188,8 @@ int run_create(const struct options *o)
         image_discard(&i);
         return refuse_create(o->word[0], number, key_size, o->slots);
     }
+    if (o->format != NULL)
+        write_version(i.bytes, format);
     if (image_close(&i) == 0)
         return DONE;
     image_forget(&i);
@@ -229,7 +255,9 @@ static int read_text(struct buffer *text, const struct options *o)
         ? DONE : out_of_memory();
 }
 
-static int add_text(const struct options *o, const struct buffer *text)
+/* Stores a text, or none where it is NULL, or withdraws one. */
+static int change_text(const struct options *o, const struct piece *text,
+                       uint32_t mode)
 {
     struct buffer key = { NULL, 0, 0 };
     struct image i;
@@ -237,26 +265,49 @@ static int add_text(const struct options *o, const struct buffer *text)
     int status = open_for_point(&i, &key, o, 1, &key_size);
 
     if (status == DONE) {
+        const struct target to = { i.bytes, i.length };
+        uint8_t before = header_read(i.bytes).version[2], now;
         struct answer a;
 
-        a.number = bhtf_add_slots(i.bytes, i.length, key.bytes, key.length,
-                                  text->bytes, text->length, mode_of(o),
-                                  &a.slots_read);
+        a.number = store(to, &key, text, mode, &a.slots_read);
+        now = header_read(i.bytes).version[2];
         status = close_point(&i, o, &a, key_size);
+        say_version(o->word[0], before, now);
     }
     buffer_free(&key);
     return status;
 }
 
+static int add_no_text(const struct options *o)
+{
+    if (o->words == 2 && (o->given & (by_fields | OPTION_APPEND)) == 0)
+        return change_text(o, NULL, mode_of(o));
+    complain("add: --no-text goes with --replace alone, and without TEXT");
+    return TROUBLE;
+}
+
 int run_add(const struct options *o)
 {
-    struct buffer text = { NULL, 0, 0 };
-    int status = read_text(&text, o);
+    struct buffer bytes = { NULL, 0, 0 };
+    struct piece text;
+    int status;
 
+    if (o->given & OPTION_NO_TEXT)
+        return add_no_text(o);
+    status = read_text(&bytes, o);
+    text.bytes = bytes.bytes;
+    text.length = bytes.length;
     if (status == DONE)
-        status = add_text(o, &text);
-    buffer_free(&text);
+        status = change_text(o, &text, mode_of(o));
+    buffer_free(&bytes);
     return status;
+}
+
+/* ---- withdraw ---- */
+
+int run_withdraw(const struct options *o)
+{
+    return change_text(o, NULL, BHTF_WITHDRAW);
 }
 
 /* ---- delete ---- */
@@ -287,7 +338,7 @@ static int print_text(const struct buffer *text, const struct options *o)
     int on_terminal = isatty(STDOUT_FILENO);
 
     if (text->length == 0 && !o->quiet)
-        complain("%s: %s: the point has no text", o->word[0], o->word[1]);
+        complain("%s: %s: the point's text is empty", o->word[0], o->word[1]);
     if (text->length > 0)
         fwrite(text->bytes, 1, text->length, stdout);
     if (text->length > 0 && text->bytes[text->length - 1] != '\n' &&
@@ -319,7 +370,7 @@ int run_get(const struct options *o)
             image_close(&i);
     }
     if (status == DONE)
-        status = print_text(&text, o);
+        status = offset == 0 ? no_text(o, o->word[1]) : print_text(&text, o);
     buffer_free(&text);
     buffer_free(&key);
     return status;

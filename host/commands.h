@@ -29,6 +29,8 @@
 #define OPTION_ANY_TEXT OPTION(16)
 #define OPTION_DRY_RUN OPTION(17)
 #define OPTION_SLOTS_READ OPTION(18)
+#define OPTION_NO_TEXT OPTION(19)
+#define OPTION_FORMAT OPTION(20)
 #define OPTION_AGAINST OPTION(32)
 #define OPTION_PAPER OPTION(33)
 #define OPTION_STATION OPTION(34)
@@ -66,6 +68,7 @@ struct options {
     const char *station;
     const char *sigma;
     const char *by;
+    const char *format;
     int quiet;
     int help;
     int version;
@@ -95,6 +98,7 @@ int options_read(struct options *o, const struct command *command, int count,
 /* Each answers an enum status. */
 int run_create(const struct options *o);
 int run_add(const struct options *o);
+int run_withdraw(const struct options *o);
 int run_delete(const struct options *o);
 int run_get(const struct options *o);
 int run_count(const struct options *o);
@@ -138,6 +142,13 @@ int copy_accepted(struct buffer *copy, const struct options *o,
 /* Says that a point is left out because of its damage; answers REFUSED. The
  * name is as it is shown. */
 int leave_out(const char *file, const struct buffer *name, uint32_t number);
+
+/* Says that a point has no text; answers REFUSED. */
+int no_text(const struct options *o, const char *name);
+
+/* The last number of the version that --format names: DONE, or TROUBLE after a
+ * complaint. */
+int format_read(const struct options *o, uint8_t *last);
 
 /* get for several points, or in another form. */
 int get_several(const struct options *o);

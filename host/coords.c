@@ -59,7 +59,7 @@ static void read_text(struct spot *s, struct record *r,
     if (s->number != BHTF_ACCEPTED)
         s->kind = SPOT_DAMAGED;
     else if (length == 0)
-        s->kind = SPOT_BARE;
+        s->kind = offset == 0 ? SPOT_BARE : SPOT_EMPTY;
     else
         s->kind = is_placed(s, r) ? SPOT_PLACED : SPOT_OTHER;
 }
@@ -223,6 +223,7 @@ static void say_kind(const char *file, size_t count, const char *why)
 int site_say_left_out(const struct site *s, const char *file)
 {
     say_kind(file, s->kinds[SPOT_BARE], "no text");
+    say_kind(file, s->kinds[SPOT_EMPTY], "the text is empty");
     say_kind(file, s->kinds[SPOT_OTHER], "the text is not coordinates");
     say_kind(file, s->kinds[SPOT_DAMAGED], "damaged");
     return s->kinds[SPOT_DAMAGED] > 0 ? REFUSED : DONE;

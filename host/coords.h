@@ -14,8 +14,10 @@ struct at {
 enum spot_kind {
     SPOT_PLACED,  /* easting, northing, height, note; the height may be empty */
     SPOT_BARE,    /* no text */
+    SPOT_EMPTY,   /* an empty one */
     SPOT_OTHER,   /* another text, or one whose fields are not numbers */
-    SPOT_DAMAGED  /* refused by the library */
+    SPOT_DAMAGED, /* refused by the library */
+    SPOT_KINDS
 };
 
 struct spot {
@@ -35,7 +37,7 @@ struct site {
     uint32_t key_size;
     struct spot *spots;     /* in the order of their slots, or of their names */
     size_t count;
-    size_t kinds[4];        /* how many of each */
+    size_t kinds[SPOT_KINDS]; /* how many of each */
     int names_only;
 };
 

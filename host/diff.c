@@ -22,7 +22,8 @@ struct difference {
 
 static int same_text(const struct spot *a, const struct spot *b)
 {
-    return a->number == b->number && same_piece(a->text, b->text);
+    return a->kind == b->kind && a->number == b->number &&
+           same_piece(a->text, b->text);
 }
 
 static enum change change_of(const struct spot *old, const struct spot *now)
@@ -44,9 +45,10 @@ static enum change change_of(const struct spot *old, const struct spot *now)
 /* Where a point is, or why that is not known. */
 static void print_place(const struct spot *s)
 {
-    static const char *const why[] = { "", "no text",
-                                       "the text is not coordinates",
-                                       "damaged" };
+    static const char *const why[SPOT_KINDS] = { "", "no text",
+                                                 "an empty text",
+                                                 "the text is not coordinates",
+                                                 "damaged" };
 
     if (s->kind != SPOT_PLACED)
         fputs(why[s->kind], stdout);

@@ -1,7 +1,9 @@
 /* export: points as lines of a CSV file that import reads.
  *
  * A text that these fields alone would not give back stands, byte for byte, in
- * a column of its own. The file has that column only if a point needs it. */
+ * a column of its own, and one more column says yes where the text is empty;
+ * without it, empty fields are no text. The file has these columns only if a
+ * point needs them. */
 #include "commands.h"
 
 #include "columns.h"
@@ -17,13 +19,15 @@ struct export {
     uint32_t key_size;
     const char *line_end;
     int texts;             /* is there a column for texts? */
+    int empties;           /* is there one for empty texts? */
     struct buffer name;
     struct buffer line;
     struct buffer again;   /* a text that is put together again */
     struct record record;
 };
 
-/* The text of the point at `place`; the answer is the library's number. */
+/* The text of the point at `place`; its bytes are NULL if there is none. The
+ * answer is the library's number. */
 static uint32_t find_text(const struct export *e, uint32_t place,
                           struct piece *text)
 {
@@ -32,9 +36,14 @@ static uint32_t find_text(const struct export *e, uint32_t place,
                                   e->copy->bytes + place, e->key_size,
                                   &offset, &length);
 
-    text->bytes = e->copy->bytes + offset;
+    text->bytes = offset == 0 ? NULL : e->copy->bytes + offset;
     text->length = length;
     return number;
+}
+
+static int is_empty(struct piece text)
+{
+    return text.bytes != NULL && text.length == 0;
 }
 
 /* ---- which columns a text needs ---- */
@@ -72,25 +81,27 @@ static int needs_text(struct export *e, struct piece text)
     return !are_fields(e, text, fields) || comes_back(e, text, fields) != 1;
 }
 
-static int any_needs_text(struct export *e)
+static void find_columns(struct export *e)
 {
     uint32_t slot, place;
     struct piece text;
 
     bhtf_walk(e->copy->bytes, e->copy->length, 0, &slot, &place);
-    while (place != 0) {
-        if (find_text(e, place, &text) == BHTF_ACCEPTED && needs_text(e, text))
-            return 1;
+    while (place != 0 && !(e->texts && e->empties)) {
+        if (find_text(e, place, &text) == BHTF_ACCEPTED) {
+            e->texts |= needs_text(e, text);
+            e->empties |= is_empty(text);
+        }
         bhtf_walk(e->copy->bytes, e->copy->length, slot + 1, &slot, &place);
     }
-    return 0;
 }
 
 /* ---- a line ---- */
 
 static int put_fields(struct export *e, struct piece text)
 {
-    const struct piece none = { text.bytes, 0 };
+    const struct piece none = { (const uint8_t *)"", 0 };
+    const struct piece yes = { (const uint8_t *)"yes", 3 };
     struct piece fields[POINT_FIELDS] = { none, none, none, none };
     int back = 1;
     int done = 0;
@@ -106,6 +117,9 @@ static int put_fields(struct export *e, struct piece text)
     if (e->texts)
         done |= buffer_put_byte(&e->line, ',') |
                 csv_put(&e->line, back ? none : text);
+    if (e->empties)
+        done |= buffer_put_byte(&e->line, ',') |
+                csv_put(&e->line, is_empty(text) ? yes : none);
     return back < 0 ? -1 : done;
 }
 
@@ -140,8 +154,8 @@ static int export_points(struct export *e, const struct options *o,
 
     progress_begin(&progress, "written", count,
                    o->quiet || isatty(STDOUT_FILENO));
-    printf("name,easting,northing,height,note%s%s", e->texts ? ",text" : "",
-           e->line_end);
+    printf("name,easting,northing,height,note%s%s%s", e->texts ? ",text" : "",
+           e->empties ? ",empty" : "", e->line_end);
     bhtf_walk(e->copy->bytes, e->copy->length, 0, &slot, &place);
     while (place != 0 && worst != TROUBLE && !ferror(stdout)) {
         int status = put_line(e, place);
@@ -170,7 +184,7 @@ int run_export(const struct options *o)
         e.file = o->word[0];
         e.copy = &copy;
         e.line_end = o->given & OPTION_CRLF ? "\r\n" : "\n";
-        e.texts = any_needs_text(&e);
+        find_columns(&e);
         bhtf_count(copy.bytes, copy.length, &count);
         status = export_points(&e, o, count);
     }

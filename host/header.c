@@ -6,7 +6,7 @@
 
 #include <string.h>
 
-enum { SCRAMBLE = 512, TABLE = 2048, OFFSET_SIZE = 4 };
+enum { VERSION_AT = 5, SCRAMBLE = 512, TABLE = 2048, OFFSET_SIZE = 4 };
 
 uint32_t read_u32(const uint8_t *at)
 {
@@ -24,7 +24,7 @@ struct header header_read(const uint8_t *image)
 {
     struct header h;
 
-    memcpy(h.version, image + 5, sizeof h.version);
+    memcpy(h.version, image + VERSION_AT, sizeof h.version);
     h.key_size = read_u32(image + 12);
     h.slots = read_u32(image + 16);
     h.count = read_u32(image + 20);
@@ -35,6 +35,11 @@ struct header header_read(const uint8_t *image)
     h.data = read_u32(image + 48);
     h.next = read_u32(image + 52);
     return h;
+}
+
+void write_version(uint8_t *image, uint8_t last)
+{
+    image[VERSION_AT + 2] = last;
 }
 
 uint32_t slot_offset(const struct header *h, uint32_t slot)
@@ -61,7 +66,7 @@ int slot_stretch(const uint8_t *image, const struct header *h, uint32_t slot,
         h->next - offset < BHTF_MESSAGE_HEADER)
         return 0;
     length = read_u32(image + offset) & 0xFFFFFFu;
-    if ((image[offset] != 'a' && image[offset] != 'd') || length < 1 ||
+    if ((image[offset] != 'a' && image[offset] != 'd') ||
         length > h->next - offset - BHTF_MESSAGE_HEADER)
         return 0;
     s->start = offset;

@@ -27,6 +27,9 @@ uint32_t slot_offset(const struct header *h, uint32_t slot);
 uint32_t slot_message(const uint8_t *image, const struct header *h,
                       uint32_t slot);
 
+/* Writes the last of a version's three numbers. */
+void write_version(uint8_t *image, uint8_t last);
+
 /* A message from its header to its end; no bytes, from 0 to 0, if none. */
 struct stretch {
     uint32_t start;

@@ -22,9 +22,10 @@
 #define QUIET "  -q, --quiet        say nothing but errors and warnings\n"
 
 static const struct command commands[] = {
-    { "create", OPTION_KEY_SIZE | OPTION_SLOTS | OPTION_SEED | OPTION_SIZE, 1,
-      1, run_create,
-      "bhtf create FILE [--key-size K] [--slots N] [--seed S] [--size BYTES]\n"
+    { "create", OPTION_KEY_SIZE | OPTION_SLOTS | OPTION_SEED | OPTION_SIZE |
+                OPTION_FORMAT, 1, 1, run_create,
+      "bhtf create FILE [--key-size K] [--slots N] [--seed S] [--size BYTES] "
+      "..\n"
       "Makes an empty file. An existing file is never overwritten.\n"
       "  -k, --key-size K   bytes in a name, from 1 to {key}; {key_usual} "
       "unless given\n"
@@ -35,22 +36,32 @@ static const struct command commands[] = {
       "                     scattered; 0 unless given\n"
       "  -S, --size BYTES   length of the file, a multiple of {page} up to\n"
       "                     {image}, also as 64K or 16M; unless given, the\n"
-      "                     table and {slot_bytes} bytes a slot\n" },
+      "                     table and {slot_bytes} bytes a slot\n"
+      "      --format V     1.0.2 unless given; 1.0.1 for a station that refuses\n"
+      "                     1.0.2 (5), until an empty text is stored\n" },
     { "add", OPTION_REPLACE | OPTION_APPEND | OPTION_EASTING |
              OPTION_NORTHING | OPTION_HEIGHT | OPTION_NOTE |
-             OPTION_SLOTS_READ, 2, 3, run_add,
+             OPTION_NO_TEXT | OPTION_SLOTS_READ, 2, 3, run_add,
       "bhtf add FILE NAME [TEXT] [--replace | --append] [--slots]\n"
       "bhtf add FILE NAME --easting E --northing N [--height H] [--note TEXT]\n"
+      "bhtf add FILE NAME --no-text\n"
       "Stores a point with a text: TEXT, or all of standard input, or one of\n"
       "  -E, --easting E    a number, with a decimal point\n"
       "  -N, --northing N\n"
       "  -H, --height H\n"
       "  -t, --note TEXT    whatever is to be said of the point\n"
+      "An empty text is a text, as for a point that was visited; a file with "
+      "one is\n"
+      "of version 1.0.2, which stations that know only 1.0.1 refuse (5).\n"
+      "      --no-text      store the point without a text\n"
       "A point that is already there is refused, but for\n"
-      "  -r, --replace      put the text in place of its own; an empty one\n"
-      "                     withdraws it\n"
+      "  -r, --replace      put the text in place of its own\n"
       "  -a, --append       put the text behind its own\n"
       SLOTS_READ QUIET WAITING NAMES },
+    { "withdraw", OPTION_SLOTS_READ, 2, 2, run_withdraw,
+      "bhtf withdraw FILE NAME [--slots]\n"
+      "Takes a point's text away; the point stays, without a text.\n"
+      SLOTS_READ WAITING NAMES },
     { "delete", OPTION_SLOTS_READ, 2, 2, run_delete,
       "bhtf delete FILE NAME [--slots]\n"
       "Takes a point out.\n"
@@ -60,7 +71,9 @@ static const struct command commands[] = {
       "bhtf get FILE NAME.. [--tsv | --json] [--slots]\n"
       "Prints a point's text, byte for byte. Of several points, each on a "
       "line\n"
-      "behind its name and a tab.\n"
+      "behind its name and a tab. Status 1 if one is not there, or has no "
+      "text;\n"
+      "an empty text is printed as one.\n"
       "      --tsv          fields with tabs between them, as list prints them\n"
       "      --json         an object a line, as list prints them\n"
       SLOTS_READ
@@ -81,10 +94,13 @@ static const struct command commands[] = {
       "for\n"
       "anything, ? for one character, [..] for one of several.\n"
       "  -b, --by ORDER     name, in the order of the names' bytes; or slot\n"
-      "  -l, --long         slot and length of the text in front of each\n"
+      "  -l, --long         slot and length of the text in front of each; - if\n"
+      "                     there is no text\n"
       "      --tsv          name, slot, easting, northing, height and note "
       "with\n"
-      "                     tabs between them, under a heading\n"
+      "                     tabs between them, under a heading; \\N for the "
+      "note\n"
+      "                     if there is no text\n"
       "      --json         the same, an object a line\n"
       WAITING },
     { "check", 0, 1, 1, run_check,
@@ -99,7 +115,9 @@ static const struct command commands[] = {
       "bhtf book FILE\n"
       "Prints the book that calls on a sound file start from: its terms, and "
       "of each\n"
-      "point the name, the bytes held and the text, in the order of slots.\n"
+      "point the name, the bytes held and the text, in the order of slots; a "
+      "minus\n"
+      "for what there is not.\n"
       WAITING },
     { "stat", 0, 1, 1, run_stat,
       "bhtf stat FILE\n"
@@ -116,7 +134,10 @@ static const struct command commands[] = {
       "A heading says which column is which: name, easting, northing, height,\n"
       "note or the usual other words, in any order. Stops at the first line "
       "that\n"
-      "is refused and says how many points were stored.\n"
+      "is refused and says how many points were stored. A line of empty fields "
+      "is a\n"
+      "point without a text; yes in a column empty makes it one with an empty "
+      "text.\n"
       "  -c, --columns ORDER  the columns of a file without a heading: PNEZD,\n"
       "                     PENZD, or words as above, with commas between "
       "them;\n"
@@ -136,7 +157,9 @@ static const struct command commands[] = {
       "bhtf export FILE [--crlf | --gsi | --landxml | --dxf]\n"
       "Prints the points as import reads them, with a heading. Texts that are "
       "not\n"
-      "easting,northing,height,note stand in a column text.\n"
+      "easting,northing,height,note stand in a column text; an empty text is a "
+      "yes\n"
+      "in a column empty.\n"
       "      --crlf         end lines with carriage return and line feed\n"
       "      --gsi          as Leica GSI-16\n"
       "      --landxml      as CgPoints of LandXML 1.2\n"
@@ -148,8 +171,8 @@ static const struct command commands[] = {
       "their\n"
       "names. load makes an equal file of it.\n"
       QUIET WAITING },
-    { "load", OPTION_KEY_SIZE | OPTION_SLOTS | OPTION_SEED | OPTION_SIZE, 1,
-      2, run_load,
+    { "load", OPTION_KEY_SIZE | OPTION_SLOTS | OPTION_SEED | OPTION_SIZE |
+              OPTION_FORMAT, 1, 2, run_load,
       "bhtf load FILE [DUMP] [--size BYTES] [--slots N] ..\n"
       "Makes a file of what dump printed; of standard input if DUMP is - or "
       "not\n"
@@ -159,6 +182,9 @@ static const struct command commands[] = {
       "  -s, --slots N      points that it can hold\n"
       "      --seed S       number by which names are scattered\n"
       "  -S, --size BYTES   length of the file\n"
+      "      --format V     its version; 1.0.1 for a station that refuses 1.0.2 "
+      "(5).\n"
+      "                     An empty text then has no place\n"
       QUIET },
     { "diff", OPTION_TSV, 2, 2, run_diff,
       "bhtf diff OLD NEW [--tsv]\n"
@@ -249,6 +275,7 @@ void help_print(FILE *to)
           "\n"
           "  bhtf create FILE            make an empty file\n"
           "  bhtf add FILE NAME [TEXT]   store a point\n"
+          "  bhtf withdraw FILE NAME     take a point's text away\n"
           "  bhtf delete FILE NAME       take a point out\n"
           "  bhtf get FILE NAME..        print texts of points\n"
           "  bhtf count FILE             print the number of points\n"

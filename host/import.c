@@ -1,13 +1,16 @@
 /* import: points from the lines of a CSV file.
  *
  * A point's message is easting, northing, height and note as CSV text, or the
- * column text byte for byte. Four empty fields are no message. */
+ * column text byte for byte. Empty fields are no message, unless the column
+ * empty says that it is an empty one. */
 #include "commands.h"
 
 #include "columns.h"
 #include "foreign.h"
 #include "neighbours.h"
+#include "header.h"
 #include "progress.h"
+#include "storing.h"
 #include "utf8.h"
 
 #include <errno.h>
@@ -19,6 +22,7 @@ struct point {
     size_t name;      /* where it begins in the batch's bytes */
     size_t text;
     size_t text_end;
+    int none;         /* the point has no text */
 };
 
 struct batch {
@@ -44,6 +48,7 @@ struct import {
     struct buffer key;
     struct buffer place;     /* words: input and line */
     uint32_t key_size;
+    uint8_t version;         /* of the file, its last number */
     struct neighbours neighbours;
     struct progress progress;
     int first;               /* no record was read yet */
@@ -306,6 +311,26 @@ static int says(struct import *m, struct piece text,
     return 1;
 }
 
+/* Is the text an empty one? -1 after a complaint, where the columns do not go
+ * together. */
+static int says_empty(struct import *m, struct piece text,
+                      const struct piece fields[POINT_FIELDS])
+{
+    const struct piece word = piece_trim(column(m, COLUMN_EMPTY));
+
+    if (word.length == 0)
+        return 0;
+    if (!same_word(word.bytes, word.length, "yes")) {
+        complain_of_line(m, "the column empty takes yes, or nothing");
+        return -1;
+    }
+    if (text.length == 0 && is_empty(fields))
+        return 1;
+    complain_of_line(m, "the column empty says yes, and there is a text; leave "
+                        "one of them empty");
+    return -1;
+}
+
 static void warn_of_name(struct import *m, struct piece name)
 {
     if (m->warned || utf8_whole(name.bytes, name.length))
@@ -324,8 +349,11 @@ static int put_point(struct import *m, const struct piece fields[POINT_FIELDS])
     struct point *p = &b->points[b->count];
     const struct piece name = piece_trim(column(m, COLUMN_NAME));
     const struct piece text = column(m, COLUMN_TEXT);
+    int empty = says_empty(m, text, fields);
     int done;
 
+    if (empty < 0)
+        return TROUBLE;
     if (text.length > 0 && !says(m, text, fields))
         return complain_of_line(m, "the column text says something else than "
                                    "the others; leave it empty, or them");
@@ -337,6 +365,7 @@ static int put_point(struct import *m, const struct piece fields[POINT_FIELDS])
     done |= text.length > 0 ? buffer_put(&b->bytes, text.bytes, text.length)
                             : point_put(&b->bytes, fields);
     p->text_end = b->bytes.length;
+    p->none = !empty && p->text_end == p->text;
     b->count++;
     return done == 0 ? DONE : out_of_memory();
 }
@@ -402,10 +431,13 @@ static int refuse_line(struct import *m, const struct point *p,
 }
 
 /* The image that points are put into. */
-static uint8_t *target(struct import *m, size_t *length)
+static struct target target(const struct import *m)
 {
-    *length = is_dry(m) ? m->copy.length : m->image.length;
-    return is_dry(m) ? m->copy.bytes : m->image.bytes;
+    struct target to;
+
+    to.image = is_dry(m) ? m->copy.bytes : m->image.bytes;
+    to.length = is_dry(m) ? m->copy.length : m->image.length;
+    return to;
 }
 
 static void note_stored(struct import *m, const struct point *p, int present)
@@ -424,36 +456,51 @@ static void note_stored(struct import *m, const struct point *p, int present)
 static int store_point(struct import *m, const struct point *p)
 {
     const uint8_t *bytes = m->batch.bytes.bytes;
-    uint32_t number, offset, size;
-    size_t length;
-    uint8_t *image = target(m, &length);
+    const struct piece text = { bytes + p->text, p->text_end - p->text };
+    const struct target to = target(m);
+    uint32_t number, offset, size, read;
     int present = 0;
 
     if (key_from(&m->key, bytes + p->name, p->text - p->name,
                  m->key_size) != 0)
         return out_of_memory();
     if (mode_of(m->o) == BHTF_REPLACE)
-        present = bhtf_lookup(image, length, m->key.bytes, m->key.length,
-                              &offset, &size) == BHTF_ACCEPTED;
-    number = bhtf_add(image, length, m->key.bytes, m->key.length,
-                      bytes + p->text, p->text_end - p->text, mode_of(m->o));
+        present = bhtf_lookup(to.image, to.length, m->key.bytes,
+                              m->key.length, &offset, &size) == BHTF_ACCEPTED;
+    number = store(to, &m->key, p->none ? NULL : &text, mode_of(m->o), &read);
     if (number != BHTF_ACCEPTED)
         return refuse_line(m, p, number);
     note_stored(m, p, present);
     return DONE;
 }
 
+/* Once, of a file that gets its first empty text. */
+static void warn_of_version(struct import *m)
+{
+    uint8_t now = header_read(target(m).image).version[2];
+
+    if (now == m->version)
+        return;
+    progress_end(&m->progress);
+    say_version(m->o->word[0], m->version, now);
+    m->version = now;
+}
+
 static int store_points(struct import *m)
 {
+    int status = DONE;
+
     for (size_t i = 0; i < m->batch.count; i++) {
         const struct point *p = &m->batch.points[i];
         unsigned long before = m->stored;
-        int status = store_point(m, p);
 
+        status = store_point(m, p);
         if (!goes_on(m, status, p->line, before))
-            return status;
+            break;
+        status = DONE;
     }
-    return DONE;
+    warn_of_version(m);
+    return status;
 }
 
 static int store_batch(struct import *m)
@@ -607,13 +654,14 @@ static int open_input(struct import *m)
     return DONE;
 }
 
-static int look_at_neighbours(struct import *m)
+/* What the file is like before the first point. */
+static int look_at_file(struct import *m)
 {
-    size_t length;
-    const uint8_t *image = target(m, &length);
+    const struct target to = target(m);
 
-    return neighbours_find(&m->neighbours, image, length, m->key_size) == 0
-        ? DONE : out_of_memory();
+    m->version = header_read(to.image).version[2];
+    return neighbours_find(&m->neighbours, to.image, to.length,
+                           m->key_size) == 0 ? DONE : out_of_memory();
 }
 
 static int open_image(struct import *m)
@@ -625,7 +673,7 @@ static int open_image(struct import *m)
         return TROUBLE;
     m->image.stop = &interrupted;
     number = ask_header(m->image.bytes, m->image.length, &m->key_size);
-    status = number == BHTF_ACCEPTED ? look_at_neighbours(m)
+    status = number == BHTF_ACCEPTED ? look_at_file(m)
                                      : refuse(m->o->word[0], number);
     image_pause(&m->image);
     if (status != DONE)
@@ -713,7 +761,7 @@ static int try_import(struct import *m)
     int status = copy_accepted(&m->copy, m->o, &m->key_size);
 
     if (status == DONE)
-        status = look_at_neighbours(m);
+        status = look_at_file(m);
     if (status != DONE)
         return status;
     status = read_input(m);

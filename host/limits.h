@@ -8,6 +8,10 @@
 #define KEY_SIZE_USUAL 16u
 #define BYTES_A_SLOT 256u           /* of data, in a file of the usual size */
 
+/* The last number of the version of files from which on a text may be empty:
+ * 1.0.2, which is also what create writes. */
+#define FORMAT_EMPTY 2u
+
 /* Waiting for locks, in seconds. */
 #define WAIT_USUAL 10u
 #define WAIT_MAX 86400u

@@ -115,6 +115,8 @@ static int get_row(struct rows *r, const struct options *o,
         whole--;
     if (number != BHTF_ACCEPTED)
         status = refuse_point(o->word[0], typed, number, s->key_size);
+    else if (offset == 0 && r->form == ROW_TEXT)
+        status = no_text(o, typed);
     else
         status = rows_put(r, site_find(s, key.bytes, whole));
     if (number != BHTF_ACCEPTED || !r->counted)

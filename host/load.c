@@ -6,6 +6,7 @@
 #include "limits.h"
 #include "progress.h"
 #include "quoted.h"
+#include "storing.h"
 #include "terms.h"
 
 #include <errno.h>
@@ -20,6 +21,7 @@ struct load {
     unsigned long number;   /* of the line */
     uint64_t taken;         /* bytes that were read */
     struct terms terms;
+    uint8_t format;         /* that --format names */
     uint8_t *image;         /* NULL until the first point, or the end */
     size_t length;
     struct buffer name;
@@ -80,6 +82,11 @@ static void use_options(struct load *l)
 {
     const struct options *o = l->o;
 
+    if (o->format != NULL) {
+        l->terms.version[0] = 1;
+        l->terms.version[1] = 0;
+        l->terms.version[2] = l->format;
+    }
     if (o->given & OPTION_KEY_SIZE)
         l->terms.key_size = o->key_size;
     if (o->given & OPTION_SLOTS)
@@ -172,15 +179,15 @@ static int refuse_line(struct load *l, uint32_t number)
     return REFUSED;
 }
 
-/* In the files of today an empty text is none. */
-static int store_point(struct load *l)
+static int store_point(struct load *l, int has_text)
 {
-    uint32_t number;
+    const struct target to = { l->image, l->length };
+    const struct piece text = { l->text.bytes, l->text.length };
+    uint32_t number, read;
 
     if (make_key(l) != DONE)
         return TROUBLE;
-    number = bhtf_add(l->image, l->length, l->key.bytes, l->key.length,
-                      l->text.bytes, l->text.length, BHTF_NEW);
+    number = store(to, &l->key, has_text ? &text : NULL, BHTF_NEW, &read);
     if (number != BHTF_ACCEPTED)
         return refuse_line(l, number);
     l->stored++;
@@ -195,12 +202,14 @@ static int read_point(struct load *l)
 
     if (wrong != NULL)
         return complain_of_line(l, wrong);
-    if (has_text && l->text.length == 0)
-        return complain_of_line(l, "files of this version have no empty text; "
-                                   "a point without a text has a minus");
+    if (has_text && l->text.length == 0 && l->o->format != NULL &&
+        l->format < FORMAT_EMPTY)
+        return complain_of_line(l, "a file of the version that --format names "
+                                   "has no empty text; a point without a text "
+                                   "has a minus");
     if (l->image == NULL)
         status = make_image(l);
-    return status == DONE ? store_point(l) : status;
+    return status == DONE ? store_point(l, has_text) : status;
 }
 
 /* ---- the dump ---- */
@@ -309,9 +318,14 @@ int run_load(const struct options *o)
     memset(&l, 0, sizeof l);
     l.o = o;
     terms_clear(&l.terms);
-    status = open_input(&l);
+    status = o->format == NULL ? DONE : format_read(o, &l.format);
+    if (status == DONE)
+        status = open_input(&l);
     if (status == DONE)
         status = read_dump(&l);
+    if (status == DONE && l.terms.version[0] != 0)
+        say_version(o->word[0], (uint8_t)l.terms.version[2],
+                    header_read(l.image).version[2]);
     if (status == DONE)
         status = write_file(&l);
     if (l.file != NULL && l.file != stdin)

@@ -11,7 +11,7 @@
 
 static int print_version(void)
 {
-    puts("bhtf " VERSION ", file format 1.0.1");
+    puts("bhtf " VERSION ", file format 1.0.2");
     return finish_output(DONE);
 }
 

@@ -1,7 +1,8 @@
 /* A point as a row: of a table, tab-separated, or as JSON.
  *
  * Tab-separated fields hold \t, \n, \r and \\ for tab, line feed, carriage
- * return and backslash. JSON is RFC 8259's, one object a line. */
+ * return and backslash, and the last one \N where there is no text. JSON is
+ * RFC 8259's, one object a line. */
 #include "rows.h"
 
 #include "utf8.h"
@@ -38,7 +39,7 @@ static void put_tsv_row(struct rows *r, const struct spot *s)
             put_tsv(fields[i]);
         }
     } else {
-        fputs("\t\t\t\t", stdout);
+        fputs(s->kind == SPOT_BARE ? "\t\t\t\t\\N" : "\t\t\t\t", stdout);
         put_tsv(s->text);
     }
     if (r->counted)
@@ -130,7 +131,7 @@ static void put_json_row(struct rows *r, const struct spot *s)
         put_json_fields(fields);
     } else if (s->kind == SPOT_DAMAGED) {
         fputs(",\"damaged\":true", stdout);
-    } else if (s->text.length > 0) {
+    } else if (s->kind != SPOT_BARE) {
         fputs(",\"text\":", stdout);
         put_json(s->text);
     }
@@ -145,8 +146,9 @@ static void put_json_row(struct rows *r, const struct spot *s)
 
 static void put_long_row(const struct rows *r, const struct spot *s)
 {
-    if (s->kind == SPOT_DAMAGED)
-        printf("%5lu %8s ", (unsigned long)s->slot, "bad");
+    if (s->kind == SPOT_DAMAGED || s->kind == SPOT_BARE)
+        printf("%5lu %8s ", (unsigned long)s->slot,
+               s->kind == SPOT_BARE ? "-" : "bad");
     else
         printf("%5lu %8lu ", (unsigned long)s->slot,
                (unsigned long)s->text.length);

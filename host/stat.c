@@ -2,7 +2,7 @@
 #include "commands.h"
 
 #include "bhtf.h"
-#include "header.h"
+#include "space.h"
 
 #include <string.h>
 
@@ -17,9 +17,7 @@ struct figures {
     uint64_t displaced;       /* slots between points and their homes */
     uint32_t missed_longest;  /* slots read where a name is not there */
     uint64_t missed_total;    /* the same, once from each home */
-    uint64_t active;          /* bytes of active messages and their headers */
-    uint64_t withdrawn;       /* bytes of inactive ones that a point keeps */
-    uint32_t bad;             /* points whose message is damaged */
+    struct space space;
     uint32_t verdict;         /* of the library's check */
 };
 
@@ -86,19 +84,6 @@ static void note_misses(struct figures *f, const struct buffer *copy,
     }
 }
 
-static void note_message(struct figures *f, const uint8_t *image,
-                         const struct header *h, uint32_t slot)
-{
-    struct stretch s;
-
-    if (!slot_stretch(image, h, slot, &s))
-        f->bad++;
-    else if (s.end > 0 && image[s.start] == 'a')
-        f->active += s.end - s.start;
-    else
-        f->withdrawn += s.end - s.start;
-}
-
 static void gather(struct figures *f, const struct buffer *copy,
                    const struct header *h)
 {
@@ -110,10 +95,10 @@ static void gather(struct figures *f, const struct buffer *copy,
     while (place != 0) {
         f->points++;
         note_search(f, copy, h, slot);
-        note_message(f, copy->bytes, h, slot);
         bhtf_walk(copy->bytes, copy->length, slot + 1, &slot, &place);
     }
     note_misses(f, copy, h);
+    f->space = space_measure(copy, h);
 }
 
 static void print_row(const struct figures *f, int row, uint32_t most)
@@ -180,8 +165,8 @@ static void print_space(const struct figures *f, const struct header *h,
         printf("dead: unknown, since the file is not sound\n");
     else
         printf("dead: %lu bytes, of which %lu are kept by points without a "
-               "text\n", (unsigned long)(used - f->active),
-               (unsigned long)f->withdrawn);
+               "text\n", (unsigned long)(used - f->space.active),
+               (unsigned long)f->space.withdrawn);
 }
 
 static int print_figures(const struct buffer *copy)
@@ -195,6 +180,9 @@ static int print_figures(const struct buffer *copy)
     printf("load: %lu points in %lu slots, %.1f %%\n",
            (unsigned long)f.points, (unsigned long)h.slots,
            100.0 * f.points / h.slots);
+    printf("texts: %lu, of which %lu are empty; %lu points have none\n",
+           (unsigned long)f.space.texts, (unsigned long)f.space.empty,
+           (unsigned long)f.space.bare);
     print_space(&f, &h, copy->length);
     print_searches(&f);
     print_misses(&f, h.slots);
@@ -202,8 +190,9 @@ static int print_figures(const struct buffer *copy)
     if (f.points != h.count)
         printf("damaged: the header counts %lu points\n",
                (unsigned long)h.count);
-    if (f.bad > 0)
-        printf("damaged: the messages of %lu points\n", (unsigned long)f.bad);
+    if (f.space.bad > 0)
+        printf("damaged: the messages of %lu points\n",
+               (unsigned long)f.space.bad);
     if (f.verdict == BHTF_SOUND)
         return finish_output(DONE);
     printf("unsound: bhtf check says where\n");

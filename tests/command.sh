@@ -153,10 +153,10 @@ cd "$work" || exit 2
 # ---- help and usage ----
 
 gives "--help" 0 'bhtf create FILE' bhtf --help
-gives "--version" 0 '^bhtf [0-9.]+, file format 1\.0\.1$' bhtf --version
+gives "--version" 0 '^bhtf [0-9.]+, file format 1\.0\.2$' bhtf --version
 gives "no command" 2 'bhtf create FILE' bhtf
 gives "unknown command" 2 'no command frob' bhtf frob
-for command in create add delete get count list check book stat import export dump load; do
+for command in create add withdraw delete get count list check book stat import export dump load; do
   gives "$command --help" 0 "^bhtf $command FILE" bhtf $command --help
   gives "$command without arguments" 2 'too few arguments' bhtf $command
   gives "$command with an unknown option" 2 'unknown option --frob' bhtf $command x --frob
@@ -212,10 +212,8 @@ same "the shorter text" short "$(bhtf get a CP-1)"
 gives "append" 0 '' bhtf add --append a CP-1 ' and long'
 same "the appended text" 'short and long' "$(bhtf get a CP-1)"
 gives "an empty text" 0 '' bhtf add a CP-2 ''
-gives "a point without a text" 0 'has no text' bhtf get a CP-2
-same "--quiet says nothing of it" '' "$(bhtf get a CP-2 --quiet 2>&1)"
-gives "withdraw a text" 0 '' bhtf add a CP-1 '' --replace
-gives "the text is withdrawn" 0 'has no text' bhtf get a CP-1
+gives "withdraw a text" 0 '' bhtf withdraw a CP-1
+gives "the text is withdrawn" 1 'has no text' bhtf get a CP-1
 head -c 70000 /dev/urandom >bytes
 gives "a text from standard input" 0 '' sh -c 'bhtf add a bytes <bytes'
 bhtf get a bytes >got
@@ -289,7 +287,7 @@ printf '%s\r\n' 'Name,Easting,Northing,Height,Note' 'P1,1.50,2.25,3,"a, b"' \
 bhtf create csv
 gives "import with quotes, commas and CRLF" 0 '^5 points stored$' bhtf import csv crlf.csv
 same "the text of a point" '1.50,2.25,3,"a, b"' "$(bhtf get csv P1)"
-gives "four empty fields are no text" 0 'has no text' bhtf get csv P3
+gives "four empty fields are no text" 1 'has no text' bhtf get csv P3
 printf '%s\r\n' '"P,4",1,2,3,plain' 'P1,1.50,2.25,3,"a, b"' 'P2,-1,2,3,"say ""yes"""' \
   'P3,,,,' 'P5,1,2,3,"two' 'lines"' 'name,easting,northing,height,note' | LC_ALL=C sort >expected
 bhtf export csv --crlf | LC_ALL=C sort >got
@@ -352,11 +350,11 @@ head -c 8192 /dev/zero >zeros
 head -c 8192 /dev/urandom >random
 head -c 114688 a >clipped
 cp a version
-printf '\001\000\002' | dd of=version bs=1 seek=5 conv=notrunc status=none
+printf '\001\000\003' | dd of=version bs=1 seek=5 conv=notrunc status=none
 cp a header
 printf '\377' | dd of=header bs=1 seek=16 conv=notrunc status=none
 while read -r number file; do
-  for words in 'count' 'list' 'check' 'stat' 'export' 'dump' 'get:n' 'delete:n' 'add:n:t' 'import:out1'; do
+  for words in 'count' 'list' 'check' 'stat' 'export' 'dump' 'get:n' 'withdraw:n' 'delete:n' 'add:n:t' 'import:out1'; do
     IFS=: read -r command one two <<<"$words"
     cp "$file" before
     gives "$file: $command refused $number" 1 "refused \\($number\\)" \
@@ -392,7 +390,7 @@ cp tiny damaged
 # The offset of the first slot that is taken, behind its key of one byte.
 slot=$(bhtf list damaged --long | awk '{print $1}')
 printf '\000\000\000\001' | dd of=damaged bs=1 seek=$((2048 + slot * 5 + 1)) conv=notrunc status=none
-for words in get delete; do
+for words in get delete withdraw; do
   gives "refused 11 at $words" 1 'refused \(11\).*damaged' bhtf $words damaged a
 done
 gives "refused 11 at add" 1 'refused \(11\)' bhtf add damaged a x --replace
@@ -429,7 +427,7 @@ same "and each point has the text" "first first" "$(bhtf get parted a) $(bhtf ge
 
 cp apart season
 at season 7 '\000'
-bhtf add season b '' --replace
+bhtf withdraw season b
 book_of() { printf 'version 1.0.0\nkey-size 1\nslots %s\nroom %s\nused %s\npoints 2\n' "$1" "$2" "$3"; }
 same "book: terms of an old season's file" "$(book_of "$(bhtf dump apart | sed -n 's/^slots //p')" \
   "$(($(stat -c %s apart) - 4096))" 19)" "$(bhtf book season | sed 6q)"
@@ -444,7 +442,7 @@ gives "nor has what is no file" 2 'not a regular file' bhtf book /dev/null
 cp apart reaching
 at reaching 4099 '\006'
 gives "one byte shared" 1 "^unsound: $both byte 4105 of the file$" bhtf check reaching
-bhtf add reaching b '' --replace
+bhtf withdraw reaching b
 gives "by a withdrawn text too" 1 "$both byte 4105" bhtf check reaching
 cp apart twice
 at twice $((2048 + ${high%:*} * 5)) "${low#*:}"
@@ -476,7 +474,7 @@ damage() {
         dd of=hurt bs=1 seek=$place conv=notrunc status=none
     done
     for words in 'count' 'list:--long' 'check' 'book' 'stat' 'export' 'dump' 'get:CP-101' 'add:CP-102:more:--append' \
-      'add:CP-104:0:--replace' 'add:new:text' 'delete:CP-105' 'delete:BM-1' 'import:'"$root/host/site.csv"':--replace'; do
+      'add:CP-104:0:--replace' 'add:new:text' 'withdraw:CP-106' 'add:CP-103::--replace' 'delete:CP-105' 'delete:BM-1' 'import:'"$root/host/site.csv"':--replace'; do
       IFS=: read -r command one two three <<<"$words"
       clean_status "$command" hurt ${one:+"$one"} ${two:+"$two"} ${three:+"$three"} || return 1
     done
@@ -499,7 +497,7 @@ holds "import and export under the sanitizers" csv_cleanly
 
 # ---- parts in files of their own ----
 
-for part in slots import roundtrip habits completion; do
+for part in slots notes import roundtrip habits completion; do
   # shellcheck source=/dev/null
   . "$root/tests/command/$part.sh"
 done

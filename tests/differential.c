@@ -15,7 +15,8 @@
  * Options: --seed N, --calls N, --seconds N, --quiet, --strict, --old-limits,
  * --old-calls.
  * --old-limits keeps to images and tables within document 01's limits,
- * --old-calls to its calls.
+ * --old-calls to lists of kinds (a) and (b) with its calls: those that 02 left
+ * as they were, on files of its versions.
  * --strict also compares outputs the document leaves open: walk's slot at the
  * end, check's slot without a failing slot, both when refused (plain: 0).
  *
@@ -131,7 +132,7 @@ int main(int argc, char **argv)
     while (!is_over(start)) {
         alarm(HANG_SECONDS);
         list.number++;
-        run_list(below(16));
+        run_list(below(run.old_calls ? 11 : 16));
     }
     if (!run.quiet)
         print_seen();

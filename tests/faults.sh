@@ -44,6 +44,11 @@ fault() {
     edited "$2" "$3" reference/plain.c >"$OUT/faulty.c" ||
         { fail "$1" "the edit does not apply exactly once"; return; }
     build "$OUT/faulty.c" || { fail "$1" "does not build"; return; }
+    judge "$1"
+}
+
+# judge NAME: the program that was built must find a difference.
+judge() {
     report=$(run)
     if [ $? -eq 1 ]; then
         passed=$((passed + 1))
@@ -52,6 +57,18 @@ fault() {
     else
         fail "$1" "not found in $CALLS calls"
     fi
+}
+
+# misbook NAME OLD NEW: the same for an edit of book.c, beside plain.c in the library's place.
+misbook() {
+    edited "$2" "$3" reference/book.c >"$OUT/misbook.c" ||
+        { fail "$1" "the edit does not apply exactly once"; return; }
+    $CC $FLAGS $RENAME -w -c reference/plain.c -o "$OUT/faulty.o" &&
+        $CC $FLAGS -w -c "$OUT/misbook.c" -o "$OUT/misbook.o" &&
+        $CC "$OUT"/right/*.o "$OUT"/right/differential/*.o \
+            "$OUT"/right/reference/plain.o "$OUT/misbook.o" "$OUT/faulty.o" \
+            -o "$OUT/faulty" || { fail "$1" "does not build"; return; }
+    judge "$1"
 }
 
 # Without a fault nothing may be found.
@@ -94,9 +111,10 @@ fault "delete does not look at the message" \
 fault "replace does not zero the rest" \
     'memset(to + text.length, 0, old->length - text.length);' ''
 fault "replace by as many bytes takes new space" \
-    'if (text.length <= old->length) {' 'if (text.length < old->length) {'
+    'if (old->offset != 0 && text.length <= old->length) {' \
+    'if (old->offset != 0 && text.length < old->length) {'
 fault "replace of an inactive message takes new space" \
-    'if (text.length <= old->length) {' \
+    'if (old->offset != 0 && text.length <= old->length) {' \
     'if (old->active && text.length <= old->length) {'
 fault "replace in place leaves the message inactive" \
     'write_active(image, old->offset, (uint32_t)text.length);' \
@@ -139,12 +157,14 @@ fault "11 before 9" \
     'if (mode == MODE_NEW && read_message(v, message_in(v, slot), &old))'
 fault "8 before 7" \
     'if (!key_fits(&v, key, key_len))' \
-    'if (mode - 1 < 3 && !key_fits(&v, key, key_len))'
+    'if (mode - 1 < 4 && !key_fits(&v, key, key_len))'
 fault "mode 0 accepted" \
-    'mode < MODE_NEW || mode > MODE_APPEND' 'mode > MODE_APPEND'
+    'mode < MODE_NEW || mode > MODE_WITHDRAW' 'mode > MODE_WITHDRAW'
+fault "mode 5 accepted" \
+    'mode < MODE_NEW || mode > MODE_WITHDRAW' 'mode < MODE_NEW || mode > 5'
 fault "mode cut to 8 bits" \
-    'mode < MODE_NEW || mode > MODE_APPEND' \
-    '(uint8_t)mode < MODE_NEW || (uint8_t)mode > MODE_APPEND'
+    'mode < MODE_NEW || mode > MODE_WITHDRAW' \
+    '(uint8_t)mode < MODE_NEW || (uint8_t)mode > MODE_WITHDRAW'
 fault "12 not asked" \
     'if (m > MESSAGE_MAX || kept + m > MESSAGE_MAX)' 'if (0)'
 fault "12 looks at the new bytes only" \
@@ -214,17 +234,17 @@ fault "lookup and delete report slots on 7" \
     'if (!key_fits(v, key, key_len))' \
     'if (key_len == v->key_size) *slots_read = search(v, key).read; if (!key_fits(v, key, key_len))'
 fault "add reports slots on 8" \
-    'if (mode < MODE_NEW || mode > MODE_APPEND)' \
-    'f = search(&v, key); *slots_read = f.read; if (mode < MODE_NEW || mode > MODE_APPEND)'
+    'if (mode < MODE_NEW || mode > MODE_WITHDRAW)' \
+    'f = search(&v, key); *slots_read = f.read; if (mode < MODE_NEW || mode > MODE_WITHDRAW)'
 fault "9 reports 0" \
     'if (f.ending == MET)' \
     'if (f.ending == MET && mode == MODE_NEW) *slots_read = 0; if (f.ending == MET)'
 fault "add of an absent name reports 0" \
-    'return add_absent(image, &v, f, key, text);' \
-    '*slots_read = 0; return add_absent(image, &v, f, key, text);'
+    'answer = add_absent(image, &v, f, key, text, mode);' \
+    'answer = add_absent(image, &v, f, key, text, mode), *slots_read = 0;'
 fault "10, 12 and 13 report 0" \
-    'return add_absent(image, &v, f, key, text);' \
-    'uint32_t asked = add_absent(image, &v, f, key, text); if (asked != ACCEPTED) *slots_read = 0; return asked;'
+    'answer = add_absent(image, &v, f, key, text, mode);' \
+    'answer = add_absent(image, &v, f, key, text, mode), *slots_read *= answer == ACCEPTED;'
 fault "14 reports 0" \
     'return f.ending == MET ? ACCEPTED : 14;' \
     'if (f.ending != MET) *slots_read = 0; return f.ending == MET ? ACCEPTED : 14;'
@@ -271,10 +291,16 @@ fault "question 6 keeps the old limit of slots" \
     'v->slots > SLOTS_MAX' 'v->slots > 65536'
 fault "length 0 accepted" \
     'length >= PAGE && ' ''
-fault "version 1.0.2 accepted" \
-    'image[7] <= 1' 'image[7] <= 2'
+fault "version 1.0.3 accepted" \
+    'image[AT_LAST_VERSION] <= NOTES_VERSION' 'image[AT_LAST_VERSION] <= 3'
+fault "version 1.0.2 refused" \
+    'image[AT_LAST_VERSION] <= NOTES_VERSION' 'image[AT_LAST_VERSION] <= 1'
+fault "version 1.0.1 refused" \
+    'image[AT_LAST_VERSION] <= NOTES_VERSION' \
+    'image[AT_LAST_VERSION] <= NOTES_VERSION && image[AT_LAST_VERSION] != 1'
 fault "version 1.0.0 refused" \
-    'image[7] <= 1' 'image[7] == 1'
+    'image[AT_LAST_VERSION] <= NOTES_VERSION' \
+    'image[AT_LAST_VERSION] <= NOTES_VERSION && image[AT_LAST_VERSION] != 0'
 fault "C above N accepted" \
     'v->count > v->slots)' 'v->count > v->slots + 1)'
 fault "E above 255 accepted" \
@@ -303,8 +329,8 @@ fault "any letter accepted" \
 fault "inactive message refused" \
     "if (header >> 24 != 'a' && header >> 24 != 'd')" \
     "if (header >> 24 != 'a')"
-fault "length 0 of a message accepted" \
-    'return m->length >= 1 && m->length' 'return m->length'
+fault "length 0 of a message refused" \
+    'return m->length <= v->next' 'return m->length >= 1 && m->length <= v->next'
 fault "message's end not asked" \
     'm->length <= v->next - offset - MESSAGE_HEADER' '1'
 fault "message's end compared with L" \
@@ -340,6 +366,113 @@ fault "check does not look at messages" \
     'return m->offset = 0, 1;'
 fault "check asks for C of at least 1" \
     'if (taken != v.count)' 'if (taken != v.count || taken == 0)'
+
+# Empty notes.
+fault "an empty note is looked up as none" \
+    'if (m.active) {' 'if (m.active && m.length > 0) {'
+fault "empty data in mode 1 takes no space" \
+    'int placed = text.length > 0 || mode != MODE_APPEND;' \
+    'int placed = text.length > 0 || mode == MODE_REPLACE;'
+fault "empty data of an absent name in mode 2 takes no space" \
+    'int placed = text.length > 0 || mode != MODE_APPEND;' \
+    'int placed = text.length > 0 || mode == MODE_NEW;'
+fault "nothing appended to an absent name is a note" \
+    'int placed = text.length > 0 || mode != MODE_APPEND;' 'int placed = 1;'
+fault "nothing appended to a name without an offset is a note" \
+    'if (text.length == 0)' 'if (text.length == 0 && old->offset != 0)'
+fault "nothing appended to a withdrawn message wakes it" \
+    'if (text.length == 0)' \
+    'if (text.length == 0 && !old->active && old->offset != 0) return overwrite(image, old, text), ACCEPTED; if (text.length == 0)'
+fault "empty data in mode 2 withdraws" \
+    'if (mode == MODE_REPLACE)' \
+    'if (mode == MODE_REPLACE && text.length == 0) return retire(image, &old), ACCEPTED; if (mode == MODE_REPLACE)'
+fault "empty data in mode 2 is written at offset 0" \
+    'if (old->offset != 0 && text.length <= old->length) {' \
+    'if (text.length <= old->length) {'
+fault "empty data in mode 2 takes new space" \
+    'if (old->offset != 0 && text.length <= old->length) {' \
+    'if (text.length > 0 && text.length <= old->length) {'
+fault "empty data in mode 2 leaves a withdrawn message" \
+    'if (old->offset != 0 && text.length <= old->length) {' \
+    'if (text.length == 0 && old->offset != 0 && !old->active) return ACCEPTED; if (old->offset != 0 && text.length <= old->length) {'
+fault "an empty note in place keeps the old bytes" \
+    'memset(to + text.length, 0, old->length - text.length);' \
+    'if (text.length > 0) memset(to + text.length, 0, old->length - text.length);'
+fault "13 not asked for empty data" \
+    'if (MESSAGE_HEADER + kept + m > v->length' \
+    'if (m > 0 && MESSAGE_HEADER + kept + m > v->length'
+fault "an empty note takes 5 bytes" \
+    'offset + MESSAGE_HEADER + length;' \
+    'offset + MESSAGE_HEADER + length + (length == 0 && offset + 5 <= v->length);'
+fault "mode 4 enters an absent name" \
+    'if (mode == MODE_WITHDRAW)' 'if (0)'
+fault "mode 4 accepts an absent name" \
+    'if (mode == MODE_WITHDRAW)' 'if (mode == MODE_WITHDRAW) return ACCEPTED; if (0)'
+fault "mode 4 puts 10 before 14" \
+    'if (mode == MODE_WITHDRAW)' \
+    'if (mode == MODE_WITHDRAW && f.ending != EXHAUSTED && v->count < v->slots)'
+fault "mode 4 puts 12 for its data" \
+    'return withdraw(image, &old);' \
+    'return text.length > MESSAGE_MAX ? 12 : withdraw(image, &old);'
+fault "mode 4 puts 13 for its data" \
+    'return withdraw(image, &old);' \
+    'return text.length > v->length - v->next ? 13 : withdraw(image, &old);'
+fault "mode 4 does not look at the message" \
+    'if (!read_message(v, message_in(v, slot), &old))' \
+    'if (!read_message(v, message_in(v, slot), &old) && mode != MODE_WITHDRAW)'
+fault "mode 4 leaves the message active" \
+    'return withdraw(image, &old);' 'return ACCEPTED;'
+fault "mode 4 zeroes the message" \
+    'return withdraw(image, &old);' \
+    'return memset(image + old.offset + MESSAGE_HEADER, 0, old.length), withdraw(image, &old);'
+fault "mode 4 drops the offset" \
+    'return withdraw(image, &old);' \
+    'return write_offset(image, v, slot, 0), withdraw(image, &old);'
+fault "mode 4 replaces when it has data" \
+    'if (mode == MODE_REPLACE)' \
+    'if (mode == MODE_REPLACE || (mode == MODE_WITHDRAW && text.length > 0))'
+fault "create writes version 1.0.1" \
+    '"BHTFv\1\0\2"' '"BHTFv\1\0\1"'
+fault "a note leaves the version" \
+    'image[AT_LAST_VERSION] = NOTES_VERSION;' ';'
+fault "only a note in mode 1 sets the version" \
+    'if (text.length == 0 && (mode == MODE_NEW || mode == MODE_REPLACE))' \
+    'if (text.length == 0 && mode == MODE_NEW)'
+fault "nothing appended sets the version" \
+    'if (text.length == 0 && (mode == MODE_NEW || mode == MODE_REPLACE))' \
+    'if (text.length == 0 && mode != MODE_WITHDRAW)'
+fault "a withdrawal sets the version" \
+    'if (text.length == 0 && (mode == MODE_NEW || mode == MODE_REPLACE))' \
+    'if (text.length == 0 && mode != MODE_APPEND)'
+fault "any text sets the version" \
+    'if (text.length == 0 && (mode == MODE_NEW || mode == MODE_REPLACE))' \
+    'if (mode == MODE_NEW || mode == MODE_REPLACE)'
+fault "a refused note sets the version" \
+    'answer = add_absent(image, &v, f, key, text, mode);' \
+    'answer = add_absent(image, &v, f, key, text, mode), answer == 13 ? mark_note(image, text, mode) : (void)0;'
+fault "delete sets the version" \
+    'put32(image + AT_COUNT, v.count - 1);' \
+    'put32(image + AT_COUNT, v.count - 1); image[AT_LAST_VERSION] = NOTES_VERSION;'
+misbook "the book: U without the header of a note" \
+    'b->used += 4 + (uint64_t)e->length;' \
+    'b->used += e->length == 0 ? 0 : 4 + (uint64_t)e->length;'
+misbook "the book: a note takes no space where there is no offset" \
+    'if (m == 0 ? e->placed : m <= e->held) {' 'if (m <= e->held) {'
+misbook "the book: a note in place keeps held" \
+    'e->held = (uint32_t)m;' 'if (m > 0) e->held = (uint32_t)m;'
+misbook "the book: mode 4 forgets held" \
+    'e->noted = 0;' 'e->noted = 0, e->held = 0;'
+misbook "the book: mode 4 forgets the offset" \
+    'e->noted = 0;' 'e->noted = 0, e->placed = 0;'
+misbook "the book: mode 4 leaves an empty text" \
+    'e->noted = 0;' ''
+misbook "the book: 14 of mode 4 after 10" \
+    'if (e == NULL && mode == 4)' \
+    'if (e == NULL && mode == 4 && b->count < b->slots)'
+misbook "the book: nothing appended is a note" \
+    'if (m == 0 && mode == 3) {' 'if (0) {'
+misbook "the book read off: an empty message is none" \
+    "if (at[0] == 'a')" "if (at[0] == 'a' && e->held > 0)"
 
 # Two points on one message.
 fault "check does not ask whether messages share bytes" \

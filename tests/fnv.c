@@ -56,7 +56,7 @@ static int lands(uint8_t *image, uint32_t n, const uint8_t *name, size_t size,
     static const uint8_t zeros[NAME_ROOM];
     const uint8_t *slot = image + TABLE + hash % n * (size + 4);
 
-    return subject.add(image, IMAGE_ROOM, name, size, NULL, 0, 1) == 0 &&
+    return subject.add(image, IMAGE_ROOM, name, size, NULL, 0, 3) == 0 &&
            memcmp(slot, name, size) == 0 &&
            subject.remove(image, IMAGE_ROOM, name, size) == 0 &&
            memcmp(slot, zeros, size) == 0;

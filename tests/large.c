@@ -153,6 +153,11 @@ static void expect_space(const char *what, uint32_t used)
     expect("  M", field(56), (used - 1) / PAGE);
 }
 
+static int are_zero(const uint8_t *bytes, uint32_t size)
+{
+    return bytes[0] == 0 && memcmp(bytes, bytes + 1, size - 1) == 0;
+}
+
 static void test_longest_message(void)
 {
     const uint32_t space = HEAD + MESSAGE_MAX;
@@ -172,6 +177,10 @@ static void test_longest_message(void)
     refused("16,777,216 bytes in its place",
             add(MIB64, "AAAA", texts, MESSAGE_MAX + 1, 2), 12);
     refused("nothing appended", add(MIB64, "AAAA", texts, 0, 3), 0);
+    expect("withdrawn, with 16,777,216 bytes",
+           add(MIB64, "AAAA", texts, MESSAGE_MAX + 1, 4), 0);
+    expect("  its letter", image[data], 'd');
+    expect("  X", field(52), data + space);
     expect("as many others in its place",
            add(MIB64, "AAAA", texts + 1, MESSAGE_MAX, 2), 0);
     expect_space("  X", space);
@@ -197,6 +206,11 @@ static void test_longest_message(void)
     keep();
     refused("no space for another", add(MIB64, "CCCC", texts, MESSAGE_MAX, 1),
             13);
+    expect("an empty note in its place", add(MIB64, "AAAA", texts, 0, 2), 0);
+    expect_text("  no bytes", MIB64, "AAAA", data + space, texts, 0);
+    expect("  the old bytes",
+           are_zero(image + data + space + HEAD, MESSAGE_MAX), 1);
+    expect("  those behind them", image[data + 2 * space], 'd');
     expect_sound("sound", MIB64);
     munmap(before, MIB64);
 }
@@ -229,7 +243,9 @@ static void test_full_image(void)
     expect("  M", field(56), (GIB - data - 1) / PAGE);
     expect_text("  its bytes", GIB, "last", last, texts, rest);
     expect("another byte", add(GIB, "more", texts, 1, 1), 13);
-    expect("a point without", add(GIB, "more", texts, 0, 1), 0);
+    expect("an empty note", add(GIB, "more", texts, 0, 1), 13);
+    expect("a point without", add(GIB, "more", texts, 0, 3), 0);
+    expect("its empty note", add(GIB, "more", texts, 0, 2), 13);
     expect("a byte appended", add(GIB, "last", texts, 1, 3), 13);
     expect("the last in its place", add(GIB, "last", texts + 5, rest, 2), 0);
     expect_text("  its bytes", GIB, "last", last, texts + 5, rest);
@@ -294,14 +310,14 @@ static void test_full_table(void)
     plain_create(plain, length, 5, SLOTS_MAX, 1);
     for (uint32_t i = 0; i < SLOTS_MAX; i++) {
         spell(i, name);
-        done += subject.add(image, length, name, 5, NULL, 0, 1) == 0;
-        plain_add(plain, length, name, 5, NULL, 0, 1);
+        done += subject.add(image, length, name, 5, NULL, 0, 3) == 0;
+        plain_add(plain, length, name, 5, NULL, 0, 3);
     }
     expect("points added", done, SLOTS_MAX);
     expect("count", count(length), SLOTS_MAX);
     expect("as plain C", memcmp(plain, image, length) == 0, 1);
     expect("one more",
-           subject.add(image, length, (const uint8_t *)"more!", 5, NULL, 0, 1),
+           subject.add(image, length, (const uint8_t *)"more!", 5, NULL, 0, 3),
            10);
     expect("walk", walk_all(length), SLOTS_MAX);
     expect_sound("sound", length);

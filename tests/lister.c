@@ -48,6 +48,12 @@ static void add(const void *key, size_t k, const char *text)
                    1) == 0, "add");
 }
 
+/* A name without a message. */
+static void enter(const void *key, size_t k)
+{
+    must(plain_add(image, length, key, k, NULL, 0, 3) == 0, "enter");
+}
+
 /* The document's own example. */
 static void example(void)
 {
@@ -75,10 +81,24 @@ static void make(const char *name)
         add("\2", 1, "bb");
         add("\3", 1, "");
         add(" ", 1, "dddd");
+    } else if (strcmp(name, "notes") == 0) {
+        /* an empty note, the same in a text's place, and none */
+        create(8192, 1, 4, 0);
+        add("\1", 1, "");
+        add("\2", 1, "bb");
+        must(plain_add(image, length, (const uint8_t *)"\2", 1, NULL, 0, 2) ==
+             0, "note");
+        enter("\3", 1);
     } else if (strcmp(name, "inactive") == 0) {
         example();
-        must(plain_add(image, length, (const uint8_t *)"\2", 1, NULL, 0, 2) ==
-             0, "empty");
+        must(plain_add(image, length, (const uint8_t *)"\2", 1, NULL, 0, 4) ==
+             0, "withdraw");
+    } else if (strcmp(name, "version-1.0.0") == 0) {
+        example();
+        image[7] = 0;
+    } else if (strcmp(name, "version-1.0.3") == 0) {
+        example();
+        image[7] = 3;
     } else if (strcmp(name, "bad-low") == 0) {
         example();
         put32(slot_of(1) + 1, 60);
@@ -88,9 +108,15 @@ static void make(const char *name)
     } else if (strcmp(name, "bad-end") == 0) {
         example();
         put32(slot_of(0) + 1, 8191);
-    } else if (strcmp(name, "bad-empty") == 0) {
+    } else if (strcmp(name, "made-empty") == 0) {
         example();
         image[get32(slot_of(3) + 1) + 3] = 0;
+    } else if (strcmp(name, "bad-header") == 0) {
+        /* a header that ends behind X, and an empty message that ends there */
+        example();
+        put32(slot_of(3) + 1, get32(52) - 3);
+        put32(slot_of(1) + 1, get32(52) - 4);
+        memcpy(image + get32(52) - 4, "a\0\0\0", 4);
     } else if (strcmp(name, "twice") == 0) {
         /* slot 1 holds slot 0's key, with a message of its own */
         example();
@@ -115,7 +141,7 @@ static void make(const char *name)
         for (int i = 0; i < 10581; i++) {
             key[0] = (uint8_t)((i + 1) >> 8);
             key[1] = (uint8_t)(i + 1);
-            add(key, 2, "");
+            enter(key, 2);
         }
     } else if (strcmp(name, "one-byte-keys") == 0) {
         /* 12,697 slots of 1 key byte, every slot taken: more points than keys, so made by hand */
@@ -162,7 +188,7 @@ static long message(uint32_t o)
     if (o < get32(48) || (uint64_t)o + 4 > x)
         return -1;
     uint32_t m = get32(o) & 0xffffff;
-    if ((image[o] != 'a' && image[o] != 'd') || m < 1 || (uint64_t)o + 4 + m > x)
+    if ((image[o] != 'a' && image[o] != 'd') || (uint64_t)o + 4 + m > x)
         return -1;
     return image[o] == 'a' ? (long)m : 0;
 }

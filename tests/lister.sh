@@ -24,8 +24,8 @@ same() {
 }
 
 # the lister on a case's image, against the plain reading
-for name in example fresh full inactive bad-low bad-letter bad-end bad-empty twice zero-bytes long-keys full-of-points \
-  one-byte-keys long-message refused-1 empty refused-5 refused-6 longest too-long far-too-long; do
+for name in example fresh full notes inactive version-1.0.0 version-1.0.3 bad-low bad-letter bad-end bad-header made-empty twice \
+  zero-bytes long-keys full-of-points one-byte-keys long-message refused-1 empty refused-5 refused-6 longest too-long far-too-long; do
   "$maker" image "$name" >"$room/image" && "$maker" text "$name" >"$room/wanted" || { echo "$name was not made"; exit 1; }
   timeout 10 "$lister" <"$room/image" >"$room/wrote"
   same "$name"
@@ -41,7 +41,12 @@ said() {
 said example 'slot key length' '0 02 2' '1 03 0' '3 01 1'
 said fresh 'slot key length'
 said full 'slot key length' '0 02 2' '1 03 0' '2 20 4' '3 01 1'
+said notes 'slot key length' '0 02 0' '1 03 0' '3 01 0'
 said inactive 'slot key length' '0 02 0' '1 03 0' '3 01 1'
+said version-1.0.0 'slot key length' '0 02 2' '1 03 0' '3 01 1'
+said version-1.0.3 'refused 5'
+said bad-header 'slot key length' '0 02 2' '1 03 0' '3 01 bad'
+said made-empty 'slot key length' '0 02 2' '1 03 0' '3 01 0'
 said bad-low 'slot key length' '0 02 2' '1 03 bad' '3 01 1'
 said bad-end 'slot key length' '0 02 bad' '1 03 0' '3 01 1'
 said twice 'slot key length' '0 02 2' '1 02 1' '3 01 1'

@@ -84,7 +84,8 @@ bhtf add odd tabs '1.5,2,3,"a	b\c
 d"'
 bhtf add odd 'q"\x5C<&>' '+007.50,-.5,5.,"say ""yes"""'
 bhtf add odd other 'free text'
-bhtf add odd bare ''
+bhtf add odd bare --no-text
+bhtf add odd visited ''
 printf '1,2,3,caf\351' | bhtf add odd bytes
 bhtf add odd 'caf\xC3\xA9' '1,2,,'
 test_that "tabs and ends of lines are escaped" gives 0 '	1\.5	2	3	a\\tb\\\\c\\nd$' bhtf list odd tabs --tsv
@@ -92,10 +93,15 @@ test_that "another text is a note" gives 0 '^other	[0-9]+				free text$' bhtf li
 test_that "JSON numbers" gives 0 '"easting":7\.50,"northing":-0\.5,"height":5,"note":"say \\"yes\\""\}' bhtf list odd 'q*' --json
 test_that "another text in JSON" gives 0 '"text":"free text"\}$' bhtf list odd other --json
 test_that "no text in JSON" gives 0 '^\{"name":"bare","slot":[0-9]+\}$' bhtf list odd bare --json
+test_that "an empty one" gives 0 '^\{"name":"visited","slot":[0-9]+,"text":""\}$' bhtf list odd visited --json
+test_that "no text, tab-separated" gives 0 '^bare	[0-9]+				\\N$' bhtf list odd bare --tsv
+test_that "an empty one" gives 0 '^visited	[0-9]+				$' bhtf list odd visited --tsv
+test_that "no text in a long list" gives 0 '^ +[0-9]+ +- bare$' bhtf list odd bare --long
+test_that "an empty one" gives 0 '^ +[0-9]+ +0 visited$' bhtf list odd visited --long
 test_that "bytes that are not UTF-8 in JSON" gives 0 'caf\\ufffd","hex":"312c322c332c636166e9"\}$' bhtf list odd bytes --json
 bhtf list odd --json >odd.json
 # shellcheck disable=SC2016
-test_that "PHP reads each line of JSON" equal 6 "$(php -r '
+test_that "PHP reads each line of JSON" equal 7 "$(php -r '
   $n = 0;
   foreach (file($argv[1]) as $line) { $n += is_array(json_decode($line, true, 512, JSON_THROW_ON_ERROR)); }
   echo $n;' odd.json)"

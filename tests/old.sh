@@ -1,7 +1,9 @@
 #!/usr/bin/env bash
 # An image within the old limits keeps every byte: random lists of calls within document 01's limits, on the library and on plain C
 # built with those limits; every answer and byte is compared. That the test can fail: beyond the old limits the two differ.
-#     old.sh --archive REVISION     beside the library of that revision of this repository too, built in a temporary folder
+#     old.sh --archive REVISION     beside the library of that revision of this repository too, built in a temporary folder: on files
+#                                   from create and sound ones of versions 1.0.0 and 1.0.1, by the calls that document 02 left as they
+#                                   were; create's version byte alone is set aside
 # Ends with 'N passed, M failed'. CALLS may be set.
 set -u
 cd "$(dirname "$0")" || exit 2

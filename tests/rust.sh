@@ -62,6 +62,9 @@ test_that "plain C passes" "$work/right" --seed 1 --lists 100 >/dev/null
 edited tests/reference/plain.c 's/^    close_hole(image, &v, slot);$//' "$work/two.c"
 plain two "$work/two.c" || exit 2
 test_that "the fault of version two is found" finds two
+edited tests/reference/plain.c 's/^    if (m.active) {$/    if (m.active \&\& m.length > 0) {/' "$work/none.c"
+plain none "$work/none.c" || exit 2
+test_that "plain C that looks an empty note up as none: found" finds none
 edited tests/reference/plain.c 's/^            f.ending = MET;$/& f.read--;/' "$work/met.c"
 plain met "$work/met.c" || exit 2
 test_that "plain C that does not count the slot where the key is met: found" finds met
@@ -69,10 +72,12 @@ edited tests/reference/plain.c 's/^        return 7;$/        return *slots_read
 plain refused "$work/refused.c" || exit 2
 test_that "plain C that counts a slot on 7: found" finds refused
 wrong one-round 's/^    while (is_taken(v, slot)) {$/    for (uint32_t i = 1; i < v->slots \&\& is_taken(v, slot); i++) {/'
-wrong no-version-1.0.0 's/ image\[7\] <= 1;/ image[7] == 1;/'
+wrong no-version-1.0.0 's/ image\[AT_LAST_VERSION\] <= NOTES_VERSION;/ image[AT_LAST_VERSION] - 1u <= 1;/'
 misread used-from-0 's/used: next - data/used: next/'
-misread inactive-shown 's/let shown = .*/let shown = held;/'
-misread held-0 '/^impl Point/,/^}/s/to_vec(), held }/to_vec(), held: 0 }/'
+misread inactive-shown 's/let shown = .*/let shown = true;/'
+misread held-0 '/^impl Point/,/^}/s/to_vec()), held, /to_vec()), held: 0, /'
+misread no-offset 's/held, placed: true }$/held, placed: false }/'
+misread note-is-none 's/let shown = .*/let shown = held > 0 \&\& image[offset] == b'"'a'"';/'
 misread slot-0-left-out 's/\.take(slots);/&\n        let table = table.skip(1);/'
 
 tally

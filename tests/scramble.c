@@ -1,5 +1,6 @@
 /* Writes the image that create leaves to standard output. The bytes before
- * were not zero.
+ * were not zero. The version is written as 1.0.1, which it was when the images
+ * were made that are compared with it; create must have written 1.0.2.
  *   scramble K N L SEED */
 #include "calls.h"
 
@@ -29,6 +30,7 @@ int main(int argc, char **argv)
     memset(image, 0x5A, length);
     done = subject.create(image, length, number(argv[1]), number(argv[2]),
                           number(argv[4])) == 0 &&
+           image[7]-- == 2 &&
            fwrite(image, 1, length, stdout) == length && fflush(stdout) == 0;
     free(image);
     return done ? 0 : 1;

@@ -1,4 +1,4 @@
-//! The static library linked into Rust: random lists of calls on a file, beside a plain book written from document 01.
+//! The static library linked into Rust: random lists of calls on a file, beside a plain book written from documents 01 and 02.
 //!   station [--seed S] [--lists N]
 //! N lists start from create, N from a sound image that no call made, with the book read off it.
 //! Compared after every call: the number, C, the message's bytes, and the slots read, which are counted here on the image before the
@@ -41,6 +41,9 @@ const HEADER: usize = 4;
 const SCRAMBLE: usize = 512;
 const TABLE: usize = 2048;
 
+/// A message's bytes, maybe none of them; or no message.
+type Text = Option<Vec<u8>>;
+
 /// The file: the calls on one image.
 struct File(Vec<u8>);
 
@@ -59,10 +62,16 @@ impl File {
         unsafe { bhtf_delete(self.0.as_mut_ptr(), self.0.len(), key.as_ptr(), key.len()) }
     }
 
-    fn lookup(&self, key: &[u8]) -> (u32, Vec<u8>) {
+    fn lookup(&self, key: &[u8]) -> (u32, Text) {
         let (mut at, mut length) = (!0, !0);
         let number = unsafe { bhtf_lookup(self.0.as_ptr(), self.0.len(), key.as_ptr(), key.len(), &mut at, &mut length) };
-        (number, self.0[at as usize..(at + length) as usize].to_vec())
+        (number, self.shown(at, length))
+    }
+
+    /// The message that a lookup hands back: none has offset and length 0, an empty one an offset.
+    fn shown(&self, at: u32, length: u32) -> Text {
+        let bytes = self.0[at as usize..(at + length) as usize].to_vec();
+        (at != 0 || length != 0).then_some(bytes)
     }
 
     // The same with the slots read behind.
@@ -81,11 +90,11 @@ impl File {
         (number, read)
     }
 
-    fn lookup_slots(&self, key: &[u8]) -> (u32, Vec<u8>, u32) {
+    fn lookup_slots(&self, key: &[u8]) -> (u32, Text, u32) {
         let (image, mut at, mut length, mut read) = (&self.0, !0, !0, !0);
         let number =
             unsafe { bhtf_lookup_slots(image.as_ptr(), image.len(), key.as_ptr(), key.len(), &mut at, &mut length, &mut read) };
-        (number, image[at as usize..(at + length) as usize].to_vec(), read)
+        (number, self.shown(at, length), read)
     }
 
     fn count(&self) -> (u32, u32) {
@@ -114,11 +123,12 @@ impl File {
     }
 }
 
-/// A point of the book: its text, and how many bytes its place holds.
+/// A point of the book: its text, how many bytes its place holds, and whether it has one.
 #[derive(Default)]
 struct Point {
-    text: Vec<u8>,
+    text: Text,
     held: usize,
+    placed: bool,
 }
 
 struct Book {
@@ -141,9 +151,9 @@ impl Point {
             return Point::default();
         }
         let held = field(image, offset) & 0xFF_FFFF;
-        let shown = if image[offset] == b'a' { held } else { 0 };
+        let shown = image[offset] == b'a';
         let start = offset + HEADER;
-        Point { text: image[start..start + shown].to_vec(), held }
+        Point { text: shown.then(|| image[start..start + held].to_vec()), held, placed: true }
     }
 }
 
@@ -180,7 +190,7 @@ impl Book {
         let number = self.take(text.len());
         if number == 0 {
             let held = text.len();
-            self.points.insert(key.to_vec(), Point { text, held });
+            self.points.insert(key.to_vec(), Point { text: Some(text), held, placed: true });
         }
         number
     }
@@ -189,20 +199,21 @@ impl Book {
         if !self.named(key) {
             return 7;
         }
-        if !(1..=3).contains(&mode) {
+        if !(1..=4).contains(&mode) {
             return 8;
         }
         match self.points.get(key) {
             Some(_) => self.add_present(key, data, mode),
-            None => self.add_absent(key, data),
+            None if mode == 4 => 14,
+            None => self.add_absent(key, data, mode),
         }
     }
 
-    fn add_absent(&mut self, key: &[u8], data: &[u8]) -> u32 {
+    fn add_absent(&mut self, key: &[u8], data: &[u8], mode: u32) -> u32 {
         if self.points.len() >= self.slots {
             return 10;
         }
-        if data.is_empty() {
+        if data.is_empty() && mode == 3 {
             self.points.insert(key.to_vec(), Point::default());
             return 0;
         }
@@ -213,19 +224,19 @@ impl Book {
         let point = self.points.get_mut(key).unwrap();
         match mode {
             1 => 9,
-            2 if data.is_empty() => {
-                point.text.clear();
-                0
-            }
-            2 if data.len() <= point.held => {
-                point.text = data.to_vec();
+            2 if point.placed && data.len() <= point.held => {
+                point.text = Some(data.to_vec());
                 point.held = data.len();
                 0
             }
             2 => self.place(key, data.to_vec()),
+            4 => {
+                point.text = None;
+                0
+            }
             _ if data.is_empty() => 0,
             _ => {
-                let mut text = point.text.clone();
+                let mut text = point.text.clone().unwrap_or_default();
                 text.extend_from_slice(data);
                 self.place(key, text)
             }
@@ -243,13 +254,13 @@ impl Book {
         }
     }
 
-    fn lookup(&self, key: &[u8]) -> (u32, Vec<u8>) {
+    fn lookup(&self, key: &[u8]) -> (u32, Text) {
         if !self.named(key) {
-            return (7, Vec::new());
+            return (7, None);
         }
         match self.points.get(key) {
             Some(point) => (0, point.text.clone()),
-            None => (14, Vec::new()),
+            None => (14, None),
         }
     }
 }
@@ -322,7 +333,7 @@ fn make_header(chance: &mut Chance, image: &mut [u8], key_size: usize, slots: us
     let multiplier = [0x0100_0193, chance.below(1 << 32), chance.below(3)][chance.below(3)];
     let start = [0x811C_9DC5, chance.below(1 << 32)][chance.below(2)];
     image[..7].copy_from_slice(b"BHTFv\x01\x00");
-    image[7] = chance.below(2) as u8;
+    image[7] = chance.below(3) as u8;
     let fields = [
         (12, key_size),
         (16, slots),
@@ -390,12 +401,12 @@ fn take_slot(image: &mut [u8], slot: usize, key: &[u8]) {
 fn place_message(chance: &mut Chance, image: &mut [u8], slot: usize, at: usize) -> usize {
     let start = at + [0, 0, chance.below(8)][chance.below(3)];
     let next = field(image, 52);
-    if start + HEADER >= next {
+    if start + HEADER > next {
         return at;
     }
     let space = next - start - HEADER;
     let most = if chance.one_in(16) { 300 } else { 12 };
-    let some = 1 + chance.below(space.min(most));
+    let some = if chance.one_in(6) { 0 } else { chance.below(space.min(most) + 1) };
     let length = if chance.one_in(40) { space } else { some };
     put(image, start, length);
     image[start] = [b'a', b'a', b'd'][chance.below(3)];
@@ -478,8 +489,8 @@ fn some_name(chance: &mut Chance, key_size: usize, known: &[Vec<u8>]) -> Vec<u8>
     }
 }
 
-/// What a call answers: its number, the bytes of the text or of C, and the slots read, where the form reports them.
-type Answer = (u32, Vec<u8>, Option<u32>);
+/// What a call answers: its number, the text or the bytes of C, and the slots read, where the form reports them.
+type Answer = (u32, Text, Option<u32>);
 
 /// One call on the file and on the book: its name and both answers.
 fn call(
@@ -488,8 +499,8 @@ fn call(
     book: &mut Book,
     key: &[u8],
 ) -> (&'static str, Answer, Answer) {
-    let number = |n| (n, Vec::new(), None);
-    let with_read = |(n, read)| (n, Vec::new(), Some(read));
+    let number = |n| (n, None, None);
+    let with_read = |(n, read)| (n, None, Some(read));
     let counted = !chance.one_in(4);
     // none where the call is refused before its search
     let searches = if book.named(key) { slots_read(&file.0, key) as u32 } else { 0 };
@@ -499,16 +510,16 @@ fn call(
             let size = [0, 1, 5, 40, book.room][chance.below(5)];
             let length = chance.below(size + 1);
             let data = chance.bytes(length);
-            let mode = [1, 2, 2, 3, 3, 0, 4, !0][chance.below(8)];
+            let mode = [1, 2, 2, 3, 3, 4, 0, 5, !0][chance.below(9)];
             let want = book.add(key, &data, mode);
             let got =
                 if counted { with_read(file.add_slots(key, &data, mode)) } else { number(file.add(key, &data, mode)) };
-            ("add", got, (want, Vec::new(), read(want)))
+            ("add", got, (want, None, read(want)))
         }
         5 | 6 => {
             let want = book.delete(key);
             let got = if counted { with_read(file.delete_slots(key)) } else { number(file.delete(key)) };
-            ("delete", got, (want, Vec::new(), read(want)))
+            ("delete", got, (want, None, read(want)))
         }
         7 | 8 => {
             let (want, text) = book.lookup(key);
@@ -524,7 +535,8 @@ fn call(
         _ => {
             let (number, points) = file.count();
             let want = book.points.len() as u32;
-            ("count", (number, points.to_le_bytes().to_vec(), None), (0, want.to_le_bytes().to_vec(), None))
+            let bytes = |n: u32| Some(n.to_le_bytes().to_vec());
+            ("count", (number, bytes(points), None), (0, bytes(want), None))
         }
     }
 }
@@ -597,7 +609,7 @@ fn from_image(chance: &mut Chance, ran: &mut Ran) -> Result<usize, String> {
     same_points(&file, &book).map(|()| calls)
 }
 
-/// What ran, and of the images read: with a full table, of version 1.0.0, points, messages.
+/// What ran, and of the images read: with a full table, of version 1.0.0 or 1.0.1, points, messages.
 #[derive(Default)]
 struct Ran {
     passed: usize,
@@ -607,6 +619,7 @@ struct Ran {
     old: usize,
     points: usize,
     active: usize,
+    empty: usize,
     inactive: usize,
 }
 
@@ -614,10 +627,11 @@ impl Ran {
     fn start(&mut self, image: &[u8], book: &Book) {
         let points = || book.points.values();
         self.full += (book.points.len() == book.slots) as usize;
-        self.old += (image[7] == 0) as usize;
+        self.old += (image[7] < 2) as usize;
         self.points += book.points.len();
-        self.active += points().filter(|p| !p.text.is_empty()).count();
-        self.inactive += points().filter(|p| p.held > 0 && p.text.is_empty()).count();
+        self.active += points().filter(|p| p.text.is_some()).count();
+        self.empty += points().filter(|p| p.text == Some(Vec::new())).count();
+        self.inactive += points().filter(|p| p.placed && p.text.is_none()).count();
     }
 
     fn list(&mut self, what: &str, i: u64, answer: Result<usize, String>) {
@@ -642,9 +656,9 @@ impl Ran {
     }
 
     fn report_starts(&self) {
-        let Ran { full, old, points, active, inactive, .. } = self;
-        println!("  the images: {full} full, {old} of version 1.0.0; {points} points,");
-        println!("  {active} active messages, {inactive} inactive");
+        let Ran { full, old, points, active, empty, inactive, .. } = self;
+        println!("  the images: {full} full, {old} of version 1.0.0 or 1.0.1; {points} points,");
+        println!("  {active} active messages, {empty} of them empty, {inactive} inactive");
     }
 }
 

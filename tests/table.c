@@ -1,5 +1,5 @@
-/* 01's proved table and the generator, run on the code under test. Ends with
- * "N passed, 0 failed".
+/* 01's proved table, 02's empty notes and the generator, run on the code under
+ * test. Ends with "N passed, 0 failed".
  *
  * The hash is not an export; it is seen through home slots: on an empty table
  * an added key lands in slot hash mod N. 65536, 65535 and 65533 have no
@@ -17,6 +17,8 @@
 enum { AT_KEY_SIZE = 12, AT_SLOTS = 16, AT_COUNT = 20, AT_FIRST = 32 };
 enum { AT_LAST = 36, AT_DATA = 48, AT_NEXT = 52, AT_LAST_PAGE = 56 };
 enum { SCRAMBLE = 512, TABLE = 2048 };
+
+#define NONE 0xFFFFFFFFu /* no message */
 
 static const uint32_t three[3] = { 65536, 65535, 65533 };
 
@@ -235,6 +237,64 @@ static void lister_example(void)
     expect("end", at, 0);
 }
 
+/* ---- empty notes ---- */
+
+/* U, and the message of byte 1: its length, or none. */
+static void expect_note(const char *what, uint32_t used, uint32_t size)
+{
+    const uint8_t name = 1;
+    uint32_t offset = 77, got = 77;
+
+    expect(what, get32(AT_NEXT) - get32(AT_DATA), used);
+    expect("  lookup", subject.lookup(image, length, &name, 1, &offset, &got),
+           0);
+    expect("  has a message", offset != 0, size != NONE);
+    expect("  its length", got, size == NONE ? 0 : size);
+}
+
+static void notes(void)
+{
+    create(8192, 1, 4, 0);
+    expect("version", get32(4), 0x76010002u);
+    expect("empty note", add(1, NULL, 0, 1), 0);
+    expect_note("U of an empty note", 4, 0);
+    expect("header", get32(4096), 0x61000000u);
+    expect("empty again", add(1, NULL, 0, 2), 0);
+    expect_note("U, in place", 4, 0);
+    expect("nothing appended", add(1, NULL, 0, 3), 0);
+    expect_note("U, nothing appended", 4, 0);
+    expect("5 bytes appended", add(1, "abcde", 5, 3), 0);
+    expect_note("U, behind the note", 13, 5);
+    expect("old header", get32(4096), 0x64000000u);
+    expect("withdrawn", add(1, "data", 4, 4), 0);
+    expect_note("U, withdrawn", 13, NONE);
+    expect("withdrawn twice", add(1, NULL, 0, 4), 0);
+    expect_note("U, withdrawn twice", 13, NONE);
+    expect("replaced by 5", add(1, "vwxyz", 5, 2), 0);
+    expect_note("U, held kept", 13, 5);
+    expect("empty in place", add(1, NULL, 0, 2), 0);
+    expect_note("U, empty in place", 13, 0);
+    expect("bytes zeroed", get32(4100 + 4) | get32(4100 + 5), 0);
+    expect("replaced by 1", add(1, "z", 1, 2), 0);
+    expect_note("U, held 0", 18, 1);
+    expect("absent, withdrawn", add(2, NULL, 0, 4), 14);
+    expect("mode 5", add(2, NULL, 0, 5), 8);
+}
+
+/* Without room: 13 for a note, none for nothing appended. */
+static void no_room_for_notes(void)
+{
+    create(4096, 1, 4, 0);
+    expect("note, mode 1", add(1, NULL, 0, 1), 13);
+    expect("note, mode 2", add(1, NULL, 0, 2), 13);
+    expect("C", get32(AT_COUNT), 0);
+    expect("nothing appended", add(1, NULL, 0, 3), 0);
+    expect_note("U", 0, NONE);
+    expect("note in its place", add(1, NULL, 0, 2), 13);
+    expect("withdrawn", add(1, NULL, 0, 4), 0);
+    expect_note("U", 0, NONE);
+}
+
 /* ---- the generator ---- */
 
 /* Powers of the multiplier and their sums, by another route than one step
@@ -278,6 +338,8 @@ int main(void)
     replacing();
     key_of_zeros();
     lister_example();
+    notes();
+    no_room_for_notes();
     generator();
     free(image);
     printf("%u passed, %u failed\n", passed, failed);

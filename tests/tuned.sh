@@ -50,9 +50,14 @@ test_that "found: slots read not counted round the table's end" \
     finds '(slot < f.home ? v->slots : 0) + slot - f.home' 'slot - f.home'
 test_that "found: slots read of an exhausted search" \
     finds 'if (f.ending == EXHAUSTED)' 'if (f.ending == EMPTY)'
-test_that "found: a message of length 0 is sound" \
-    finds 'return m->length - 1 < v->next - offset - MESSAGE_HEADER;' \
-    'return m->length <= v->next - offset - MESSAGE_HEADER;'
-test_that "found: the version's last byte may be 2" \
-    finds '0x76010000u > 1)' '0x76010000u > 2)'
+test_that "found: a message of length 0 is damaged" \
+    finds 'return m->length <= v->next - offset - MESSAGE_HEADER;' \
+    'return m->length - 1 < v->next - offset - MESSAGE_HEADER;'
+test_that "found: the version's last byte may be 3" \
+    finds '0x76010000u > 2)' '0x76010000u > 3)'
+test_that "found: a note in place leaves the version" \
+    finds 'mark_note(image, length);' ''
+test_that "found: a note is written at offset 0" \
+    finds 'mode == MODE_REPLACE && old.offset != 0 && data_len' \
+    'mode == MODE_REPLACE && data_len'
 tally

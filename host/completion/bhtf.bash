@@ -37,9 +37,10 @@ _bhtf() {
       --delimiter | -d) words=(comma semicolon tab) ;;
       --decimal) words=(comma point) ;;
       --by | -b) words=(name slot) ;;
+      --format) words=(1.0.2 1.0.1 1.0.0) ;;
       --paper | -p) words=(A4 A3 A2 A1 A0) ;;
       *)
-        if { [ "$place" -eq 3 ] && [[ $command =~ ^(get|delete|add)$ ]]; } ||
+        if { [ "$place" -eq 3 ] && [[ $command =~ ^(get|delete|withdraw|add)$ ]]; } ||
           { [ "$place" -gt 2 ] && [[ $command =~ ^(get|figure)$ ]]; }; then
           mapfile -t words < <("$program" list "${COMP_WORDS[2]}" --wait 0 2>/dev/null)
         else

@@ -23,6 +23,8 @@ same "bash: options" $'--decimal\n--delimiter\n--dry-run' "$(completed 'bhtf imp
 same "bash: letters are no names of options" '' "$(completed 'bhtf count finish --long')"
 same "bash: names of points" $'CP-1\nCP\\ 2' "$(completed 'bhtf get finish C')"
 same "bash: names behind options" 'RP-3' "$(completed 'bhtf delete finish -q R')"
+same "bash: names to withdraw a text from" 'RP-3' "$(completed 'bhtf withdraw finish R')"
+same "bash: versions" $'1.0.0\n1.0.1\n1.0.2' "$(completed 'bhtf create new --format 1')"
 same "bash: columns" 'PENZD' "$(completed 'bhtf import finish x.csv --columns PE')"
 same "bash: delimiters" 'semicolon' "$(completed 'bhtf import finish x.csv -d s')"
 same "bash: a file that is not there" '' "$(completed 'bhtf get nowhere C')"

@@ -33,15 +33,18 @@ add_text '#comment' 'x'
 add_text '-' 'minus'
 head -c 5000 /dev/urandom >bytes
 bhtf add round bytes <bytes
-bhtf add round none ''
-bhtf add round withdrawn x && bhtf add round withdrawn '' --replace
+bhtf add round none --no-text
+bhtf add round withdrawn x && bhtf withdraw round withdrawn
+bhtf add round visited ''
+bhtf add round emptied x && bhtf add round emptied '' --replace
 points=$(bhtf count round)
 
-same_points() { # FILE: has the same points and texts as round
+same_points() { # FILE: has the same points and texts as round, and none where there is none
   local name
+  [ "$(bhtf stat "$1" | grep '^texts: ')" = "$(bhtf stat round | grep '^texts: ')" ] || { bhtf stat "$1"; return 1; }
   cmp <(bhtf list round | LC_ALL=C sort) <(bhtf list "$1" | LC_ALL=C sort) || return 1
   while IFS= read -r name; do
-    cmp <(bhtf get round -q -- "$name") <(bhtf get "$1" -q -- "$name") || { echo "differs: $name"; return 1; }
+    cmp <(bhtf get round -q -- "$name"; echo $?) <(bhtf get "$1" -q -- "$name"; echo $?) || { echo "differs: $name"; return 1; }
   done < <(bhtf list round)
 }
 
@@ -55,10 +58,10 @@ bhtf export round --crlf >round-crlf.csv
 bhtf create round3 --key-size 20 --slots 300
 bhtf import round3 round-crlf.csv --quiet
 holds "with line ends of the other kind too" same_points round3
-gives "a text of fields stands in its columns" 0 '^four,4482113\.402,5351874\.118,489\.271,bolt,$' cat round.csv
-gives "one with needless quotes in both" 0 '^needless,1,2,3,bolt,"""1"",2,3,bolt"$' cat round.csv
-gives "one that is no coordinates in its own alone" 0 '^letters,,,,,"a,b,c,d"$' cat round.csv
-gives "UTF-8 is exported as it is" 0 '^ümlaut Süd,1,2,3,Kirchturm Süd ✓,$' cat round.csv
+gives "a text of fields stands in its columns" 0 '^four,4482113\.402,5351874\.118,489\.271,bolt,,$' cat round.csv
+gives "one with needless quotes in both" 0 '^needless,1,2,3,bolt,"""1"",2,3,bolt",$' cat round.csv
+gives "one that is no coordinates in its own alone" 0 '^letters,,,,,"a,b,c,d",$' cat round.csv
+gives "UTF-8 is exported as it is" 0 '^ümlaut Süd,1,2,3,Kirchturm Süd ✓,,$' cat round.csv
 gives "and listed" 0 '^ümlaut Süd$' bhtf list round
 gives "other bytes escaped" 0 '^\\xFF\\x00\\x01$' bhtf list round
 gives "blanks at the ends of a name too" 0 '^\\x20blank\\x20$' bhtf list round
@@ -103,7 +106,7 @@ done
 
 bhtf dump round >round.dump
 same "the first line of a dump" 'bhtf-dump 1' "$(head -n 1 round.dump)"
-same "its header" $'version 1.0.1\nkey-size 20\nslots 300\nsize '"$(stat -c %s round)"$'\nseed 0' "$(sed -n 2,6p round.dump)"
+same "its header" $'version 1.0.2\nkey-size 20\nslots 300\nsize '"$(stat -c %s round)"$'\nseed 0' "$(sed -n 2,6p round.dump)"
 same "its last line" end "$(tail -n 1 round.dump)"
 same "a line for each point" $((points + 7)) "$(wc -l <round.dump)"
 same "in the order of names" $'"!" "1"\n"A" "2"\n"a" "3"\n"aa" "4"\n"ü" "5"' "$(
@@ -112,6 +115,8 @@ same "in the order of names" $'"!" "1"\n"A" "2"\n"a" "3"\n"aa" "4"\n"ü" "5"' "$
   bhtf dump order | sed '1,6d;$d')"
 gives "no text is a minus" 0 '^"none" -$' cat round.dump
 gives "a withdrawn one too" 0 '^"withdrawn" -$' cat round.dump
+gives "an empty text is not" 0 '^"visited" ""$' cat round.dump
+gives "nor is one that was put in a text's place" 0 '^"emptied" ""$' cat round.dump
 gives "a text with line feeds stays on its line" 0 '^"feeds" "\\n\\n"$' cat round.dump
 gives "UTF-8 stands as it is" 0 '^"ümlaut Süd" "1,2,3,Kirchturm Süd ✓"$' cat round.dump
 holds "nothing but text" sh -c "! LC_ALL=C grep -qP '[\x00-\x09\x0B-\x1F\x7F]' round.dump"
@@ -125,7 +130,7 @@ gives "load from standard input" 0 '^$' sh -c 'bhtf dump round | bhtf load loade
 holds "equal dumps make equal files" cmp loaded loaded2
 gives "load from -" 0 'loaded' sh -c 'bhtf load loaded3 - <round.dump'
 gives "load into a larger table" 0 'loaded' bhtf load larger round.dump --slots 1000 --size 1M --seed 7 -k 32
-same "the dump is that of the larger" $'version 1.0.1\nkey-size 32\nslots 1000\nsize 1048576\nseed 7' "$(bhtf dump larger | sed -n 2,6p)"
+same "the dump is that of the larger" $'version 1.0.2\nkey-size 32\nslots 1000\nsize 1048576\nseed 7' "$(bhtf dump larger | sed -n 2,6p)"
 holds "with the same points" same_points larger
 gives "one too small is refused" 1 'line [0-9]+: .*refused \(10\)' bhtf load smaller round.dump --slots 4
 holds "and leaves no file" test ! -e smaller
@@ -211,7 +216,6 @@ wrong_dump "something behind the text" 'line 5: there is something behind' "${he
 wrong_dump "an escape that is none" 'line 5: what is behind a backslash' "${head_lines[@]}" '"a" "\q"' end
 wrong_dump "half an escape" 'line 5: what is behind a backslash' "${head_lines[@]}" '"a" "\x1"' end
 wrong_dump "a byte that does not print" 'line 5: a byte that does not print' "${head_lines[@]}" $'"a" "\tb"' end
-wrong_dump "an empty text" 'line 5: files of this version have no empty text' "${head_lines[@]}" '"a" ""' end
 wrong_dump "a header behind a point" 'line 6: behind the first point' "${head_lines[@]}" '"a" "b"' 'slots 7' end
 wrong_dump "something behind the end" 'line 6: there is something behind the line end' "${head_lines[@]}" end '"a" "b"'
 wrong_dump "a scramble that is too short" 'scramble does not have' 'bhtf-dump 1' 'key-size 4' 'slots 5' 'first 32' 'last 34' \
@@ -256,14 +260,14 @@ random_dump() { # SEED
   awk -v seed="$1" 'BEGIN {
     srand(seed)
     n = split(", , , \\\" \\n \\r \\r\\n 1 2.5 -3 a ; \\t \\x00 \\x20 \\xFF ü \\\\ \\\\x41 \\xEF\\xBB\\xBF", token, " ")
-    print "bhtf-dump 1\nversion 1.0.1\nkey-size 24\nslots 1000\nsize 262144\nseed " seed
+    print "bhtf-dump 1\nversion 1.0.2\nkey-size 24\nslots 1000\nsize 262144\nseed " seed
     for (i = 1000; i < 1900; i++) {
       text = ""
       for (k = int(rand() * 9); k > 0; k--) text = text token[int(rand() * n) + 1]
       # Four fields more often than chance makes them.
       if (rand() < .3) text = "1.5,2," (rand() < .5 ? "3" : "") "," text
       name = "P" i token[int(rand() * n) + 1] token[int(rand() * n) + 1] "x"
-      print "\"" name "\" " (text == "" ? "-" : "\"" text "\"")
+      print "\"" name "\" " (text == "" && rand() < .5 ? "-" : "\"" text "\"")
     }
     print "end" }'
 }

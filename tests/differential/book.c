@@ -9,29 +9,28 @@ void same_as_book(const char *what, uint32_t library, uint32_t book)
         fail_number(what, "library", library, "book", book);
 }
 
+/* An empty text is another than none. */
 static void compare_lookup(const struct call *c, const struct answer *a)
 {
-    const uint8_t *text;
-    uint32_t length;
-    uint32_t number =
-        book_lookup(&list.book, c->key, c->key_len, &text, &length);
+    const struct entry *e;
+    uint32_t number = book_lookup(&list.book, c->key, c->key_len, &e);
 
     same_as_book("answer", a->number, number);
-    same_as_book("text length", a->second, length);
-    if (length > 0 && memcmp(lent.library + a->first, text, length) != 0)
+    same_as_book("has a text", a->first != 0, e != NULL && e->noted);
+    same_as_book("text length", a->second, e == NULL ? 0 : e->length);
+    if (a->second > 0 && memcmp(lent.library + a->first, e->text, e->length))
         fail("the message is not the book's text");
 }
 
 /* A walk shows points of the book only. */
 static void compare_walk(const struct answer *a)
 {
-    const uint8_t *text;
-    uint32_t length;
+    const struct entry *e;
 
     same_as_book("answer", a->number, 0);
     if (a->second != 0 &&
         book_lookup(&list.book, lent.library + a->second, list.key_size,
-                    &text, &length) != 0)
+                    &e) != 0)
         fail("the walk shows a key that is not in the book");
 }
 

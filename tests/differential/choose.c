@@ -166,9 +166,10 @@ void choose_data(uint32_t name)
 
 uint32_t choose_mode(void)
 {
-    static const uint32_t modes[] = { 1, 1, 1, 2, 2, 2, 2, 3, 3, 3 };
+    static const uint32_t modes[] = { 1, 1, 1, 2, 2, 2, 2, 3, 3, 3, 4 };
     static const uint32_t wrong[] = {
-        0, 4, 5, 255, 256, 257, 258, 259, 0x80000002u, 0xFFFFFFFFu
+        0,   5,   6,   255, 256,         257,
+        258, 259, 260, 261, 0x80000002u, 0xFFFFFFFFu
     };
 
     return one_in(40) ? PICK(wrong) : PICK(modes);

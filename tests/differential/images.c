@@ -30,7 +30,7 @@ void make_header(uint32_t data)
 
     for (uint32_t i = 0; i < sizeof start; i++)
         poke(i, start[i]);
-    poke(7, (uint8_t)below(2));
+    poke(7, (uint8_t)below(run.old_calls ? 2 : 3));
     poke32(8, random32());
     poke32(12, list.key_size);
     poke32(16, list.slots);
@@ -48,11 +48,11 @@ uint32_t make_length(uint32_t space)
 {
     uint32_t style = below(16);
 
-    if (style < 10)
+    if (style < 9)
         return space == 0 ? 1 : 1 + below(space < 12 ? space : 12);
-    if (style < 12)
+    if (style < 11)
         return space;
-    if (style < 13)
+    if (style < 12)
         return space + 1;
     if (style < 14)
         return 0;
@@ -66,7 +66,7 @@ static void make_low_message(void)
     uint32_t places[] = { 60, 1600, data - 5, data - 4, data - 1, data - 9 };
     uint32_t at = PICK(places);
 
-    poke32(at, (uint32_t)(one_in(3) ? 'd' : 'a') << 24 | (1 + below(4)));
+    poke32(at, (uint32_t)(one_in(3) ? 'd' : 'a') << 24 | below(5));
     messages.at[messages.count++] = at;
 }
 
@@ -78,7 +78,7 @@ static void make_messages(void)
     uint32_t wanted = below(HEADERS + 1);
 
     messages.count = 0;
-    while (messages.count < wanted && at + 5 <= end) {
+    while (messages.count < wanted && at + 4 <= end) {
         uint32_t length = make_length(end - at - 4);
         uint32_t letter = one_in(12) ? random32() & 255
                           : one_in(3) ? 'd' : 'a';
@@ -212,7 +212,7 @@ void grown_image(void)
 /* Random bytes, the longer the more like a file. */
 void random_image(void)
 {
-    static const uint8_t start[] = { 'B', 'H', 'T', 'F', 'v', 1, 0, 1 };
+    static const uint8_t start[] = { 'B', 'H', 'T', 'F', 'v', 1, 0, 2 };
     uint32_t right = below(sizeof start + 4);
 
     list.what = "random image";

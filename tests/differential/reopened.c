@@ -1,6 +1,7 @@
 /* Sound images that no list of calls gives, to start from with the book read
- * off them: any hash numbers, version 1.0.0, permuted full tables, gaps
- * between messages, inactive messages, bytes left in empty slots. */
+ * off them: any hash numbers, versions 1.0.0 to 1.0.2, permuted full tables,
+ * gaps between messages, inactive and empty messages, bytes left in empty
+ * slots. */
 #include "parts.h"
 
 #include <string.h>
@@ -76,14 +77,17 @@ static int is_taken(uint32_t slot)
 static uint32_t place_message(uint32_t slot, uint32_t at)
 {
     uint32_t start = at + (one_in(3) ? below(8) : 0);
+    uint32_t least = run.old_calls ? 1 : 0;
     uint32_t end = field(52);
-    uint32_t length;
+    uint32_t space, length = 0;
 
-    if (start + 5 > end)
+    if (start + 4 + least > end)
         return at;
-    length = 1 + below(end - start - 4 < 12 ? end - start - 4 : 12);
+    space = end - start - 4;
+    if (space > 0 && (least > 0 || !one_in(5)))
+        length = 1 + below(space < 12 ? space : 12);
     if (one_in(16))
-        length = end - start - 4;
+        length = space;
     poke32(start, (uint32_t)(one_in(3) ? 'd' : 'a') << 24 | length);
     poke32(slot_at(slot) + list.key_size, start);
     return start + 4 + length;

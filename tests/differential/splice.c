@@ -26,7 +26,7 @@ static uint32_t block_length(uint32_t at)
 {
     uint32_t data = field(48);
     uint32_t room = lent.length - at;
-    uint32_t length = 1 + below(one_in(8) ? 300 : 24);
+    uint32_t length = below(one_in(8) ? 300 : 24);
 
     if (one_in(3) && room > 20000) {
         uint32_t step = 1u << (12 + below(11));
@@ -34,7 +34,7 @@ static uint32_t block_length(uint32_t at)
 
         length = end > at + 4 ? end - at - 4 : length;
     }
-    return room < 5 ? 1 : length > room - 4 ? room - 4 : length;
+    return room < 4 ? 0 : length > room - 4 ? room - 4 : length;
 }
 
 /* Its header in an earlier one's text; ends inside, with it, a byte behind, or
@@ -43,7 +43,7 @@ static struct block block_inside(const struct block *outer)
 {
     struct block b = { outer->at + 4 + below(outer->length - 4), 0 };
     uint32_t rest = end_of(outer) - b.at - 4;
-    uint32_t lengths[] = { 1, rest, rest + 1, 1 + below(rest + 1),
+    uint32_t lengths[] = { 0, 1, rest, rest + 1, 1 + below(rest + 1),
                            block_length(b.at) };
 
     b.length = PICK(lengths);
@@ -80,7 +80,7 @@ static void lay_out(uint32_t wanted, uint32_t rare)
 {
     uint32_t at = field(48);
 
-    for (blocks = 0; blocks < wanted && at + 5 <= lent.length; blocks++) {
+    for (blocks = 0; blocks < wanted && at + 4 <= lent.length; blocks++) {
         struct block b = next_block(&at, rare);
 
         if (end_of(&b) > lent.length)
@@ -178,11 +178,11 @@ static int is_whole(uint32_t slot)
 
     if (at == 0)
         return 1;
-    if (at < field(48) || at >= next || next - at < 5)
+    if (at < field(48) || at >= next || next - at < 4)
         return 0;
     length = field(at) & 0xFFFFFF;
     return (lent.library[at] == 'a' || lent.library[at] == 'd') &&
-           length >= 1 && length <= next - at - 4;
+           length <= next - at - 4;
 }
 
 /* Of whole messages: does the slot's share a byte with a lower slot's? */
@@ -235,7 +235,7 @@ static void grow_table(void)
     for (uint32_t i = 0; i < list.names; i++) {
         new_call(ADD);
         memcpy(lend_key(k), list.name[i], k);
-        list.now.mode = 1;
+        list.now.mode = 3;
         run_call();
     }
 }

@@ -1,4 +1,4 @@
-/* The plain control book of 01-scope.md. */
+/* The plain control book of 01-scope.md and 02-change-requests.md. */
 #include "book.h"
 
 #include <stdlib.h>
@@ -85,6 +85,7 @@ static void set_text(struct entry *e, uint32_t kept, const uint8_t *data,
         memcpy(e->text + kept, data, m);
     }
     e->length = kept + (uint32_t)m;
+    e->noted = 1;
 }
 
 /* New space for the text's first kept bytes and the data behind them. */
@@ -97,35 +98,34 @@ static uint32_t set_in_new_space(struct book *b, struct entry *e,
         return answer;
     set_text(e, kept, data, m);
     e->held = e->length;
+    e->placed = 1;
     b->used += 4 + (uint64_t)e->length;
     return 0;
 }
 
+/* Nothing appended gives an absent name the text none and no offset. */
 static uint32_t add_new(struct book *b, const uint8_t *key,
-                        const uint8_t *data, size_t m)
+                        const uint8_t *data, size_t m, uint32_t mode)
 {
-    uint32_t answer = 0;
+    uint32_t answer;
 
     if (b->count == b->slots)
         return 10;
-    if (m > 0)
-        answer = ask_space(b, m);
+    if (m == 0 && mode == 3) {
+        new_entry(b, key);
+        return 0;
+    }
+    answer = ask_space(b, m);
     if (answer != 0)
         return answer;
-    if (m > 0)
-        return set_in_new_space(b, new_entry(b, key), 0, data, m);
-    new_entry(b, key);
-    return 0;
+    return set_in_new_space(b, new_entry(b, key), 0, data, m);
 }
 
+/* Empty data takes new space where there is no offset. */
 static uint32_t replace_text(struct book *b, struct entry *e,
                              const uint8_t *data, size_t m)
 {
-    if (m == 0) {
-        e->length = 0;
-        return 0;
-    }
-    if (m <= e->held) {
+    if (m == 0 ? e->placed : m <= e->held) {
         set_text(e, 0, data, m);
         e->held = (uint32_t)m;
         return 0;
@@ -144,6 +144,7 @@ static uint32_t number_at(const uint8_t *at)
 /* The message at an offset other than 0. */
 static void read_message(struct entry *e, const uint8_t *at)
 {
+    e->placed = 1;
     e->held = number_at(at) & 0xFFFFFF;
     if (at[0] == 'a')
         set_text(e, 0, at + 4, e->held);
@@ -180,15 +181,22 @@ uint32_t book_add(struct book *b, const uint8_t *key, size_t key_len,
 
     if (!name_fits(b, key, key_len))
         return 7;
-    if (mode != 1 && mode != 2 && mode != 3)
+    if (mode != 1 && mode != 2 && mode != 3 && mode != 4)
         return 8;
     e = find(b, key);
+    if (e == NULL && mode == 4)
+        return 14;
     if (e == NULL)
-        return add_new(b, key, data, data_len);
+        return add_new(b, key, data, data_len, mode);
     if (mode == 1)
         return 9;
     if (mode == 2)
         return replace_text(b, e, data, data_len);
+    if (mode == 4) {
+        e->noted = 0;
+        e->length = 0;
+        return 0;
+    }
     if (data_len == 0)
         return 0;
     return set_in_new_space(b, e, e->length, data, data_len);
@@ -209,22 +217,13 @@ uint32_t book_delete(struct book *b, const uint8_t *key, size_t key_len)
 }
 
 uint32_t book_lookup(const struct book *b, const uint8_t *key,
-                     size_t key_len, const uint8_t **text, uint32_t *length)
+                     size_t key_len, const struct entry **entry)
 {
-    const struct entry *e;
-
-    *text = NULL;
-    *length = 0;
+    *entry = NULL;
     if (!name_fits(b, key, key_len))
         return 7;
-    e = find(b, key);
-    if (e == NULL)
-        return 14;
-    if (e->length > 0) {
-        *text = e->text;
-        *length = e->length;
-    }
-    return 0;
+    *entry = find(b, key);
+    return *entry == NULL ? 14 : 0;
 }
 
 uint32_t book_count(const struct book *b)

@@ -1,5 +1,5 @@
-/* The plain control book of 01-scope.md: what the file should amount to,
- * seen from the calls alone. */
+/* The plain control book of 01-scope.md and 02-change-requests.md: what the
+ * file should amount to, seen from the calls alone. */
 #ifndef BOOK_H
 #define BOOK_H
 
@@ -8,9 +8,11 @@
 
 struct entry {
     uint8_t name[32];
-    uint8_t *text;
-    uint32_t length; /* of the text */
+    int noted;       /* the text is a list, maybe of no bytes; else none */
+    uint8_t *text;   /* its bytes, as many as length */
+    uint32_t length; /* 0 for none */
     uint32_t held;
+    int placed;      /* it has an offset */
 };
 
 struct book {
@@ -28,8 +30,8 @@ void book_open(struct book *b, size_t image_len, uint32_t key_size,
                uint32_t slots);
 
 /* The book that a sound image gives (02, Job 3): entries from taken slots,
- * text from active messages, held from the length at the offset,
- * U = X - D. */
+ * text from active messages, held from the length at the offset, whether there
+ * is one, U = X - D. */
 void book_read(struct book *b, const uint8_t *image, size_t image_len);
 void book_close(struct book *b);
 
@@ -37,9 +39,9 @@ uint32_t book_add(struct book *b, const uint8_t *key, size_t key_len,
                   const uint8_t *data, size_t data_len, uint32_t mode);
 uint32_t book_delete(struct book *b, const uint8_t *key, size_t key_len);
 
-/* The text stays the book's; no text and 0 when refused or empty. */
+/* The entry stays the book's, for its text; NULL when refused. */
 uint32_t book_lookup(const struct book *b, const uint8_t *key,
-                     size_t key_len, const uint8_t **text, uint32_t *length);
+                     size_t key_len, const struct entry **entry);
 uint32_t book_count(const struct book *b);
 
 #endif

@@ -1,5 +1,5 @@
-/* The control point file of 01-scope.md, in plain C on one image. The limits
- * are those of 02-change-requests.md; a build may set 01's instead. */
+/* The control point file of 01-scope.md, in plain C on one image, with what
+ * 02-change-requests.md changed; a build may set 01's limits. */
 #include "plain.h"
 
 #include <stdlib.h>
@@ -26,6 +26,7 @@
 
 /* Where the header's numbers stand. */
 enum {
+    AT_LAST_VERSION = 7,
     AT_KEY_SIZE = 12,
     AT_SLOTS = 16,
     AT_COUNT = 20,
@@ -41,7 +42,8 @@ enum {
 };
 
 enum { ACCEPTED = 0 };
-enum { MODE_NEW = 1, MODE_REPLACE = 2, MODE_APPEND = 3 };
+enum { MODE_NEW = 1, MODE_REPLACE = 2, MODE_APPEND = 3, MODE_WITHDRAW = 4 };
+enum { NOTES_VERSION = 2 }; /* from 1.0.2 on an empty note is a note */
 
 /* An opened image: the header's numbers, and L. */
 struct view {
@@ -67,7 +69,7 @@ struct found {
     uint32_t read; /* slots */
 };
 
-/* Offset 0 and length 0: no message. */
+/* Offset 0: no message; length 0 then too. */
 struct message {
     uint32_t offset;
     uint32_t length;
@@ -135,7 +137,8 @@ static int length_fits(size_t length)
 /* Question 5. */
 static int version_fits(const uint8_t *image)
 {
-    return memcmp(image, "BHTFv\1\0", 7) == 0 && image[7] <= 1;
+    return memcmp(image, "BHTFv\1\0", AT_LAST_VERSION) == 0 &&
+           image[AT_LAST_VERSION] <= NOTES_VERSION;
 }
 
 /* Question 6. As unsigned numbers, fields with the top bit set fail too. */
@@ -202,7 +205,7 @@ static void write_header(uint8_t *image, uint32_t key_size, uint32_t slots)
 {
     uint32_t data = data_offset(key_size, slots);
 
-    memcpy(image, "BHTFv\1\0\1", 8);
+    memcpy(image, "BHTFv\1\0\2", 8);
     put32(image + AT_KEY_SIZE, key_size);
     put32(image + AT_SLOTS, slots);
     put32(image + AT_MULTIPLIER, MULTIPLIER);
@@ -333,7 +336,7 @@ static int read_message(const struct view *v, uint32_t offset,
         return 0;
     m->length = header & 0xFFFFFFu;
     m->active = header >> 24 == 'a';
-    return m->length >= 1 && m->length <= v->next - offset - MESSAGE_HEADER;
+    return m->length <= v->next - offset - MESSAGE_HEADER;
 }
 
 static void write_active(uint8_t *image, uint32_t offset, uint32_t length)
@@ -403,21 +406,25 @@ static void write_offset(uint8_t *image, const struct view *v, uint32_t slot,
     put32(image + slot_at(v, slot) + v->key_size, offset);
 }
 
+/* A name's message: appending nothing is none, other empty data a note. */
 static uint32_t add_absent(uint8_t *image, const struct view *v,
                            struct found f, const uint8_t *key,
-                           struct text text)
+                           struct text text, uint32_t mode)
 {
     const struct text none = { NULL, 0 };
+    int placed = text.length > 0 || mode != MODE_APPEND;
     uint32_t answer = ACCEPTED;
     uint32_t offset = 0;
 
+    if (mode == MODE_WITHDRAW)
+        return 14;
     if (f.ending == EXHAUSTED || v->count >= v->slots)
         return 10;
-    if (text.length > 0)
+    if (placed)
         answer = ask_room(v, 0, text.length);
     if (answer != ACCEPTED)
         return answer;
-    if (text.length > 0)
+    if (placed)
         offset = place(image, v, none, text);
     write_slot(image, v, f.slot, key, offset);
     put32(image + AT_COUNT, v->count + 1);
@@ -443,11 +450,7 @@ static uint32_t replace(uint8_t *image, const struct view *v, uint32_t slot,
 {
     const struct text none = { NULL, 0 };
 
-    if (text.length == 0) {
-        retire(image, old);
-        return ACCEPTED;
-    }
-    if (text.length <= old->length) {
+    if (old->offset != 0 && text.length <= old->length) {
         overwrite(image, old, text);
         return ACCEPTED;
     }
@@ -468,6 +471,12 @@ static uint32_t append(uint8_t *image, const struct view *v, uint32_t slot,
     return renew(image, v, slot, old, kept, text);
 }
 
+static uint32_t withdraw(uint8_t *image, const struct message *old)
+{
+    retire(image, old);
+    return ACCEPTED;
+}
+
 static uint32_t add_present(uint8_t *image, const struct view *v,
                             uint32_t slot, struct text text, uint32_t mode)
 {
@@ -479,7 +488,16 @@ static uint32_t add_present(uint8_t *image, const struct view *v,
         return 11;
     if (mode == MODE_REPLACE)
         return replace(image, v, slot, &old, text);
-    return append(image, v, slot, &old, text);
+    if (mode == MODE_APPEND)
+        return append(image, v, slot, &old, text);
+    return withdraw(image, &old);
+}
+
+/* A file that holds an empty note is of version 1.0.2. */
+static void mark_note(uint8_t *image, struct text text, uint32_t mode)
+{
+    if (text.length == 0 && (mode == MODE_NEW || mode == MODE_REPLACE))
+        image[AT_LAST_VERSION] = NOTES_VERSION;
 }
 
 uint32_t plain_add_slots(uint8_t *image, size_t image_len, const uint8_t *key,
@@ -496,13 +514,17 @@ uint32_t plain_add_slots(uint8_t *image, size_t image_len, const uint8_t *key,
         return answer;
     if (!key_fits(&v, key, key_len))
         return 7;
-    if (mode < MODE_NEW || mode > MODE_APPEND)
+    if (mode < MODE_NEW || mode > MODE_WITHDRAW)
         return 8;
     f = search(&v, key);
     *slots_read = f.read;
     if (f.ending == MET)
-        return add_present(image, &v, f.slot, text, mode);
-    return add_absent(image, &v, f, key, text);
+        answer = add_present(image, &v, f.slot, text, mode);
+    else
+        answer = add_absent(image, &v, f, key, text, mode);
+    if (answer == ACCEPTED)
+        mark_note(image, text, mode);
+    return answer;
 }
 
 uint32_t plain_add(uint8_t *image, size_t image_len, const uint8_t *key,

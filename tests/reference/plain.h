@@ -1,5 +1,5 @@
-/* The control point file of 01-scope.md, in plain C on one image.
- * Every call answers the document's number, 0 when accepted. */
+/* The control point file of 01-scope.md, in plain C on one image, with what
+ * 02-change-requests.md changed. Every call answers the document's number, 0 when accepted. */
 #ifndef PLAIN_H
 #define PLAIN_H
 
@@ -17,7 +17,7 @@ uint32_t plain_delete(uint8_t *image, size_t image_len, const uint8_t *key,
                       size_t key_len);
 
 /* Offset of the first message byte and length; both 0 with no active message
- * or when refused. */
+ * or when refused. An empty message has an offset. */
 uint32_t plain_lookup(const uint8_t *image, size_t image_len,
                       const uint8_t *key, size_t key_len, uint32_t *offset,
                       uint32_t *length);

@@ -6,7 +6,7 @@ use mathlib.Core.Bool.{Bool}
 use Rattle.bhtf.specs.Bytes.{Bytes}
 use Rattle.bhtf.specs.Image.{layoutOf}
 use Rattle.bhtf.specs.Search.{Probe, search}
-use Rattle.bhtf.specs.Messages.{addedAt, added}
+use Rattle.bhtf.specs.Messages.{addedAt, noted, added}
 use Rattle.bhtf.specs.Questions.{firstNo, pointAsks, modeKnown, seekNumber, addNumber}
 use Rattle.bhtf.specs.Calls.{plain, settled, add}
 use Rattle.bhtf.proofs.Sought.{add-stop, add-on}
@@ -28,12 +28,14 @@ module _ (img key bytes : Bytes) (mode : ℕ) (known : Bool) (is-known : known �
   pub found-answer : seekNumber img key known ≡ 0 → (n : ℕ) (after : Bytes) (p : Probe)
       → p ≡ search (layoutOf img) img key
       → n ≡ firstNo (pointAsks (layoutOf img) img p bytes mode)
-      → after ≡ settled n img (addedAt (layoutOf img) img p key bytes mode)
+      → after ≡ settled n img (noted bytes mode (addedAt (layoutOf img) img p key bytes mode))
       → (n ≡ add img key bytes mode .answer .number) × (after ≡ add img key bytes mode .after)
   unfolding add plain added
   found-answer a n after p e is h =
       let g = layoutOf img in
       let number : n ≡ addNumber img key bytes mode =
       is ∙ ap (λ (q : Probe). firstNo (pointAsks g img q bytes mode)) e
-      ∙ sym (add-on img key bytes mode (sym asked ∙ a)) in
-      (number, h ∙ ap₂ (λ (m : ℕ) (q : Probe). settled m img (addedAt g img q key bytes mode)) number e)
+      ∙ sym (add-on img key bytes mode (sym asked ∙ a)) in (
+        number,
+        h ∙ ap₂ (λ (m : ℕ) (q : Probe). settled m img (noted bytes mode (addedAt g img q key bytes mode))) number e,
+      )

@@ -1,4 +1,4 @@
-// Add, in its three modes: all questions are put before the first byte is written.
+// Add, in its four modes: all questions are put before the first byte is written.
 use absent::add_absent;
 use layout::shape::Shape;
 use present::add_present;
@@ -7,18 +7,42 @@ use seek::Sought;
 use seek::Told;
 use seek::seek;
 use table::Found;
+use words::limits::VERSION_BYTES;
 ghost use mathlib.Core.Path.{_≡_};
 ghost use mathlib.Core.Bool.{true};
+ghost use mathlib.Core.List.{[], _∷_};
+ghost use Prim.Native.Nat.{_+_, _≤_};
 ghost use lib.ListN.{length};
 ghost use Rattle.bhtf.specs.Calls.{settled, add, addRead};
 ghost use Rattle.bhtf.specs.Image.{layoutOf};
-ghost use Rattle.bhtf.specs.Messages.{addedAt};
+ghost use Rattle.bhtf.specs.Limits.{major, minor, patch, versionField};
+ghost use Rattle.bhtf.specs.Messages.{addedAt, noted};
 ghost use Rattle.bhtf.specs.Questions.{firstNo, pointAsks, modeKnown};
 ghost use Rattle.layout.specs.Shapes.{Open};
 ghost use Rattle.table.specs.Probes.{probeOf, Within};
 
-// Add of the point for which the search ended so: questions 9 to 13, then its effect.
-fn add_found(
+// Writes the version bytes 1, 0, 2.
+fn write_version(part: &mut [u8])
+    requires { ⌜ length (now part) ≡ 3 ⌝ }
+    ensures { λ _. ⌜ now (part .exit) ≡ major ∷ minor ∷ patch ∷ [] ⌝ }
+{
+    part[0] = 1;
+    part[1] = 0;
+    part[2] = 2;
+}
+
+// An empty message, that is no bytes in mode 1 or 2, makes the file's version 1.0.2.
+fn note_version(image: &mut [u8], bytes: &[u8], mode: u32)
+    requires { ⌜ versionField + 3 ≤ length (now image) ⌝ }
+    ensures { λ _. ⌜ now (image .exit) ≡ noted (now (bytes .entry)) mode (now (image .entry)) ⌝ }
+{
+    if (bytes.len() == 0) & ((mode == 1) | (mode == 2)) {
+        write_version(&mut image[VERSION_BYTES..VERSION_BYTES + 3]);
+    }
+}
+
+// Add of the point for which the search ended so: 14 for mode 4, questions 9 to 13, then its effect on the point.
+fn put_found(
     image: &mut [u8],
     shape: Shape,
     found: Found,
@@ -41,6 +65,33 @@ fn add_found(
     add_present(image, shape, slot, key, bytes, mode)
 }
 
+// The same, and the version where the message that is stored is empty.
+fn add_found(
+    image: &mut [u8],
+    shape: Shape,
+    found: Found,
+    key: &[u8],
+    bytes: &[u8],
+    mode: u32,
+) -> u32
+    requires { ⌜ Open (now image) shape × Within (shape .slots) (probeOf found)
+        × (length (now key) ≡ shape .keylen) × (modeKnown mode ≡ true) ⌝ }
+    ensures { λ r. ⌜ (r ≡ firstNo (pointAsks (layoutOf (now (image .entry))) (now (image .entry)) (probeOf found)
+        (now (bytes .entry)) mode))
+        × (now (image .exit)
+        ≡ settled r (now (image .entry))
+        (noted (now (bytes .entry)) mode
+        (addedAt (layoutOf (now (image .entry))) (now (image .entry)) (probeOf found) (now (key .entry))
+        (now (bytes .entry)) mode))) ⌝ }
+{
+    let number = put_found(image, shape, found, key, bytes, mode);
+    if number != 0 {
+        return number;
+    }
+    note_version(image, bytes, mode);
+    0
+}
+
 // Stores the bytes as `add` does, and answers how many slots its search read too.
 pub fn add_slots(image: &mut [u8], key: &[u8], bytes: &[u8], mode: u32) -> Told
     ensures { λ r. ⌜ (r .number ≡ add (now (image .entry)) (now (key .entry)) (now (bytes .entry)) mode .answer .number)
@@ -57,7 +108,8 @@ pub fn add_slots(image: &mut [u8], key: &[u8], bytes: &[u8], mode: u32) -> Told
     }
 }
 
-// Stores the bytes under the key: mode 1 for a key that is absent only, 2 replaces its message, 3 appends to it.
+// Stores the bytes under the key: mode 1 for a key that is absent only, 2 replaces its message, 3 appends to it, 4
+// withdraws it, whatever the bytes.
 // Answers 0; or the number of the first question answered no, and then changes no byte.
 pub fn add(image: &mut [u8], key: &[u8], bytes: &[u8], mode: u32) -> u32
     ensures { λ r. ⌜ (r ≡ add (now (image .entry)) (now (key .entry)) (now (bytes .entry)) mode .answer .number)

@@ -12,7 +12,7 @@ use lib.ListN.{length}
 use borrow.Author.Tests.{eq-eqb}
 use Rattle.bhtf.specs.Bytes.{Bytes}
 use Rattle.bhtf.specs.Image.{Layout, layoutOf, slot, offsetOf, vacant}
-use Rattle.bhtf.specs.Messages.{shown}
+use Rattle.bhtf.specs.Messages.{shown, bytesOf}
 use Rattle.bhtf.specs.Questions.{nameAllowed}
 use Rattle.bhtf.specs.Inspect.{taken, nextTaken, sound, check}
 use Rattle.bhtf.specs.Calls.{lookup}
@@ -43,7 +43,7 @@ pub sound-lookup : (img : Bytes) → check img ≡ sound → (i : ℕ) → i < l
     → lookup img (keyAt (layoutOf img) img i) .answer
     ≡ record {
       number = 0;
-      amount = length (shown (layoutOf img) img (offsetOf (layoutOf img) (slot (layoutOf img) img i)));
+      amount = length (bytesOf (shown (layoutOf img) img (offsetOf (layoutOf img) (slot (layoutOf img) img i))));
       text = shown (layoutOf img) img (offsetOf (layoutOf img) (slot (layoutOf img) img i));
     }
 sound-lookup img ok i l t =

@@ -8,7 +8,7 @@
 use mathlib.Core.Path.{_≡_, refl, sym, ap, ap₂, _∙_}
 use Prim.Native.Nat.{ℕ, _+_, _≤_}
 use native.Mathlib.Omega.{arith}
-use mathlib.Core.Bool.{Bool, true, false, cond, _&&_}
+use mathlib.Core.Bool.{Bool, true, false, cond, not, _&&_}
 use lib.ListN.{length}
 use lib.Dec.{eqb}
 use borrow.Author.Tests.{eq-eqb, ne-eqb}
@@ -16,9 +16,9 @@ use Rattle.bhtf.specs.Bytes.{Bytes, part}
 use Rattle.bhtf.specs.Limits.{pointsField}
 use Rattle.bhtf.specs.Image.{field, Layout, layoutOf, slot, offsetOf}
 use Rattle.bhtf.specs.Search.{Probe, met, empty, exhausted, search, isMet, slotOf}
-use Rattle.bhtf.specs.Messages.{headSize, lengthAt, isActive, held}
+use Rattle.bhtf.specs.Messages.{headSize, lengthAt, isActive, bytesOf, isText, held}
 use Rattle.bhtf.specs.Questions.{firstNo, shownAsks, messageSound, openNumber, seekNumber, lookupNumber}
-use Rattle.bhtf.specs.Calls.{lookup, lookupOffset, lookupStart, lookupLength, count, countOf}
+use Rattle.bhtf.specs.Calls.{lookup, lookupOffset, lookupStart, lookupLength, lookupText, count, countOf}
 use Rattle.bhtf.proofs.Tests.{by-bool, by-eq}
 use Rattle.bhtf.proofs.Bytes.{part-length}
 use Rattle.bhtf.proofs.Opened.{Opened, opened-facts}
@@ -26,6 +26,7 @@ use Rattle.bhtf.proofs.Effects.{message-end, active-some}
 use Rattle.bhtf.proofs.Outcomes.{offset-refused, shown-14, shown-11, shown-0}
 use Rattle.bhtf.proofs.Sought.{seek-opened, lookup-stop, lookup-on}
 use Rattle.bhtf.proofs.Stretch.{held-none, held-some}
+use Rattle.words.proofs.Numbers.{part-zero}
 use Rattle.lookup.specs.Shown.{shownOffset, Shows}
 
 -- ---- count
@@ -170,10 +171,31 @@ module _ (img key : Bytes) where
       by-probe exhausted e a = absent exhausted e a refl
 
   -- ---- lookup's answer by start and length
-  pub lookup-answer : (n : ℕ) (t : Bytes) → n ≡ lookupNumber img key
+  -- no message is shown from offset 0, and none has the part of 0 bytes
+  text-shown : not (eqb (lookupStart img key) 0) ≡ isText (lookupText img key)
+  unfolding lookupStart lookupText isText headSize
+  text-shown =
+      by-eq (lookupOffset img key) 0
+      (λ z. rw (eq-eqb (lookupOffset img key) 0 z) refl)
+      (λ z.
+      rw (ne-eqb (lookupOffset img key) 0 z, ne-eqb (lookupOffset img key + (g .W + 1)) 0 (λ e. omega arith)) refl)
+
+  text-bytes : part img (lookupStart img key) (lookupLength img key) ≡ bytesOf (lookupText img key)
+  unfolding lookupText bytesOf
+  text-bytes =
+      by-eq (lookupOffset img key) 0
+      (λ z. rw (eq-eqb (lookupOffset img key) 0 z, length-none z) (part-zero img (lookupStart img key)))
+      (λ z. rw (ne-eqb (lookupOffset img key) 0 z) refl)
+
+  pub lookup-answer : (n start : ℕ) (t : Bytes) → n ≡ lookupNumber img key → start ≡ lookupStart img key
       → t ≡ part img (lookupStart img key) (lookupLength img key)
-      → (n ≡ lookup img key .answer .number) × (t ≡ lookup img key .answer .text)
+      → (n ≡ lookup img key .answer .number) × (not (eqb start 0) ≡ isText (lookup img key .answer .text))
+      × (t ≡ bytesOf (lookup img key .answer .text))
       × (length t ≡ lookup img key .answer .amount)
   unfolding lookup
-  lookup-answer n t e p =
-      (e, p, ap length p ∙ part-length img (lookupStart img key) (lookupLength img key) inside)
+  lookup-answer n start t e s p = (
+    e,
+    ap (λ (x : ℕ). not (eqb x 0)) s ∙ text-shown,
+    p ∙ text-bytes,
+    ap length p ∙ part-length img (lookupStart img key) (lookupLength img key) inside,
+  )

@@ -19,6 +19,7 @@ ghost use mathlib.Core.Path.{_≡_};
 ghost use lib.ListN.{length};
 ghost use Rattle.bhtf.specs.Calls.{lookup, lookupStart, lookupLength, lookupRead, count};
 ghost use Rattle.bhtf.specs.Image.{layoutOf};
+ghost use Rattle.bhtf.specs.Messages.{bytesOf, isText};
 ghost use Rattle.bhtf.specs.Questions.{lookupNumber};
 ghost use Rattle.layout.specs.Shapes.{Open};
 ghost use Rattle.table.specs.Probes.{probeOf, Within};
@@ -123,15 +124,18 @@ pub fn locate(image: &[u8], key: &[u8]) -> Located
     looked.located
 }
 
-// The active message of the key's point, as a part of the image: its first 0 bytes where there is none or when refused.
-pub fn lookup<'a>(image: &'a [u8], key: &[u8], number: &mut u32) -> &'a [u8]
+// The active message of the key's point, as a part of the image: its first 0 bytes where there is none or when refused,
+// and then `shown` is false, which tells no message from an empty one.
+pub fn lookup<'a>(image: &'a [u8], key: &[u8], number: &mut u32, shown: &mut bool) -> &'a [u8]
     ensures { λ r. ⌜ (now (number .exit) ≡ lookup (now (image .entry)) (now (key .entry)) .answer .number)
-        × (now r ≡ lookup (now (image .entry)) (now (key .entry)) .answer .text)
+        × (now (shown .exit) ≡ isText (lookup (now (image .entry)) (now (key .entry)) .answer .text))
+        × (now r ≡ bytesOf (lookup (now (image .entry)) (now (key .entry)) .answer .text))
         × (length (now r) ≡ lookup (now (image .entry)) (now (key .entry)) .answer .amount) ⌝ }
 {
     let found = locate(image, key);
     *number = found.number;
     let start = found.start.at();
+    *shown = start != 0;
     let end = start + found.length;
     &image[start..end]
 }

@@ -13,7 +13,7 @@ use lib.ListN.{length, getD}
 use lib.Dec.{leb, eqb}
 use borrow.Author.Tests.{le-leb, lt-leb, eq-eqb, ne-eqb}
 use Rattle.bhtf.specs.Bytes.{Bytes, number}
-use Rattle.bhtf.specs.Limits.{active, inactive, leastLength, lengthWidth, freeField}
+use Rattle.bhtf.specs.Limits.{active, inactive, lengthWidth, freeField}
 use Rattle.bhtf.specs.Image.{field, Layout, layoutOf}
 use Rattle.bhtf.specs.Messages.{headSize, letterAt, lengthAt, isActive, held, shownLength}
 use Rattle.bhtf.specs.Questions.{messageSound}
@@ -44,9 +44,6 @@ module _ (g : Layout) (img : Bytes) (o : ℕ) where
   letters : Bool
   letters = eqb (letterAt img o) active || eqb (letterAt img o) inactive
 
-  least-held : Bool
-  least-held = leb leastLength (lengthAt g img o)
-
   end-held : Bool
   end-held = leb (o + headSize g + lengthAt g img o) (field img freeField)
 
@@ -55,8 +52,8 @@ module _ (g : Layout) (img : Bytes) (o : ℕ) where
   sound-none h = rw (eq-eqb o 0 h)
 
   -- what is asked of an offset other than 0
-  sound-some : 0 < o → messageSound g img o ≡ (leb (g .D) o && letters && least-held && end-held)
-  unfolding messageSound letters least-held end-held
+  sound-some : 0 < o → messageSound g img o ≡ (leb (g .D) o && letters && end-held)
+  unfolding messageSound letters end-held
   sound-some z = rw (ne-eqb o 0 (λ e. omega arith))
 
   pub sound-low : 0 < o → o < g .D → messageSound g img o ≡ false
@@ -67,20 +64,19 @@ module _ (g : Layout) (img : Bytes) (o : ℕ) where
   sound-high z h =
       sound-some z
       ∙ rw (lt-leb (o + headSize g + lengthAt g img o) (field img freeField) (omega arith))
-      (and-false (leb (g .D) o && letters && least-held))
+      (and-false (leb (g .D) o && letters))
 
   pub sound-read : 0 < o → g .D ≤ o
       → messageSound g img o
       ≡ ((eqb (letterAt img o) active || eqb (letterAt img o) inactive)
-      && leb leastLength (lengthAt g img o)
       && leb (o + headSize g + lengthAt g img o) (field img freeField))
-  unfolding letters least-held end-held
+  unfolding letters end-held
   sound-read z h = sound-some z ∙ rw (le-leb (g .D) o h)
 
 -- the tests of a header that was read
 pub sound-tests : (g : Layout) (img : Bytes) (o at head m x : ℕ) → at ≡ o → head ≡ headSize g → 0 < o → g .D ≤ o
     → o < length img → m ≡ lengthAt g img o → x ≡ field img freeField
-    → ((eqb (getD img at 0) active || eqb (getD img at 0) inactive) && leb leastLength m && leb (at + head + m) x)
+    → ((eqb (getD img at 0) active || eqb (getD img at 0) inactive) && leb (at + head + m) x)
     ≡ messageSound g img o
 sound-tests g img o at head m x ea eh z d h em ex =
     rw (ea, eh, em, ex) (sym (simp (letter-byte img o h) at (sound-read g img o z d)))

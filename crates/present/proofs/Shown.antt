@@ -2,23 +2,22 @@
 --     head-fits, head-end      the message's header ends in the image, and below X
 --     shown-part, shown-end    the text is the part behind the header, and ends below X
 --     length-appended          how long that text and the bytes behind it are
---     held-offset, text-none   an offset that holds bytes is not 0; none of the old text
+--     text-none                none of the old text
 -- Assumes nothing.
 use mathlib.Core.Path.{_≡_, refl, sym, ap, _∙_}
-use Prim.Native.Nat.{ℕ, _+_, _≤_, _<_}
+use Prim.Native.Nat.{ℕ, _+_, _≤_}
 use native.Mathlib.Omega.{arith}
 use mathlib.Core.Bool.{true}
 use mathlib.Core.List.{_++_}
 use lib.ListN.{length}
 use Rattle.bhtf.specs.Bytes.{Bytes, part}
 use Rattle.bhtf.specs.Limits.{freeField}
-use Rattle.bhtf.specs.Image.{field, Layout, layoutOf}
-use Rattle.bhtf.specs.Messages.{isActive, textAt, shown, shownLength, held}
+use Rattle.bhtf.specs.Image.{field, layoutOf}
+use Rattle.bhtf.specs.Messages.{isActive, textAt, shown, bytesOf, shownLength}
 use Rattle.bhtf.specs.Questions.{messageSound}
 use Rattle.bhtf.proofs.Tests.{by-bool, by-eq}
 use Rattle.bhtf.proofs.Bytes.{length-part-append}
 use Rattle.bhtf.proofs.Opened.{Opened, opened-facts}
-use Rattle.bhtf.proofs.Stretch.{held-none}
 use Rattle.bhtf.proofs.Effects.{area-above, message-end, message-fits, active-some}
 use Rattle.words.proofs.Numbers.{part-zero}
 use Rattle.layout.specs.Shapes.{Open}
@@ -27,8 +26,8 @@ use Rattle.layout.proofs.Shaped.{shape-head, head-width}
 use Rattle.messages.proofs.Sound.{length-shown-yes, length-shown-no}
 
 module _ {img : Bytes} {s : Shape} (open₀ : Open img s) (o : ℕ) where
-  pub shown-part : part img (o + s .head) (shownLength (layoutOf img) img o) ≡ shown (layoutOf img) img o
-  unfolding shown shownLength textAt
+  pub shown-part : part img (o + s .head) (shownLength (layoutOf img) img o) ≡ bytesOf (shown (layoutOf img) img o)
+  unfolding shown bytesOf shownLength textAt
   shown-part =
       by-bool (isActive img o)
       (λ h. rw (h, shape-head open₀) refl)
@@ -56,15 +55,11 @@ module _ {img : Bytes} {s : Shape} (open₀ : Open img s) (o : ℕ) where
         (λ h. omega (arith, length-shown-no g img o h, head-end))
 
     pub length-appended : (bytes : Bytes)
-        → length (shown (layoutOf img) img o ++ bytes) ≡ shownLength (layoutOf img) img o + length bytes
+        → length (bytesOf (shown (layoutOf img) img o) ++ bytes) ≡ shownLength (layoutOf img) img o + length bytes
     length-appended bytes =
         ap (λ (t : Bytes). length (t ++ bytes)) (sym shown-part)
         ∙ length-part-append img (o + s .head) (shownLength (layoutOf img) img o) bytes
         (omega (arith, shown-end, f .free-high))
-
--- an offset that holds bytes is not 0
-pub held-offset : (g : Layout) (img : Bytes) (o n : ℕ) → n ≤ held g img o → (n ≡ 0 → ⊥) → 0 < o
-held-offset g img o n l z = by-eq o 0 (λ e. absurd (z (omega (arith, held-none g img o e)))) (λ q. omega arith)
 
 -- no bytes of the old text
 pub text-none : (img : Bytes) (p : ℕ) (bytes : Bytes) → part img p 0 ++ bytes ≡ bytes

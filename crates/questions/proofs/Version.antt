@@ -32,22 +32,22 @@ module _ (a b c d e f g h : ℕ) (la : a < 256) (lb : b < 256) (lc : c < 256) (l
   second = e * 16777216 + (f * 65536 + (g * 256 + h))
 
   abbrev words : Bool
-  words = eqb first 0x42485446 && (leb 0x76010000 second && leb second 0x76010001)
+  words = eqb first 0x42485446 && (leb 0x76010000 second && leb second 0x76010002)
 
   abbrev bytes : Bool
-  bytes = same (a ∷ b ∷ c ∷ d ∷ e ∷ []) magic && eqb f 1 && eqb g 0 && leb h 1
+  bytes = same (a ∷ b ∷ c ∷ d ∷ e ∷ []) magic && eqb f 1 && eqb g 0 && leb h 2
 
   forth : words ≡ true → bytes ≡ true
   unfolding same
   forth t =
       let n : first ≡ 0x42485446 =
-      eqb-true first 0x42485446 (and-left (eqb first 0x42485446) (leb 0x76010000 second && leb second 0x76010001) t) in
-      let r : (leb 0x76010000 second && leb second 0x76010001) ≡ true =
-      and-right (eqb first 0x42485446) (leb 0x76010000 second && leb second 0x76010001) t in
+      eqb-true first 0x42485446 (and-left (eqb first 0x42485446) (leb 0x76010000 second && leb second 0x76010002) t) in
+      let r : (leb 0x76010000 second && leb second 0x76010002) ≡ true =
+      and-right (eqb first 0x42485446) (leb 0x76010000 second && leb second 0x76010002) t in
       let l : 0x76010000 ≤ second =
-      leb-true 0x76010000 second (and-left (leb 0x76010000 second) (leb second 0x76010001) r) in
-      let u : second ≤ 0x76010001 =
-      leb-true second 0x76010001 (and-right (leb 0x76010000 second) (leb second 0x76010001) r) in
+      leb-true 0x76010000 second (and-left (leb 0x76010000 second) (leb second 0x76010002) r) in
+      let u : second ≤ 0x76010002 =
+      leb-true second 0x76010002 (and-right (leb 0x76010000 second) (leb second 0x76010002) r) in
       let ea : a ≡ 66 = omega arith in
       let eb : b ≡ 72 = omega arith in
       let ec : c ≡ 84 = omega arith in
@@ -55,13 +55,13 @@ module _ (a b c d e f g h : ℕ) (la : a < 256) (lb : b < 256) (lc : c < 256) (l
       let ee : e ≡ 118 = omega arith in
       let ef : f ≡ 1 = omega arith in
       let eg : g ≡ 0 = omega arith in
-      let eh : h ≤ 1 = omega arith in
-      rw (ea, eb, ec, ed, ee, ef, eg) (le-leb h 1 eh)
+      let eh : h ≤ 2 = omega arith in
+      rw (ea, eb, ec, ed, ee, ef, eg) (le-leb h 2 eh)
 
   back : bytes ≡ true → words ≡ true
   back t =
       let S : Bool = same (a ∷ b ∷ c ∷ d ∷ e ∷ []) magic in
-      let three = and-left (S && eqb f 1 && eqb g 0) (leb h 1) t in
+      let three = and-left (S && eqb f 1 && eqb g 0) (leb h 2) t in
       let two = and-left (S && eqb f 1) (eqb g 0) three in
       let m : a ∷ b ∷ c ∷ d ∷ e ∷ [] ≡ magic = same-true (a ∷ b ∷ c ∷ d ∷ e ∷ []) magic (and-left S (eqb f 1) two) in
       let ea : a ≡ 66 = ap (λ (l : Bytes). getD l 0 0) m in
@@ -71,17 +71,17 @@ module _ (a b c d e f g h : ℕ) (la : a < 256) (lb : b < 256) (lc : c < 256) (l
       let ee : e ≡ 118 = ap (λ (l : Bytes). getD l 4 0) m in
       let ef : f ≡ 1 = eqb-true f 1 (and-right S (eqb f 1) two) in
       let eg : g ≡ 0 = eqb-true g 0 (and-right (S && eqb f 1) (eqb g 0) three) in
-      let eh : h ≤ 1 = leb-true h 1 (and-right (S && eqb f 1 && eqb g 0) (leb h 1) t) in
-      and-true (eqb first 0x42485446) (leb 0x76010000 second && leb second 0x76010001)
+      let eh : h ≤ 2 = leb-true h 2 (and-right (S && eqb f 1 && eqb g 0) (leb h 2) t) in
+      and-true (eqb first 0x42485446) (leb 0x76010000 second && leb second 0x76010002)
       (eq-eqb first 0x42485446 (omega arith))
-      (and-true (leb 0x76010000 second) (leb second 0x76010001) (le-leb 0x76010000 second (omega arith))
-      (le-leb second 0x76010001 (omega arith)))
+      (and-true (leb 0x76010000 second) (leb second 0x76010002) (le-leb 0x76010000 second (omega arith))
+      (le-leb second 0x76010002 (omega arith)))
 
   words-bytes : words ≡ bytes
   words-bytes = both-ways words bytes forth back
 
 pub version-words : (img : Bytes) → AreBytes img → 8 ≤ length img
-    → (eqb (field img 0) 0x42485446 && (leb 0x76010000 (field img 4) && leb (field img 4) 0x76010001))
+    → (eqb (field img 0) 0x42485446 && (leb 0x76010000 (field img 4) && leb (field img 4) 0x76010002))
     ≡ versionKnown img
 unfolding field versionKnown
 version-words img bytes l =

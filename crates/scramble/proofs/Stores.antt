@@ -105,7 +105,7 @@ number-stored b at xs i p h =
 -- the header, with "BHTF", v and the version bytes as two numbers
 pub header-digits : (K N D : ℕ) → D ≡ dataStart K N
     → allDigits
-    (0x42485446 ∷ 0x76010001 ∷ 0 ∷ K ∷ N ∷ 0 ∷ 0x01000193 ∷ 0x811C9DC5
+    (0x42485446 ∷ 0x76010002 ∷ 0 ∷ K ∷ N ∷ 0 ∷ 0x01000193 ∷ 0x811C9DC5
     ∷ 32 ∷ 126 ∷ 512 ∷ 2048 ∷ D ∷ D ∷ 0xFFFFFFFF ∷ [])
     ≡ freshHeader K N
 unfolding allDigits digits freshHeader

@@ -18,12 +18,12 @@ use Rattle.bhtf.specs.Questions.{openNumber}
 use Rattle.bhtf.proofs.Slots.{Room, slot-end, slot-above, length-slot, field-putSlot, length-blank}
 use Rattle.bhtf.proofs.Spread.{room-half}
 use Rattle.bhtf.proofs.Opened.{Opened, opened-facts, facts-opened}
-use Rattle.bhtf.proofs.Kept.{Kept, kept-store, kept-layout, opened-kept, kept-key, kept-slots, kept-data, kept-multiplier, kept-start, kept-first, kept-last}
+use Rattle.bhtf.proofs.Kept.{Fixed, Kept, kept-store, kept-layout, opened-kept, kept-key, kept-slots, kept-data, kept-multiplier, kept-start, kept-first, kept-last}
 use Rattle.layout.specs.Shapes.{shapeOf, Open}
 use Rattle.layout.specs.declared.shape.Shape.{Shape}
 
 -- ---- the shape
-pub kept-shape : {img img′ : Bytes} → Kept img img′ → shapeOf img′ ≡ shapeOf img
+pub kept-shape : {img img′ : Bytes} → Fixed img img′ → shapeOf img′ ≡ shapeOf img
 unfolding shapeOf layoutOf headSize
 kept-shape k =
     rw (kept-key k, kept-slots k, kept-data k, kept-multiplier k, kept-start k, kept-first k, kept-last k) refl
@@ -50,7 +50,12 @@ same-open h o = record { accepted = h .opened; shape = o .shape ∙ sym (h .shap
 -- an image whose header is accepted, with what no call changes
 pub head-opened : (img img′ : Bytes) → Opened img → Kept img img′ → Opened img′ → SameHead img img′
 head-opened img img′ o k o′ =
-    record { opened = facts-opened img′ o′; layout = kept-layout k (o .last); shape = kept-shape k; size = k .size }
+    record {
+      opened = facts-opened img′ o′;
+      layout = kept-layout (k .fixed) (o .last);
+      shape = kept-shape (k .fixed);
+      size = k .fixed .size;
+    }
 
 pub head-kept : (img img′ : Bytes) → openNumber img ≡ 0 → Kept img img′ → field img′ pointsField ≡ field img pointsField
     → field img′ freeField ≡ field img freeField → SameHead img img′

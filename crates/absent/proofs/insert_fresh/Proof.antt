@@ -1,4 +1,4 @@
--- No bytes give offset 0; others are asked for, and placed. Assumes nothing.
+-- No bytes in mode 3 give offset 0; others are asked for, and placed. Assumes nothing.
 use native.Mathlib.Omega.{arith}
 use mathlib.Core.Path.{_≡_, refl, sym, ap, ap₂, _∙_}
 use mathlib.Core.Option.{Option}

@@ -1,72 +1,59 @@
--- A point that was met is present, any other absent. Assumes nothing.
-use mathlib.Core.Path.{_≡_, sym, ap, _∙_}
+-- The version is written behind an accepted call alone. Assumes nothing.
+use mathlib.Core.Path.{_≡_, refl, sym, ap, _∙_}
+use native.Mathlib.Omega.{arith}
 use borrow.Author.Needs.{needs}
-use Rattle.bhtf.specs.Image.{layoutOf}
-use Rattle.bhtf.specs.Search.{Probe}
-use Rattle.bhtf.specs.Messages.{addedAt}
-use Rattle.bhtf.specs.Questions.{firstNo, pointAsks}
-use Rattle.bhtf.specs.Calls.{settled}
-use Rattle.table.proofs.Taken.{other-met, met-is, met-within}
+use Rattle.bhtf.specs.Bytes.{Bytes}
+use Rattle.bhtf.specs.Messages.{noted}
+use Rattle.bhtf.proofs.Opened.{opened-facts}
+use Rattle.bhtf.proofs.Outcomes.{settled-yes, settled-no}
 use Rattle.add.proofs.add_found.Statement.{statement}
 use Rattle.add.proofs.add_found.Tie as tie
 
-enum-known-found : tie.Need-enum-known-found
-enum-known-found c = search needs
-
-abbrev start-at-add-absent-arg : tie.After-add-absent-arg → tie.Start
-start-at-add-absent-arg c = c .before .before .before .before .before
-
-add-absent-requires : tie.Need-add-absent-requires
-add-absent-requires c κs =
-    let S = (start-at-add-absent-arg c) in
-    (S .pre .0, S .pre .1, S .pre .2, other-met (S .args .found) (c .before .match .keys2))
+put-found-requires : tie.Need-put-found-requires
+put-found-requires c κs = search needs
 
 same-length : tie.Need-same-length
 same-length c = search needs
 
+abbrev put-at-then1 : tie.Then1 → tie.After-put-found
+put-at-then1 c = c .before .before .before
+
+abbrev start-at-put : tie.After-put-found → tie.Start
+start-at-put c = c .before .before .before .before .before
+
 returns : tie.Need-returns
-returns c = c .before .before .add-absent .ensures
+returns c =
+    let P = put-at-then1 c .put-found in
+    let img = start-at-put (put-at-then1 c) .args .image .now in (
+      P .ensures .0,
+      P .ensures .1 ∙ settled-no (P .result) img _ (c .if1 .taken) ∙ sym (settled-no (P .result) img _ (c .if1 .taken)),
+    )
 
-abbrev start-at-add-present-arg : tie.After-add-present-arg → tie.Start
-start-at-add-present-arg c = c .before .before .before .before .before .before .before
-
-add-present-requires : tie.Need-add-present-requires
-add-present-requires c κs =
-    let S = (start-at-add-present-arg c) in
-    (S .pre .0, met-within (c .before .before .found .given .1) (S .pre .1), S .pre .2, S .pre .3)
+note-version-requires : tie.Need-note-version-requires
+note-version-requires c κs =
+    let S = start-at-put (c .before .before .before .before) in
+    omega (arith, opened-facts _ (S .pre .0 .accepted) .size-low)
 
 same-length-2 : tie.Need-same-length-2
 same-length-2 c = search needs
 
-abbrev shared-slice-known2-at-slice-known3 : tie.After-slice-known3 → tie.After-shared-slice-known2
-shared-slice-known2-at-slice-known3 c = c .before .before .before .before .before .before .before
-
-abbrev start-at-slice-known3 : tie.After-slice-known3 → tie.Start
-start-at-slice-known3 c = (shared-slice-known2-at-slice-known3 c) .before .before .before
-
-abbrev found-at-slice-known3 : tie.After-slice-known3 → tie.After-found
-found-at-slice-known3 c = c .before .before .before .before .before
+abbrev else1-at-slice-known3 : tie.After-slice-known3 → tie.Else1
+else1-at-slice-known3 c = c .before .before .before .before
 
 returns-2 : tie.Need-returns-2
 returns-2 c =
-    let A = (start-at-slice-known3 c) .args in
+    let E = else1-at-slice-known3 c in
+    let P = E .before .before .before .put-found in
+    let A = start-at-put (E .before .before .before) .args in
     let img = A .image .now in
-    let g = layoutOf img in
-    let p = c .before .before .add-present in
-    let is = sym (met-is ((found-at-slice-known3 c) .found .given .1)) in (
-      p .ensures .0 ∙ ap (λ (s : Probe). firstNo (pointAsks g img s (A .bytes .now) (A .mode))) is,
-      p .ensures .1 ∙ ap (λ (s : Probe). settled (p .result) img
-          (addedAt g img s (A .key .now) (A .bytes .now) (A .mode))) is,
+    let n = c .before .before .note-version in (
+      sym (E .if1 .left) ∙ P .ensures .0,
+      n .ensures
+          ∙ ap (noted (A .bytes .now) (A .mode)) (P .ensures .1 ∙ settled-yes (P .result) img _ (E .if1 .left))
+          ∙ sym (settled-yes 0 img _ refl),
     )
 
 pub add-found-spec : {M : Type 1} → statement M
 add-found-spec =
     tie.close
-    (tie.spec
-    enum-known-found
-    add-absent-requires
-    same-length
-    returns
-    add-present-requires
-    same-length-2
-    returns-2)
+    (tie.spec put-found-requires same-length returns note-version-requires same-length-2 returns-2)

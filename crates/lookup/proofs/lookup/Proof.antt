@@ -50,7 +50,8 @@ returns c =
     let P = c .before .before in
     let L = P .before in
     let A = L .before .before .before .args in
-    lookup-answer (A .image .now) (A .key .now) _ _ (L .locate .ensures .0)
+    lookup-answer (A .image .now) (A .key .now) _ _ _ (L .locate .ensures .0)
+    (P .at .ensures ∙ L .locate .ensures .1)
     (part-lent (A .image .now) (P .at .result) (L .locate .result .length)
     ∙ ap₂ (part (A .image .now)) (P .at .ensures ∙ L .locate .ensures .1) (L .locate .ensures .2))
 

@@ -13,7 +13,10 @@ use Rattle.bhtf.specs.Questions.{firstNo, pointAsks, messageSound, placeNumber}
 use Rattle.bhtf.specs.Calls.{settled}
 use Rattle.bhtf.proofs.Tests.{was-no, was-yes}
 use Rattle.bhtf.proofs.Outcomes.{settled-no, point-9, point-11, point-renewed}
-use Rattle.bhtf.proofs.Texts.{mode-three}
+use Rattle.bhtf.proofs.Texts.{mode-three, withdrawn-none, withdrawn-retired}
+use Rattle.layout.proofs.Shaped.{head-width}
+use Rattle.room.proofs.Rooms.{place-nothing}
+use Rattle.present.proofs.Shown.{head-fits}
 use Rattle.present.proofs.add_present.Statement.{statement}
 use Rattle.present.proofs.add_present.Tie as tie
 
@@ -128,44 +131,65 @@ returns-3 c =
     renewed (else2-at-slice-known2 c) 2 (done′ .result) (done′ .last .0) (then3-at-slice-known2 c .if3 .taken)
     (done′ .ensures .0) (done′ .ensures .1)
 
-abbrev else1-at-append-arg : tie.After-append-arg → tie.Else1
-else1-at-append-arg c = c .before .before .before .before .before .before .before
+-- ---- mode 4
 
-abbrev start-at-append-arg : tie.After-append-arg → tie.Start
-start-at-append-arg c = start-at-else1 (else1-at-append-arg c)
+abbrev else2-at-then4 : tie.Then4 → tie.Else2
+else2-at-then4 c = c .before .before
 
-append-requires : tie.Need-append-requires
-append-requires c κs =
-    let S = start-at-append-arg c in
-    (S .pre .0, S .pre .1, S .pre .2, sound (c .before .before))
+retire-requires : tie.Need-retire-requires
+retire-requires c κs =
+    let E = else2-at-then4 (c .before) in
+    let S = start-at-else2 E in
+    let o = E .before .before .before .offset-of .result .0 in
+    omega (arith, head-width (S .pre .0), head-fits (S .pre .0) o (sound E))
 
 same-length-3 : tie.Need-same-length-3
 same-length-3 c = search needs
 
-abbrev message-sound-arg-at-slice-known3 : tie.After-slice-known3 → tie.After-message-sound-arg
-message-sound-arg-at-slice-known3 c = c .before .before .before .before .before .before .before
-
-abbrev start-at-message-sound-arg : tie.After-message-sound-arg → tie.Start
-start-at-message-sound-arg c = c .before .before .before .before .before .before .before
-
-abbrev start-at-slice-known3 : tie.After-slice-known3 → tie.Start
-start-at-slice-known3 c = start-at-message-sound-arg (message-sound-arg-at-slice-known3 c)
-
-abbrev else2-at-slice-known3 : tie.After-slice-known3 → tie.Else2
-else2-at-slice-known3 c = c .before .before .before .before .before
-
-abbrev else1-at-slice-known3 : tie.After-slice-known3 → tie.Else1
-else1-at-slice-known3 c = message-sound-arg-at-slice-known3 c .before .before .before
-
-abbrev else3-at-slice-known3 : tie.After-slice-known3 → tie.Else3
-else3-at-slice-known3 c = c .before .before .before .before
+abbrev then4-at-slice-known3 : tie.After-slice-known3 → tie.Then4
+then4-at-slice-known3 c = c .before .before .before .before
 
 returns-4 : tie.Need-returns-4
 returns-4 c =
-    let S = start-at-slice-known3 c in
+    let T = then4-at-slice-known3 c in
+    let E = else2-at-then4 T in
+    let A = start-at-else2 E .args in
+    let img = A .image .now in
+    let g = layoutOf img in
+    let o = E .before .before .before .offset-of .result .0 in
+    let old = c .before .before .retire in
+    let done′ =
+    place-nothing g img (renewedText g img o (A .bytes .now) 4)
+    (renewedAt g img (A .slot .0) o (A .key .now) (A .bytes .now) 4)
+    (withdrawn-none g img (A .slot .0) o (A .key .now) (A .bytes .now)) (old .last .0)
+    (old .ensures ∙ sym (withdrawn-retired g img (A .slot .0) o (A .key .now) (A .bytes .now))) in
+    renewed E 4 0 (old .last .0) (T .if4 .taken) (done′ .0) (done′ .1)
+
+-- ---- mode 3
+
+abbrev else2-at-else4 : tie.Else4 → tie.Else2
+else2-at-else4 c = c .before .before
+
+append-requires : tie.Need-append-requires
+append-requires c κs =
+    let E = else2-at-else4 (c .before) in
+    let S = start-at-else2 E in
+    (S .pre .0, S .pre .1, S .pre .2, sound E)
+
+same-length-4 : tie.Need-same-length-4
+same-length-4 c = search needs
+
+abbrev else4-at-slice-known4 : tie.After-slice-known4 → tie.Else4
+else4-at-slice-known4 c = c .before .before .before .before
+
+returns-5 : tie.Need-returns-5
+returns-5 c =
+    let F = else4-at-slice-known4 c in
+    let E = else2-at-else4 F in
+    let S = start-at-else2 E in
     let done′ = c .before .before .append in
-    renewed (else2-at-slice-known3 c) 3 (done′ .result) (done′ .last .0)
-    (mode-three (S .args .mode) (S .pre .3) (else1-at-slice-known3 c .if1 .left) (else3-at-slice-known3 c .if3 .left))
+    renewed E 3 (done′ .result) (done′ .last .0)
+    (mode-three (S .args .mode) (S .pre .3) (else1-at-else2 E .if1 .left) (F .before .if3 .left) (F .if4 .left))
     (done′ .ensures .0) (done′ .ensures .1)
 
 pub add-present-spec : {M : Type 1} → statement M
@@ -180,6 +204,9 @@ add-present-spec =
     replace-requires
     same-length-2
     returns-3
-    append-requires
+    retire-requires
     same-length-3
-    returns-4)
+    returns-4
+    append-requires
+    same-length-4
+    returns-5)

@@ -7,7 +7,7 @@ use lib.ListN.{length}
 use borrow.Author.Needs.{needs}
 use Rattle.bhtf.specs.Bytes.{Bytes, part}
 use Rattle.bhtf.specs.Image.{layoutOf}
-use Rattle.bhtf.specs.Messages.{shown, relocated, renewedText, renewedAt}
+use Rattle.bhtf.specs.Messages.{shown, bytesOf, relocated, renewedText, renewedAt}
 use Rattle.bhtf.proofs.Opened.{opened-facts}
 use Rattle.bhtf.proofs.Texts.{appended-none, appended-some, appended-same, renewed-moved}
 use Rattle.room.proofs.Rooms.{place-nothing, place-refused, place-done}
@@ -59,7 +59,7 @@ room-number-requires c κs = search needs
 
 -- the text to be placed, and its length
 abbrev text : tie.Start → Bytes
-text S = shown (layoutOf (S .args .image .now)) (S .args .image .now) (S .args .o .0) ++ S .args .bytes .now
+text S = bytesOf (shown (layoutOf (S .args .image .now)) (S .args .image .now) (S .args .o .0)) ++ S .args .bytes .now
 
 abbrev start-at-shown-length : tie.After-shown-length → tie.Start
 start-at-shown-length c = c .before .before .before .before .before .before

@@ -1,0 +1,21 @@
+/* What the messages of a file take of its data, and of what kind they are. */
+#ifndef SPACE_H
+#define SPACE_H
+
+#include "header.h"
+#include "text.h"
+
+struct space {
+    uint64_t active;     /* bytes of active messages and their headers */
+    uint64_t withdrawn;  /* bytes of inactive ones that a point keeps */
+    uint32_t texts;      /* points with a text */
+    uint32_t empty;      /* of these: an empty one */
+    uint32_t bare;       /* points without one */
+    uint32_t bad;        /* points whose message is damaged */
+};
+
+/* Of an accepted file. If its slots are sound, what is used and not active is
+ * dead. */
+struct space space_measure(const struct buffer *copy, const struct header *h);
+
+#endif

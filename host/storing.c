@@ -1,0 +1,53 @@
+/* A point into an image, with a text, which may be empty, or with none.
+ *
+ * The library enters a name without a text where nothing is appended to it:
+ * empty data is a text in its other modes. */
+#include "storing.h"
+
+#include "bhtf.h"
+
+static uint32_t put(struct target to, const struct buffer *key,
+                    const struct piece *text, uint32_t mode,
+                    uint32_t *slots_read)
+{
+    return bhtf_add_slots(to.image, to.length, key->bytes, key->length,
+                          text == NULL ? NULL : text->bytes,
+                          text == NULL ? 0 : text->length, mode, slots_read);
+}
+
+/* Refuses what mode BHTF_NEW refuses before it looks at a text. */
+static uint32_t ask_new(struct target to, const struct buffer *key,
+                        uint32_t *slots_read)
+{
+    uint32_t offset, length;
+    uint32_t number = bhtf_lookup_slots(to.image, to.length, key->bytes,
+                                        key->length, &offset, &length,
+                                        slots_read);
+
+    if (number == BHTF_ACCEPTED || number == BHTF_DAMAGED)
+        return BHTF_PRESENT;
+    return number;
+}
+
+uint32_t store(struct target to, const struct buffer *key,
+               const struct piece *text, uint32_t mode, uint32_t *slots_read)
+{
+    uint32_t number = BHTF_ABSENT;
+
+    if (text != NULL || mode == BHTF_WITHDRAW)
+        return put(to, key, text, mode, slots_read);
+    if (mode == BHTF_REPLACE)
+        number = put(to, key, NULL, BHTF_WITHDRAW, slots_read);
+    else if (mode == BHTF_NEW)
+        number = ask_new(to, key, slots_read);
+    return number == BHTF_ABSENT
+        ? put(to, key, NULL, BHTF_APPEND, slots_read) : number;
+}
+
+void say_version(const char *file, uint8_t before, uint8_t now)
+{
+    if (now != before)
+        complain("%s: warning: with an empty text the file is of version "
+                 "1.0.%u; a station that knows 1.0.%u and no later one refuses "
+                 "it (5)", file, now, before);
+}

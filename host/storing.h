@@ -1,0 +1,24 @@
+/* A point into an image, with a text, which may be empty, or with none. */
+#ifndef STORING_H
+#define STORING_H
+
+#include "csv.h"
+
+/* Where points are put. */
+struct target {
+    uint8_t *image;
+    size_t length;
+};
+
+/* Stores a text, or none where it is NULL, in the mode of add that is given:
+ * the library's number. With none in its place, BHTF_REPLACE takes the text of
+ * a point that is there already; BHTF_WITHDRAW does that and nothing else. */
+uint32_t store(struct target to, const struct buffer *key,
+               const struct piece *text, uint32_t mode, uint32_t *slots_read);
+
+/* Says that an empty text took a file to another version than it had, if one
+ * did: those who do not know that one refuse the file. Of both, the last
+ * number. */
+void say_version(const char *file, uint8_t before, uint8_t now);
+
+#endif
