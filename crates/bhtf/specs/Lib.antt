@@ -11,3 +11,4 @@ pub mod Inspect
 pub mod Book
 pub mod Demand
 pub mod Reopened
+pub mod Compact
