@@ -16,7 +16,8 @@ use Rattle.bhtf.specs.Bytes.{Bytes}
 use Rattle.bhtf.specs.Limits.{pointsField}
 use Rattle.bhtf.specs.Image.{field, Layout, layoutOf}
 use Rattle.bhtf.specs.Search.{slotsRead}
-use Rattle.bhtf.specs.Calls.{Outcome, perform, Call, stateAfter}
+use Rattle.bhtf.specs.Calls.{Outcome}
+use Rattle.bhtf.specs.Lists.{perform, Call, stateAfter}
 use Rattle.bhtf.specs.Book.{Book, bookStep}
 use Rattle.bhtf.specs.Reopened.{bookOf, Starts}
 use Rattle.bhtf.specs.Inspect.{check, sound}

@@ -16,7 +16,8 @@ use lib.Dec.{eqb}
 use borrow.Author.Tests.{eq-eqb, ne-eqb, le-leb, lt-leb}
 use Rattle.bhtf.specs.Bytes.{Bytes}
 use Rattle.bhtf.specs.Questions.{Question, ask, firstNo, nameAllowed}
-use Rattle.bhtf.specs.Calls.{Outcome, plain, Call, adding, deleting, looking, counting}
+use Rattle.bhtf.specs.Calls.{Outcome, plain}
+use Rattle.bhtf.specs.Lists.{Call, adding, deleting, looking, counting}
 use Rattle.bhtf.specs.Book.{Entry, Book, find, stepOf, guarded, entered, placed, addAbsent, replace, append, addPresent, addFound, bookAdd, deleteFound, bookDelete, lookupFound, bookLookup, bookCount, bookStep}
 use Rattle.bhtf.specs.Demand.{bookText, textOf}
 use Rattle.bhtf.proofs.Tests.{by-bool, by-eq, by-le}

@@ -20,7 +20,8 @@ use Rattle.bhtf.specs.Image.{Layout, layoutOf}
 use Rattle.bhtf.specs.Search.{search, isMet}
 use Rattle.bhtf.specs.Questions.{nameAllowed, createNumber}
 use Rattle.bhtf.specs.Create.{slotsAsked, freshImage}
-use Rattle.bhtf.specs.Calls.{Answer, plain, create, lookup, Call, adding, deleting, looking, counting, perform, answers, stateAfter}
+use Rattle.bhtf.specs.Calls.{Answer, plain, create, lookup}
+use Rattle.bhtf.specs.Lists.{Call, adding, deleting, looking, counting, perform, answers, stateAfter}
 use Rattle.bhtf.specs.Book.{Book, newBook, bookStep}
 use Rattle.bhtf.specs.Demand.{fileText, textOf, bookText, termsOf, Agrees, Agreement}
 use Rattle.bhtf.specs.Reopened.{Starts, AgreementFrom}

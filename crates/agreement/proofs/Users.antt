@@ -18,7 +18,8 @@ use lib.ListN.{length}
 use Rattle.bhtf.specs.Bytes.{Bytes}
 use Rattle.bhtf.specs.Limits.{freeField}
 use Rattle.bhtf.specs.Image.{field}
-use Rattle.bhtf.specs.Calls.{Answer, Outcome, Call, adding, deleting, perform, stateAfter, add, delete, count}
+use Rattle.bhtf.specs.Calls.{Answer, Outcome, add, delete, count}
+use Rattle.bhtf.specs.Lists.{Call, adding, deleting, perform, stateAfter}
 use Rattle.bhtf.specs.Book.{Entry, Book, find, bookDelete, bookCount, bookStep}
 use Rattle.bhtf.specs.Demand.{fileText, bookText, textOf}
 use Rattle.agreement.proofs.Entries.{Distinct, find-without-same, length-without}

@@ -21,7 +21,8 @@ use Rattle.bhtf.specs.Search.{search, slotOf}
 use Rattle.bhtf.specs.Messages.{headSize, isActive, held, added}
 use Rattle.bhtf.specs.Delete.{deleted}
 use Rattle.bhtf.specs.Questions.{Question, ask, firstNo, sizeAllowed, keyAllowed, slotsAllowed, tableFits, versionKnown, headerSound, nameAllowed, createAsks, opened, addAsks, deleteAsks, lookupAsks, createNumber, openNumber, addNumber, deleteNumber, lookupNumber}
-use Rattle.bhtf.specs.Calls.{Call, adding, deleting, looking, counting, Outcome, plain, settled, create, add, delete, lookupOffset, lookupStart, lookupLength, lookup, countOf, count, perform}
+use Rattle.bhtf.specs.Calls.{Outcome, plain, settled, create, add, delete, lookupOffset, lookupStart, lookupLength, lookup, countOf, count}
+use Rattle.bhtf.specs.Lists.{Call, adding, deleting, looking, counting, perform}
 use Rattle.bhtf.specs.Inspect.{Stop, stopAt, nextTaken, keyWalk, Verdict, tableVerdict, check}
 
 -- ---- questions 1, 3 and 6 as they were

@@ -9,7 +9,8 @@ use lib.ListN.{length}
 use lib.Dec.{leb, ltb, eqb}
 use Rattle.bhtf.specs.Bytes.{Bytes, same}
 use Rattle.bhtf.specs.Questions.{Question, ask, firstNo, nameAllowed, named}
-use Rattle.bhtf.specs.Calls.{Outcome, plain, Call, adding, deleting, looking, counting}
+use Rattle.bhtf.specs.Calls.{Outcome, plain}
+use Rattle.bhtf.specs.Lists.{Call, adding, deleting, looking, counting}
 
 -- "entries (name, text, held)"
 pub record Entry : Type 0 where
