@@ -33,6 +33,7 @@ pub mod Sought  -- the questions that every call on a name puts first
 pub mod Outcomes  -- each call's number, case by case, and the image that it leaves
 -- ---- document 02
 pub mod OldLimits  -- an image within the old limits keeps every byte
+pub mod Packed  -- what stands in the image that a compaction leaves
 -- ---- cases, by computation
 pub mod CasesBase  -- what they compute with and look at
 pub mod Cases  -- document 01's proved table
