@@ -34,6 +34,7 @@ pub mod Outcomes  -- each call's number, case by case, and the image that it lea
 -- ---- document 02
 pub mod OldLimits  -- an image within the old limits keeps every byte
 pub mod Packed  -- what stands in the image that a compaction leaves
+pub mod Compacted  -- that image, byte by byte, and compacting twice
 -- ---- cases, by computation
 pub mod CasesBase  -- what they compute with and look at
 pub mod Cases  -- document 01's proved table

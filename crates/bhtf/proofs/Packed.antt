@@ -247,8 +247,10 @@ module _ (g : Layout) (img : Bytes) (ok : Packable g img) where
   unfolding packedOffset packedEnd packed
   packed-end o h =
       rw (begins-active g img o h)
-      (omega (arith,
-      length-parted o h (field img freeField) (omega (arith, begins-end o h, span-some g img o))))
+      (omega (
+        arith,
+        length-parted o h (field img freeField) (omega (arith, begins-end o h, span-some g img o)),
+      ))
 
   -- ---- where there is no gap, what is packed stands there already
 
