@@ -23,6 +23,7 @@ pub mod Add  -- add
 pub mod Fresh  -- create
 -- ---- lists of calls
 pub mod Checked  -- the check of a file with the invariant
+pub mod Compact  -- compaction keeps the invariant
 pub mod Reopened  -- the book read off a file
 pub mod Theorem  -- the theorem
 pub mod Reached  -- files that calls have reached

@@ -12,27 +12,26 @@ use Prim.Native.Nat.{ℕ, zero, suc, _+_, _-_, _*_, _≤_, _<_}
 use native.Mathlib.Nat.{zero-add, add-zero, suc-mul, mul-le-mul-right}
 use native.Mathlib.Omega.{arith}
 use mathlib.Core.Logic.{inl, inr}
-use mathlib.Core.Bool.{Bool, true, false, cond, not}
-use mathlib.Core.List.{[], _∷_, _++_}
+use mathlib.Core.Bool.{true, false, not}
+use mathlib.Core.List.{[], _++_}
 use lib.ListN.{length, take, drop, length-append, length-drop, take-append-drop}
 use lib.Seq.{take-all, take-at, drop-at, take-append-le, drop-append-le, drop-append-add}
 use lib.Dec.{eqb}
-use borrow.Author.Tests.{eqb-true, eqb-false, eq-eqb, ne-eqb, not-true}
+use borrow.Author.Tests.{eq-eqb, ne-eqb}
 use Rattle.bhtf.specs.Bytes.{Bytes, part, store, number, zeros, allZero}
 use Rattle.bhtf.specs.Limits.{word, active, pointsField, freeField, pageField, headerSize, tableStart}
-use Rattle.bhtf.specs.Image.{field, setField, lastPage, Layout, slotSize, slotStart, slot, keyOf, offsetOf, slotBytes, vacant}
+use Rattle.bhtf.specs.Image.{field, setField, Layout, slotSize, slotStart, slot, keyOf, offsetOf, slotBytes, vacant}
 use Rattle.bhtf.specs.Messages.{headSize, letterAt, lengthAt, textAt, isActive, setFree}
 use Rattle.bhtf.specs.Inspect.{taken}
 use Rattle.bhtf.specs.Compact.{beginsAt, packedBelow, packed, packedOffset, packedSlot, packedSlots, packedEnd, packedData, lowerFree, compacted}
-use Rattle.bhtf.proofs.Tests.{by-bool, by-eq, by-le, by-either, and-left, and-right, not-both}
-use Rattle.bhtf.proofs.Bytes.{part-length, part-add, part-part, Apart, length-store, part-store-inside, part-store-below, part-store-above, part-store-other, length-zeros}
-use Rattle.bhtf.proofs.Slots.{Room, slot-end, slot-above, length-slot, length-keyOf, length-entry, keyOf-entry, offsetOf-entry, slot-store-data, part-setField-other, field-setField-same, field-setField-other, length-setField}
+use Rattle.bhtf.proofs.Tests.{by-bool, by-eq, by-le, by-either, and-right}
+use Rattle.bhtf.proofs.Bytes.{part-length, part-add, part-part, Apart, length-store, part-store-inside, part-store-below, part-store-above, length-zeros}
+use Rattle.bhtf.proofs.Slots.{Room, slot-above, length-slot, length-keyOf, length-entry, keyOf-entry, offsetOf-entry, slot-store-data, part-setField-other, field-setField-same, field-setField-other, length-setField}
 use Rattle.bhtf.proofs.Total.{total-same}
 use Rattle.bhtf.proofs.Kept.{Kept, kept-trans, kept-store, kept-free, kept-page}
 use Rattle.bhtf.proofs.Table.{weigh, weight}
 use Rattle.bhtf.proofs.Stretch.{span}
-use Rattle.bhtf.proofs.Effects.{active-some}
-use Rattle.bhtf.proofs.Packed.{offsetAt, Shows, Packable, slot-begins, begins-active, begins-low, begins-end, end-fits, below-fits, length-parted, packed-at, packed-order, packed-end, span-some, tight-bytes, tight-at, activeSpan, packed-weight}
+use Rattle.bhtf.proofs.Packed.{offsetAt, Shows, Packable, slot-begins, begins-active, begins-end, end-fits, length-parted, packed-at, packed-order, packed-end, span-some, tight-bytes, tight-at, activeSpan, packed-weight}
 
 -- ---- bytes that stand elsewhere
 
@@ -400,7 +399,7 @@ module _ (g : Layout) (img : Bytes) (room : Room g (length img)) (ok : Packable 
 
   -- ---- the messages again
 
-  moved-low : (i : ℕ) → Shows g img i → g .D ≤ newAt i
+  pub moved-low : (i : ℕ) → Shows g img i → g .D ≤ newAt i
   moved-low i (l, t, a) = omega (arith, moved-active (offsetAt g img i) a)
 
   pub active-again : (i : ℕ) → i < N → taken g img i ≡ true

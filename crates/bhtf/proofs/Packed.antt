@@ -9,9 +9,8 @@ use mathlib.Core.Path.{_≡_, refl, sym, ap, ap₂, _∙_, subst}
 use Prim.Native.Nat.{ℕ, zero, suc, _+_, _-_, _≤_, _<_}
 use native.Mathlib.Nat.{zero-add, add-zero}
 use native.Mathlib.Omega.{arith}
-use mathlib.Core.Logic.{inl, inr}
 use mathlib.Core.Bool.{Bool, true, false, cond, not, _&&_}
-use mathlib.Core.List.{[], _∷_, _++_, append-assoc, append-nil}
+use mathlib.Core.List.{[], _++_, append-assoc, append-nil}
 use lib.ListN.{length, take, drop, length-append}
 use lib.Seq.{take-at, drop-at}
 use lib.Dec.{eqb}
@@ -19,10 +18,10 @@ use borrow.Author.Tests.{eqb-true, eq-eqb, ne-eqb, not-true}
 use Rattle.bhtf.specs.Bytes.{Bytes, part}
 use Rattle.bhtf.specs.Limits.{freeField}
 use Rattle.bhtf.specs.Image.{field, Layout, slot, offsetOf, vacant}
-use Rattle.bhtf.specs.Messages.{headSize, lengthAt, isActive}
+use Rattle.bhtf.specs.Messages.{headSize, isActive}
 use Rattle.bhtf.specs.Inspect.{taken, someBelow}
 use Rattle.bhtf.specs.Compact.{beginsAt, blockAt, packedFrom, packedBelow, packed, packedOffset, packedEnd}
-use Rattle.bhtf.proofs.Tests.{by-bool, by-eq, by-either, and-left, and-right, and-true, not-both}
+use Rattle.bhtf.proofs.Tests.{by-bool, by-either, and-left, and-right, and-true, not-both}
 use Rattle.bhtf.proofs.Bytes.{part-length, part-add, Apart}
 use Rattle.bhtf.proofs.Total.{total, total-same, total-change, total-const}
 use Rattle.bhtf.proofs.Table.{weigh, weight}
