@@ -32,6 +32,7 @@ pub mod Effects  -- the effects of a call, one by one
 pub mod Sought  -- the questions that every call on a name puts first
 pub mod Outcomes  -- each call's number, case by case, and the image that it leaves
 -- ---- document 02
+pub mod Packing  -- compaction: what is packed, and how far it reaches
 pub mod OldLimits  -- an image within the old limits keeps every byte
 pub mod Packed  -- what stands in the image that a compaction leaves
 pub mod Compacted  -- that image, byte by byte, and compacting twice
