@@ -4,7 +4,7 @@
 --     compacted-slot, compacted-key, compacted-offset       the table
 --     compacted-bytes, compacted-rest, compacted-gap        the data area, and the bytes below it that no rule names
 --     compacted-moved             an active message, header and text, at its new offset
---     compacted-packable, compacted-tight                   the messages again
+--     compacted-stretches, compacted-tight                   the messages again
 --     compacted-same, compacted-twice       where nothing is to be done; compacting twice is compacting once
 -- Assumes nothing.
 use mathlib.Core.Path.{_≡_, refl, sym, ap, ap₂, _∙_, subst}
@@ -31,7 +31,8 @@ use Rattle.bhtf.proofs.Total.{total-same}
 use Rattle.bhtf.proofs.Kept.{Kept, kept-trans, kept-store, kept-free, kept-page}
 use Rattle.bhtf.proofs.Table.{weigh, weight}
 use Rattle.bhtf.proofs.Stretch.{span}
-use Rattle.bhtf.proofs.Packed.{offsetAt, Shows, Packable, slot-begins, begins-active, begins-end, end-fits, length-parted, packed-at, packed-order, packed-end, span-some, tight-bytes, tight-at, activeSpan, packed-weight}
+use Rattle.bhtf.proofs.Packing.{startAt, Live, Stretches, live-begins}
+use Rattle.bhtf.proofs.Packed.{begins-active, begins-end, end-fits, length-parted, packed-at, packed-order, packed-end, span-some, tight-bytes, tight-at, activeSpan, packed-weight}
 
 -- ---- bytes that stand elsewhere
 
@@ -87,7 +88,7 @@ part-behind a c k m = ap (take m) (drop-append-add a c k)
 -- ---- a slot afterwards
 
 packedSlot-taken : (g : Layout) (img : Bytes) (i : ℕ) → taken g img i ≡ true
-    → packedSlot g img i ≡ slotBytes (keyOf g (slot g img i)) (packedOffset g img (offsetAt g img i))
+    → packedSlot g img i ≡ slotBytes (keyOf g (slot g img i)) (packedOffset g img (startAt g img i))
 unfolding packedSlot
 packedSlot-taken g img i t = rw t refl
 
@@ -101,7 +102,7 @@ packedOffset-none g img = refl
 
 -- ---- the image, in three steps
 
-module _ (g : Layout) (img : Bytes) (room : Room g (length img)) (ok : Packable g img) (small : length img < word) where
+module _ (g : Layout) (img : Bytes) (ok : Stretches g img) where
   abbrev N : ℕ
   N = g .N
 
@@ -110,7 +111,7 @@ module _ (g : Layout) (img : Bytes) (room : Room g (length img)) (ok : Packable 
   length-packedSlot : (i : ℕ) → i < N → length (packedSlot g img i) ≡ slotSize g
   unfolding packedSlot
   length-packedSlot i l =
-      let size = length-slot g img room i l in
+      let size = length-slot g img (ok .room) i l in
       by-bool (taken g img i)
       (λ t. rw t (length-entry g (keyOf g (slot g img i)) _ (length-keyOf g (slot g img i) size)))
       (λ t. rw t size)
@@ -119,7 +120,8 @@ module _ (g : Layout) (img : Bytes) (room : Room g (length img)) (ok : Packable 
   unfolding packedSlots
   length-packedSlots zero i l = omega arith
   length-packedSlots (suc left) i l =
-      let ih : length (packedSlots g img left (suc i)) ≡ left * slotSize g = length-packedSlots left (suc i) (omega arith) in
+      let ih : length (packedSlots g img left (suc i)) ≡ left * slotSize g
+      = length-packedSlots left (suc i) (omega arith) in
       length-append (packedSlot g img i) (packedSlots g img left (suc i))
       ∙ omega (arith, length-packedSlot i (omega arith), ih, suc-mul left (slotSize g))
 
@@ -140,7 +142,8 @@ module _ (g : Layout) (img : Bytes) (room : Room g (length img)) (ok : Packable 
       let ih : part (packedSlots g img left (suc i)) (k * slotSize g) (slotSize g) ≡ packedSlot g img (suc i + k)
       = part-packedSlots left (suc i) k (omega arith) (omega arith) in
       let size = length-packedSlot i (omega arith) in
-      let at : suc k * slotSize g ≡ length (packedSlot g img i) + k * slotSize g = omega (arith, suc-mul k (slotSize g)) in
+      let at : suc k * slotSize g ≡ length (packedSlot g img i) + k * slotSize g
+      = omega (arith, suc-mul k (slotSize g)) in
       let q : suc i + k ≡ i + suc k = omega arith in
       ap (λ (p : ℕ). part (packedSlot g img i ++ packedSlots g img left (suc i)) p (slotSize g)) at
       ∙ part-behind (packedSlot g img i) (packedSlots g img left (suc i)) (k * slotSize g) (slotSize g)
@@ -156,7 +159,7 @@ module _ (g : Layout) (img : Bytes) (room : Room g (length img)) (ok : Packable 
   tabled = store img tableStart slots
 
   tabled-in : tableStart + length slots ≤ length img
-  tabled-in = omega (arith, length-slots, room .table, room .area)
+  tabled-in = omega (arith, length-slots, ok .room .table, ok .room .area)
 
   tabled-length : length tabled ≡ length img
   tabled-length = length-store img tableStart slots tabled-in
@@ -183,18 +186,18 @@ module _ (g : Layout) (img : Bytes) (room : Room g (length img)) (ok : Packable 
   filled = store tabled (g .D) (packedData g img)
 
   filled-in : g .D + length (packedData g img) ≤ length tabled
-  filled-in = omega (arith, length-data, tabled-length, room .area)
+  filled-in = omega (arith, length-data, tabled-length, ok .room .area)
 
   filled-length : length filled ≡ length img
   filled-length = length-store tabled (g .D) (packedData g img) filled-in ∙ tabled-length
 
   header-in : headerSize ≤ length img
-  header-in = omega (arith, room .table, room .area)
+  header-in = omega (arith, ok .room .table, ok .room .area)
 
   -- bytes below the table, and from its end up to D
   filled-below : (q m : ℕ) → q + m ≤ tableStart → part filled q m ≡ part img q m
   filled-below q m h =
-      part-store-below tabled (g .D) (packedData g img) q m (omega (arith, filled-in)) (omega (arith, room .table))
+      part-store-below tabled (g .D) (packedData g img) q m (omega (arith, filled-in)) (omega (arith, ok .room .table))
       ∙ part-store-below img tableStart slots q m (omega (arith, tabled-in)) h
 
   filled-gap : (q m : ℕ) → tableStart + N * slotSize g ≤ q → q + m ≤ g .D → part filled q m ≡ part img q m
@@ -209,7 +212,7 @@ module _ (g : Layout) (img : Bytes) (room : Room g (length img)) (ok : Packable 
       unfold slot slotStart in
       part-store-inside img tableStart slots (i * slotSize g) (slotSize g) (omega (arith, tabled-in))
       (omega (arith, length-slots, suc-mul i (slotSize g))) in
-      slot-store-data g tabled (subst (λ (n : ℕ). Room g n) (sym tabled-length) room) (g .D) (packedData g img) i l
+      slot-store-data g tabled (subst (Room g) (sym tabled-length) (ok .room)) (g .D) (packedData g img) i l
       (omega arith) filled-in
       ∙ there
       ∙ part-packedSlots N 0 i l (omega arith)
@@ -258,7 +261,7 @@ module _ (g : Layout) (img : Bytes) (room : Room g (length img)) (ok : Packable 
   compacted-kept =
       let k : Kept img filled =
       kept-trans (kept-store img tableStart slots tabled-in (omega arith))
-      (kept-store tabled (g .D) (packedData g img) filled-in (omega (arith, room .table))) in
+      (kept-store tabled (g .D) (packedData g img) filled-in (omega (arith, ok .room .table))) in
       by-lower (λ (i : Bytes). Kept img i) (λ e. k)
       (λ n. unfold setFree in
       kept-trans k
@@ -277,7 +280,7 @@ module _ (g : Layout) (img : Bytes) (room : Room g (length img)) (ok : Packable 
       (field-setField-other (setField filled freeField end) pageField _ freeField (omega (arith, free-set, header-in))
       (inl (omega arith))
       ∙ field-setField-same filled freeField end (omega (arith, filled-length, header-in))
-      (omega (arith, end-low, small))))
+      (omega (arith, end-low, ok .small))))
 
   -- ---- the table
 
@@ -291,9 +294,10 @@ module _ (g : Layout) (img : Bytes) (room : Room g (length img)) (ok : Packable 
   compacted-key i l =
       ap (keyOf g) (compacted-slot i l)
       ∙ by-bool (taken g img i)
-      (λ t. unfold packedSlot in
-      rw t (keyOf-entry g (keyOf g (slot g img i)) _ (length-keyOf g (slot g img i) (length-slot g img room i l))))
-      (λ t. unfold packedSlot in rw t refl)
+      (λ t.
+      ap (keyOf g) (packedSlot-taken g img i t)
+      ∙ keyOf-entry g (keyOf g (slot g img i)) _ (length-keyOf g (slot g img i) (length-slot g img (ok .room) i l)))
+      (λ t. ap (keyOf g) (packedSlot-vacant g img i t))
 
   pub compacted-vacant : (i : ℕ) → i < N → vacant g (slot g (compacted g img) i) ≡ vacant g (slot g img i)
   unfolding vacant
@@ -305,7 +309,7 @@ module _ (g : Layout) (img : Bytes) (room : Room g (length img)) (ok : Packable 
 
   -- where slot i's message stands afterwards
   abbrev newAt : ℕ → ℕ
-  newAt i = packedOffset g img (offsetAt g img i)
+  newAt i = packedOffset g img (startAt g img i)
 
   moved-active : (o : ℕ) → isActive img o ≡ true → packedOffset g img o ≡ g .D + length (packedBelow g img o)
   unfolding packedOffset
@@ -317,27 +321,27 @@ module _ (g : Layout) (img : Bytes) (room : Room g (length img)) (ok : Packable 
 
   newAt-small : (i : ℕ) → i < N → taken g img i ≡ true → newAt i < word
   newAt-small i l t =
-      by-bool (isActive img (offsetAt g img i))
+      by-bool (isActive img (startAt g img i))
       (λ a.
-      let b = slot-begins g img i (l, t, a) in
-      omega (arith, packed-end g img ok (offsetAt g img i) b, end-low, small))
-      (λ a. rw (moved-inactive (offsetAt g img i) a) (omega arith))
+      let b = live-begins g img i (record { low = l; is = t; active = a }) in
+      omega (arith, packed-end g img ok (startAt g img i) b, end-low, ok .small))
+      (λ a. rw (moved-inactive (startAt g img i) a) (omega arith))
 
   pub compacted-entry : (i : ℕ) → i < N → taken g img i ≡ true
       → slot g (compacted g img) i ≡ slotBytes (keyOf g (slot g img i)) (newAt i)
   compacted-entry i l t = compacted-slot i l ∙ packedSlot-taken g img i t
 
-  pub compacted-offset : (i : ℕ) → i < N → taken g img i ≡ true → offsetAt g (compacted g img) i ≡ newAt i
+  pub compacted-offset : (i : ℕ) → i < N → taken g img i ≡ true → startAt g (compacted g img) i ≡ newAt i
   compacted-offset i l t =
       ap (offsetOf g) (compacted-entry i l t)
       ∙ offsetOf-entry g (keyOf g (slot g img i)) (newAt i)
-      (length-keyOf g (slot g img i) (length-slot g img room i l)) (newAt-small i l t)
+      (length-keyOf g (slot g img i) (length-slot g img (ok .room) i l)) (newAt-small i l t)
 
   -- ---- the data area
 
   pub compacted-bytes : (k m : ℕ) → k + m ≤ length img - g .D
       → part (compacted g img) (g .D + k) m ≡ part (packedData g img) k m
-  compacted-bytes k m h = other (g .D + k) m (inr (omega (arith, room .table))) ∙ filled-data k m h
+  compacted-bytes k m h = other (g .D + k) m (inr (omega (arith, ok .room .table))) ∙ filled-data k m h
 
   pub compacted-packed : part (compacted g img) (g .D) (length (packed g img)) ≡ packed g img
   compacted-packed =
@@ -389,7 +393,8 @@ module _ (g : Layout) (img : Bytes) (room : Room g (length img)) (ok : Packable 
           → part (compacted g img) (packedOffset g img o + k) m ≡ part img (o + k) m
       there k m h =
           let n = length (packedBelow g img o) in
-          let at : packedOffset g img o + k ≡ g .D + (n + k) = omega (arith, moved-active o (begins-active g img o b)) in
+          let at : packedOffset g img o + k ≡ g .D + (n + k)
+          = omega (arith, moved-active o (begins-active g img o b)) in
           ap (λ (p : ℕ). part (compacted g img) p m) at
           ∙ compacted-bytes (n + k) m (omega (arith, inside k m h, end-low, end-is))
           ∙ ahead k m h
@@ -399,62 +404,90 @@ module _ (g : Layout) (img : Bytes) (room : Room g (length img)) (ok : Packable 
 
   -- ---- the messages again
 
-  pub moved-low : (i : ℕ) → Shows g img i → g .D ≤ newAt i
-  moved-low i (l, t, a) = omega (arith, moved-active (offsetAt g img i) a)
+  pub moved-low : (i : ℕ) → Live g img i → g .D ≤ newAt i
+  moved-low i v = omega (arith, moved-active (startAt g img i) (v .active))
 
   pub active-again : (i : ℕ) → i < N → taken g img i ≡ true
-      → isActive (compacted g img) (newAt i) ≡ isActive img (offsetAt g img i)
+      → isActive (compacted g img) (newAt i) ≡ isActive img (startAt g img i)
   unfolding isActive
   active-again i l t =
-      let o = offsetAt g img i in
+      let o = startAt g img i in
       by-bool (isActive img o)
       (λ a.
-      let b = slot-begins g img i (l, t, a) in
-      let z : newAt i ≡ 0 → ⊥ = λ e. omega (arith, moved-low i (l, t, a), room .table) in
+      let v : Live g img i = record { low = l; is = t; active = a } in
+      let b = live-begins g img i v in
+      let z : newAt i ≡ 0 → ⊥ = λ e. omega (arith, moved-low i v, ok .room .table) in
       rw (ne-eqb (newAt i) 0 z, letterAt-moved g img o (compacted g img) (newAt i) (compacted-moved o b))
       (and-right (not (eqb o 0)) (eqb (letterAt img o) active) a)
       ∙ sym a)
       (λ a. ap (isActive (compacted g img)) (moved-inactive o a) ∙ sym a)
 
-  pub span-again : (i : ℕ) → Shows g img i → span g (compacted g img) (newAt i) ≡ span g img (offsetAt g img i)
+  pub span-again : (i : ℕ) → Live g img i → span g (compacted g img) (newAt i) ≡ span g img (startAt g img i)
   span-again i s =
-      span-moved g img (offsetAt g img i) (compacted g img) (newAt i)
-      (compacted-moved (offsetAt g img i) (slot-begins g img i s))
+      span-moved g img (startAt g img i) (compacted g img) (newAt i)
+      (compacted-moved (startAt g img i) (live-begins g img i s))
 
-  pub shows-before : (i : ℕ) → Shows g (compacted g img) i → Shows g img i
-  shows-before i (l, t, a) =
-      let t₀ = sym (compacted-taken i l) ∙ t in
-      (l, t₀, sym (active-again i l t₀) ∙ ap (isActive (compacted g img)) (sym (compacted-offset i l t₀)) ∙ a)
-
-  newAt-is : (i : ℕ) → Shows g img i → offsetAt g (compacted g img) i ≡ newAt i
-  newAt-is i (l, t, a) = compacted-offset i l t
-
-  newAt-apart : (i j : ℕ) → Shows g img i → Shows g img j → offsetAt g img i < offsetAt g img j
-      → newAt i + span g img (offsetAt g img i) ≤ newAt j
-  newAt-apart i j si sj l = packed-order g img ok _ _ (slot-begins g img i si) (slot-begins g img j sj) l
-
-  pub compacted-packable : Packable g (compacted g img)
-  compacted-packable =
+  pub live-before : (i : ℕ) → Live g (compacted g img) i → Live g img i
+  live-before i v =
+      let t = sym (compacted-taken i (v .low)) ∙ v .is in
       record {
+        low = v .low;
+        is = t;
+        active =
+            sym (active-again i (v .low) t)
+            ∙ ap (isActive (compacted g img)) (sym (compacted-offset i (v .low) t))
+            ∙ v .active;
+      }
+
+  newAt-is : (i : ℕ) → Live g img i → startAt g (compacted g img) i ≡ newAt i
+  newAt-is i v = compacted-offset i (v .low) (v .is)
+
+  newAt-apart : (i j : ℕ) → Live g img i → Live g img j → startAt g img i < startAt g img j
+      → newAt i + span g img (startAt g img i) ≤ newAt j
+  newAt-apart i j v w l = packed-order g img ok _ _ (live-begins g img i v) (live-begins g img j w) l
+
+  -- slots with different messages, by the order of their offsets
+  by-order {ℓ} : {A : Type ℓ} (i j : ℕ) → Live g img i → Live g img j
+      → (newAt i + span g img (startAt g img i) ≤ newAt j → A)
+      → (newAt j + span g img (startAt g img j) ≤ newAt i → A)
+      → (i ≡ j → A) → A
+  by-order i j v w less more same =
+      by-le (suc (startAt g img i)) (startAt g img j)
+      (λ l. less (newAt-apart i j v w l))
+      (λ l. by-eq (startAt g img i) (startAt g img j)
+      (λ e. same (ok .alone i j v w e))
+      (λ e. more (newAt-apart j i w v (omega arith))))
+
+  pub compacted-stretches : Stretches g (compacted g img)
+  compacted-stretches =
+      record {
+        room = subst (Room g) (sym compacted-length) (ok .room);
         free-low = rw compacted-free (omega (arith, end-is));
         free-high = rw (compacted-free, compacted-length) end-low;
-        low = λ i s. let s₀ = shows-before i s in rw (newAt-is i s₀) (moved-low i s₀);
-        end = λ i s.
-            let s₀ = shows-before i s in
-            rw (newAt-is i s₀, span-again i s₀, compacted-free)
-            (packed-end g img ok (offsetAt g img i) (slot-begins g img i s₀));
-        apart = λ i j si sj n.
-            let s = shows-before i si in
-            let t = shows-before j sj in
-            let o = offsetAt g img i in
-            let p = offsetAt g img j in
-            rw (newAt-is i s, newAt-is j t, span-again i s, span-again j t)
-            (by-le (suc o) p
-            (λ l. inl (newAt-apart i j s t l))
-            (λ l. by-eq o p
-            (λ e. absurd (by-either (ok .apart i j s t n)
-            (λ h. omega (arith, span-some g img o)) (λ h. omega (arith, span-some g img p))))
-            (λ e. inr (newAt-apart j i t s (omega arith)))));
+        small = rw compacted-length (ok .small);
+        head = ok .head;
+        low = λ i v. let v₀ = live-before i v in rw (newAt-is i v₀) (moved-low i v₀);
+        end = λ i v.
+            let v₀ = live-before i v in
+            rw (newAt-is i v₀, span-again i v₀, compacted-free)
+            (packed-end g img ok (startAt g img i) (live-begins g img i v₀));
+        apart = λ i j v w l.
+            let v₀ = live-before i v in
+            let w₀ = live-before j w in
+            let l₀ : newAt i < newAt j = omega (arith, newAt-is i v₀, newAt-is j w₀, l) in
+            rw (newAt-is i v₀, newAt-is j w₀, span-again i v₀)
+            (by-order i j v₀ w₀
+            (λ h. h)
+            (λ h. absurd (omega (arith, h)))
+            (λ e. absurd (omega (arith, ap newAt e))));
+        alone = λ i j v w e.
+            let v₀ = live-before i v in
+            let w₀ = live-before j w in
+            let e₀ : newAt i ≡ newAt j = sym (newAt-is i v₀) ∙ e ∙ newAt-is j w₀ in
+            by-order i j v₀ w₀
+            (λ h. absurd (omega (arith, h, span-some g img (startAt g img i))))
+            (λ h. absurd (omega (arith, h, span-some g img (startAt g img j))))
+            (λ q. q);
       }
 
   weight-again : weight g (compacted g img) (activeSpan g (compacted g img)) ≡ weight g img (activeSpan g img)
@@ -465,8 +498,10 @@ module _ (g : Layout) (img : Bytes) (room : Room g (length img)) (ok : Packable 
       (λ v. rw (compacted-vacant i l, v) refl)
       (λ v.
       let t : taken g img i ≡ true = unfold taken in ap not v in
-      by-bool (isActive img (offsetAt g img i))
-      (λ a. rw (compacted-vacant i l, v, compacted-offset i l t, active-again i l t, a) (span-again i (l, t, a)))
+      by-bool (isActive img (startAt g img i))
+      (λ a.
+      rw (compacted-vacant i l, v, compacted-offset i l t, active-again i l t, a)
+      (span-again i (record { low = l; is = t; active = a })))
       (λ a. rw (compacted-vacant i l, v, compacted-offset i l t, active-again i l t, a) refl)))
 
   -- X is where the messages end
@@ -474,95 +509,95 @@ module _ (g : Layout) (img : Bytes) (room : Room g (length img)) (ok : Packable 
   unfolding packedEnd
   compacted-tight =
       ap (λ (n : ℕ). g .D + n)
-      (packed-weight g (compacted g img) compacted-packable ∙ weight-again ∙ sym (packed-weight g img ok))
+      (packed-weight g (compacted g img) compacted-stretches ∙ weight-again ∙ sym (packed-weight g img ok))
       ∙ sym compacted-free
 
 -- ---- where nothing is to be done
 
-module _ (g : Layout) (img : Bytes) (room : Room g (length img)) (ok : Packable g img) (small : length img < word)
-    (tight : packedEnd g img ≡ field img freeField)
-    (slots : (i : ℕ) → i < g .N → packedSlot g img i ≡ slot g img i)
-    (clear : part img (field img freeField) (length img - field img freeField) ≡ zeros (length img - field img freeField))
-  where
-    same-slots : (left i : ℕ) → i + left ≤ g .N → packedSlots g img left i ≡ part img (slotStart g i) (left * slotSize g)
-    unfolding packedSlots
-    same-slots zero i l = sym (part-none img (slotStart g i) (zero * slotSize g) (omega arith))
-    same-slots (suc left) i l =
-        let ih : packedSlots g img left (suc i) ≡ part img (slotStart g (suc i)) (left * slotSize g)
-        = same-slots left (suc i) (omega arith) in
-        let at : slotStart g (suc i) ≡ slotStart g i + slotSize g = unfold slotStart in omega (arith, suc-mul i (slotSize g)) in
-        let two : slotSize g + left * slotSize g ≡ suc left * slotSize g = omega (arith, suc-mul left (slotSize g)) in
-        let s : slot g img i ≡ part img (slotStart g i) (slotSize g) = unfold slot in refl in
-        ap₂ _++_ (slots i (omega arith) ∙ s) (ih ∙ ap (λ (p : ℕ). part img p (left * slotSize g)) at)
-        ∙ sym (part-add img (slotStart g i) (slotSize g) (left * slotSize g))
-        ∙ ap (part img (slotStart g i)) two
+-- every byte from X on is zero
+abbrev pub Clear : Bytes → Type 0
+Clear img =
+    part img (field img freeField) (length img - field img freeField) ≡ zeros (length img - field img freeField)
 
-    same-table : store img tableStart (packedSlots g img (g .N) 0) ≡ img
-    same-table =
-        let at : slotStart g 0 ≡ tableStart = unfold slotStart in omega arith in
-        ap (store img tableStart)
-        (same-slots (g .N) 0 (omega arith) ∙ ap (λ (p : ℕ). part img p (g .N * slotSize g)) at)
-        ∙ store-part img tableStart (g .N * slotSize g) (omega (arith, room .table, room .area))
+module _ (g : Layout) (img : Bytes) (ok : Stretches g img) (tight : packedEnd g img ≡ field img freeField)
+    (slots : (i : ℕ) → i < g .N → packedSlot g img i ≡ slot g img i) (clear : Clear img) where
+  same-slots : (left i : ℕ) → i + left ≤ g .N
+      → packedSlots g img left i ≡ part img (slotStart g i) (left * slotSize g)
+  unfolding packedSlots
+  same-slots zero i l = sym (part-none img (slotStart g i) (zero * slotSize g) (omega arith))
+  same-slots (suc left) i l =
+      let ih : packedSlots g img left (suc i) ≡ part img (slotStart g (suc i)) (left * slotSize g)
+      = same-slots left (suc i) (omega arith) in
+      let at : slotStart g (suc i) ≡ slotStart g i + slotSize g
+      = unfold slotStart in omega (arith, suc-mul i (slotSize g)) in
+      let two : slotSize g + left * slotSize g ≡ suc left * slotSize g = omega (arith, suc-mul left (slotSize g)) in
+      let s : slot g img i ≡ part img (slotStart g i) (slotSize g) = unfold slot in refl in
+      ap₂ _++_ (slots i (omega arith) ∙ s) (ih ∙ ap (λ (p : ℕ). part img p (left * slotSize g)) at)
+      ∙ sym (part-add img (slotStart g i) (slotSize g) (left * slotSize g))
+      ∙ ap (part img (slotStart g i)) two
 
-    same-data : packedData g img ≡ part img (g .D) (length img - g .D)
-    unfolding packedData
-    same-data =
-        let X = field img freeField in
-        let at : g .D + (X - g .D) ≡ X = omega (arith, ok .free-low) in
-        let all : (X - g .D) + (length img - X) ≡ length img - g .D = omega (arith, ok .free-low, ok .free-high) in
-        ap₂ _++_ (tight-bytes g img ok tight)
-        (ap (λ (x : ℕ). zeros (length img - x)) tight ∙ sym clear
-        ∙ ap (λ (p : ℕ). part img p (length img - X)) (sym at))
-        ∙ sym (part-add img (g .D) (X - g .D) (length img - X))
-        ∙ ap (part img (g .D)) all
+  same-table : store img tableStart (packedSlots g img (g .N) 0) ≡ img
+  same-table =
+      let at : slotStart g 0 ≡ tableStart = unfold slotStart in omega arith in
+      ap (store img tableStart)
+      (same-slots (g .N) 0 (omega arith) ∙ ap (λ (p : ℕ). part img p (g .N * slotSize g)) at)
+      ∙ store-part img tableStart (g .N * slotSize g) (omega (arith, ok .room .table, ok .room .area))
 
-    pub compacted-same : compacted g img ≡ img
-    unfolding compacted lowerFree
-    compacted-same =
-        let filled-same : store (store img tableStart (packedSlots g img (g .N) 0)) (g .D) (packedData g img) ≡ img =
-        ap₂ (λ (i d : Bytes). store i (g .D) d) same-table same-data
-        ∙ store-part img (g .D) (length img - g .D) (omega (arith, room .area)) in
-        rw (filled-same, eq-eqb (field img freeField) (packedEnd g img) (sym tight)) refl
+  same-data : packedData g img ≡ part img (g .D) (length img - g .D)
+  unfolding packedData
+  same-data =
+      let X = field img freeField in
+      let at : g .D + (X - g .D) ≡ X = omega (arith, ok .free-low) in
+      let all : (X - g .D) + (length img - X) ≡ length img - g .D = omega (arith, ok .free-low, ok .free-high) in
+      ap₂ _++_ (tight-bytes g img ok tight)
+      (ap (λ (x : ℕ). zeros (length img - x)) tight ∙ sym clear
+      ∙ ap (λ (p : ℕ). part img p (length img - X)) (sym at))
+      ∙ sym (part-add img (g .D) (X - g .D) (length img - X))
+      ∙ ap (part img (g .D)) all
+
+  pub compacted-same : compacted g img ≡ img
+  unfolding compacted lowerFree
+  compacted-same =
+      let filled-same : store (store img tableStart (packedSlots g img (g .N) 0)) (g .D) (packedData g img) ≡ img =
+      ap₂ (λ (i d : Bytes). store i (g .D) d) same-table same-data
+      ∙ store-part img (g .D) (length img - g .D) (omega (arith, ok .room .area)) in
+      rw (filled-same, eq-eqb (field img freeField) (packedEnd g img) (sym tight)) refl
 
 -- ---- twice
 
-module _ (g : Layout) (img : Bytes) (room : Room g (length img)) (ok : Packable g img) (small : length img < word) where
+module _ (g : Layout) (img : Bytes) (ok : Stretches g img) where
   abbrev img′ : Bytes
   img′ = compacted g img
 
-  room′ : Room g (length img′)
-  room′ = subst (λ (n : ℕ). Room g n) (sym (compacted-length g img room ok small)) room
-
-  ok′ : Packable g img′
-  ok′ = compacted-packable g img room ok small
+  ok′ : Stretches g img′
+  ok′ = compacted-stretches g img ok
 
   -- an offset stays where it is
   offset-stays : (i : ℕ) → i < g .N → taken g img i ≡ true
-      → packedOffset g img′ (offsetAt g img′ i) ≡ packedOffset g img (offsetAt g img i)
+      → packedOffset g img′ (startAt g img′ i) ≡ packedOffset g img (startAt g img i)
   offset-stays i l t =
-      let o = offsetAt g img i in
-      let is = compacted-offset g img room ok small i l t in
-      let again = active-again g img room ok small i l t in
+      let o = startAt g img i in
+      let is = compacted-offset g img ok i l t in
+      let again = active-again g img ok i l t in
       by-bool (isActive img o)
       (λ a.
-      let s : Shows g img′ i =
-      (l, compacted-taken g img room ok small i l ∙ t, ap (isActive img′) is ∙ again ∙ a) in
-      tight-at g img′ ok′ (compacted-tight g img room ok small) (offsetAt g img′ i) (slot-begins g img′ i s) ∙ is)
+      let s : Live g img′ i =
+      record { low = l; is = compacted-taken g img ok i l ∙ t; active = ap (isActive img′) is ∙ again ∙ a } in
+      tight-at g img′ ok′ (compacted-tight g img ok) (startAt g img′ i) (live-begins g img′ i s) ∙ is)
       (λ a.
-      let z = moved-inactive g img room ok small o a in
+      let z = moved-inactive g img ok o a in
       ap (packedOffset g img′) (is ∙ z) ∙ packedOffset-none g img′ ∙ sym z)
 
   slot-stays : (i : ℕ) → i < g .N → packedSlot g img′ i ≡ slot g img′ i
   slot-stays i l =
       by-bool (taken g img i)
       (λ t.
-      packedSlot-taken g img′ i (compacted-taken g img room ok small i l ∙ t)
-      ∙ ap₂ slotBytes (compacted-key g img room ok small i l) (offset-stays i l t)
-      ∙ sym (compacted-entry g img room ok small i l t))
-      (λ t. packedSlot-vacant g img′ i (compacted-taken g img room ok small i l ∙ t))
+      packedSlot-taken g img′ i (compacted-taken g img ok i l ∙ t)
+      ∙ ap₂ slotBytes (compacted-key g img ok i l) (offset-stays i l t)
+      ∙ sym (compacted-entry g img ok i l t))
+      (λ t. packedSlot-vacant g img′ i (compacted-taken g img ok i l ∙ t))
 
   pub compacted-twice : compacted g img′ ≡ img′
   compacted-twice =
-      compacted-same g img′ room′ ok′ (rw (compacted-length g img room ok small) small)
-      (compacted-tight g img room ok small) slot-stays
-      (rw (compacted-free g img room ok small, compacted-length g img room ok small) (compacted-rest g img room ok small))
+      compacted-same g img′ ok′ (compacted-tight g img ok) slot-stays
+      (rw (compacted-free g img ok, compacted-length g img ok) (compacted-rest g img ok))

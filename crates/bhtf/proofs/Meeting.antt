@@ -1,5 +1,5 @@
 -- Stretches of slots, and whether they meet.
---     some-yes, some-which, some-no, some-all      the test over the numbers below n
+--     some-which, some-no, some-all      the test over the numbers below n
 --     vacant-apart       a slot that is not taken meets none
 --     apart-meets, meets-apart      two stretches meet exactly where they are not apart
 -- Assumes nothing.
@@ -19,15 +19,6 @@ use Rattle.bhtf.proofs.Bytes.{Apart}
 use Rattle.bhtf.proofs.Stretch.{span}
 
 -- ---- a test over the numbers below n
-
-pub some-yes : (p : ℕ → Bool) (n k : ℕ) → k < n → p k ≡ true → someBelow p n ≡ true
-unfolding someBelow
-some-yes p zero k l h = absurd (omega arith)
-some-yes p (suc n) k l h =
-    let ih : k < n → someBelow p n ≡ true = λ l′. some-yes p n k l′ h in
-    by-eq k n
-    (λ e. ap (λ (b : Bool). b || someBelow p n) (ap p (sym e) ∙ h))
-    (λ e. or-right (p n) (someBelow p n) (ih (omega arith)))
 
 pub some-which : (p : ℕ → Bool) (n : ℕ) → someBelow p n ≡ true → (k : ℕ) × (k < n) × (p k ≡ true)
 unfolding someBelow

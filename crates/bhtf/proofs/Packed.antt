@@ -1,7 +1,5 @@
 -- Document 02, Job 2: what stands in the image that a compaction leaves.
---     Packable g img        active messages of taken slots lie in the data area and have no byte in common
---     begins-..             where such a message begins
---     packed-fits           those that begin and end between two places pack into what lies between
+--     packed-between        those that begin and end between two places pack into what lies between
 --     packed-at             where a message stands among those packed; packed-order: one behind the other
 --     packed-weight         how many bytes they have
 -- Assumes nothing.
@@ -9,6 +7,7 @@ use mathlib.Core.Path.{_≡_, refl, sym, ap, ap₂, _∙_, subst}
 use Prim.Native.Nat.{ℕ, zero, suc, _+_, _-_, _≤_, _<_}
 use native.Mathlib.Nat.{zero-add, add-zero}
 use native.Mathlib.Omega.{arith}
+use mathlib.Core.Logic.{inl, inr}
 use mathlib.Core.Bool.{Bool, true, false, cond, not, _&&_}
 use mathlib.Core.List.{[], _++_, append-assoc, append-nil}
 use lib.ListN.{length, take, drop, length-append}
@@ -21,46 +20,20 @@ use Rattle.bhtf.specs.Image.{field, Layout, slot, offsetOf, vacant}
 use Rattle.bhtf.specs.Messages.{headSize, isActive}
 use Rattle.bhtf.specs.Inspect.{taken, someBelow}
 use Rattle.bhtf.specs.Compact.{beginsAt, blockAt, packedFrom, packedBelow, packed, packedOffset, packedEnd}
-use Rattle.bhtf.proofs.Tests.{by-bool, by-either, and-left, and-right, and-true, not-both}
+use Rattle.bhtf.proofs.Tests.{by-bool, by-le, by-eq, and-left, and-right, and-true, not-both}
 use Rattle.bhtf.proofs.Bytes.{part-length, part-add, Apart}
 use Rattle.bhtf.proofs.Total.{total, total-same, total-change, total-const}
 use Rattle.bhtf.proofs.Table.{weigh, weight}
-use Rattle.bhtf.proofs.Meeting.{some-yes, some-which}
+use Rattle.bhtf.proofs.Meeting.{some-which}
 use Rattle.bhtf.proofs.Stretch.{span}
-
--- ---- where a message begins
+use Rattle.bhtf.proofs.Packing.{startAt, Live, Stretches, begins-live}
 
 module _ (g : Layout) (img : Bytes) where
-  -- slot i's message offset
-  abbrev pub offsetAt : ℕ → ℕ
-  offsetAt i = offsetOf g (slot g img i)
-
-  -- a taken slot with an active message
-  abbrev pub Shows : ℕ → Type 0
-  Shows i = (i < g .N) × (taken g img i ≡ true) × (isActive img (offsetAt i) ≡ true)
+  -- ---- their bytes, where one begins and where none does
 
   pub begins-active : (p : ℕ) → beginsAt g img p ≡ true → isActive img p ≡ true
   unfolding beginsAt
   begins-active p h = and-left (isActive img p) _ h
-
-  pub begins-slot : (p : ℕ) → beginsAt g img p ≡ true
-      → (i : ℕ) × (i < g .N) × (taken g img i ≡ true) × (offsetAt i ≡ p)
-  unfolding beginsAt
-  begins-slot p h =
-      let w = some-which _ (g .N) (and-right (isActive img p) _ h) in (
-        w .0,
-        w .1,
-        and-left (taken g img (w .0)) _ (w .2),
-        eqb-true (offsetAt (w .0)) p (and-right (taken g img (w .0)) _ (w .2)),
-      )
-
-  pub slot-begins : (i : ℕ) → Shows i → beginsAt g img (offsetAt i) ≡ true
-  unfolding beginsAt
-  slot-begins i (l, t, a) =
-      and-true (isActive img (offsetAt i)) _ a
-      (some-yes _ (g .N) i l (and-true (taken g img i) _ t (eq-eqb (offsetAt i) (offsetAt i) refl)))
-
-  -- ---- their bytes
 
   pub block-yes : (p : ℕ) → beginsAt g img p ≡ true → blockAt g img p ≡ part img p (span g img p)
   unfolding blockAt
@@ -95,7 +68,8 @@ module _ (g : Layout) (img : Bytes) where
       ∙ ap (λ (k : ℕ). packedFrom g img (q - g .D) (g .D) ++ packedFrom g img (r - q) k) m
 
   -- a message, and those behind it
-  pub from-here : (p r : ℕ) → p < r → packedFrom g img (r - p) p ≡ blockAt g img p ++ packedFrom g img (r - suc p) (suc p)
+  pub from-here : (p r : ℕ) → p < r
+      → packedFrom g img (r - p) p ≡ blockAt g img p ++ packedFrom g img (r - suc p) (suc p)
   from-here p r l =
       let n : r - p ≡ suc (r - suc p) = omega arith in
       ap (λ (k : ℕ). packedFrom g img k p) n ∙ (unfold packedFrom in refl)
@@ -105,47 +79,41 @@ module _ (g : Layout) (img : Bytes) where
   below-here p r lo l =
       below-split p r lo (omega arith) ∙ ap (λ (x : Bytes). packedBelow g img p ++ x) (from-here p r l)
 
--- ---- messages that lie in the data area, apart from each other
-
-pub record Packable (g : Layout) (img : Bytes) : Type 0 where
-  pub free-low : g .D ≤ field img freeField
-  pub free-high : field img freeField ≤ length img
-  pub low : (i : ℕ) → Shows g img i → g .D ≤ offsetAt g img i
-  pub end : (i : ℕ) → Shows g img i → offsetAt g img i + span g img (offsetAt g img i) ≤ field img freeField
-  pub apart : (i j : ℕ) → Shows g img i → Shows g img j → (i ≡ j → ⊥)
-      → Apart (offsetAt g img i) (span g img (offsetAt g img i)) (offsetAt g img j) (span g img (offsetAt g img j))
+-- ---- messages that lie in the data area, each by itself
 
 -- a message has a header
 pub span-some : (g : Layout) (img : Bytes) (o : ℕ) → 1 ≤ span g img o
 unfolding headSize
 span-some g img o = omega arith
 
-module _ (g : Layout) (img : Bytes) (ok : Packable g img) where
+module _ (g : Layout) (img : Bytes) (ok : Stretches g img) where
   abbrev Begins : ℕ → Type 0
   Begins p = beginsAt g img p ≡ true
 
-  by-begins {ℓ} : {A : Type ℓ} (p : ℕ) → Begins p → ((i : ℕ) → Shows g img i → offsetAt g img i ≡ p → A) → A
-  by-begins p h f =
-      let w = begins-slot g img p h in
-      f (w .0) (w .1, w .2, ap (isActive img) (w .3) ∙ begins-active g img p h) (w .3)
-
   pub begins-low : (p : ℕ) → Begins p → g .D ≤ p
-  begins-low p h = by-begins p h (λ i s e. omega (arith, ok .low i s))
+  begins-low p h = let w = begins-live g img p h in omega (arith, ok .low (w .0) (w .1), w .2)
 
   pub begins-end : (p : ℕ) → Begins p → p + span g img p ≤ field img freeField
   begins-end p h =
-      by-begins p h
-      (λ i s e. subst (λ (o : ℕ). o + span g img o ≤ field img freeField) e (ok .end i s))
+      let w = begins-live g img p h in
+      subst (λ (o : ℕ). o + span g img o ≤ field img freeField) (w .2) (ok .end (w .0) (w .1))
 
   pub begins-apart : (p q : ℕ) → Begins p → Begins q → p < q → p + span g img p ≤ q
   begins-apart p q h k l =
-      by-begins p h (λ i si ei. by-begins q k (λ j sj ej.
-      by-either
-      (subst (λ (o : ℕ). Apart o (span g img o) q (span g img q)) ei
-      (subst (λ (o : ℕ). Apart (offsetAt g img i) (span g img (offsetAt g img i)) o (span g img o)) ej
-      (ok .apart i j si sj (λ e. omega (arith, ap (offsetAt g img) e)))))
-      (λ a. a)
-      (λ a. absurd (omega (arith, span-some g img q)))))
+      let v = begins-live g img p h in
+      let w = begins-live g img q k in
+      let a = ok .apart (v .0) (w .0) (v .1) (w .1) (omega (arith, v .2, w .2)) in
+      subst (λ (o : ℕ). o + span g img o ≤ q) (v .2) (omega (arith, a, w .2))
+
+  -- messages of different slots have no byte in common
+  pub live-apart : (i j : ℕ) → Live g img i → Live g img j → (i ≡ j → ⊥)
+      → Apart (startAt g img i) (span g img (startAt g img i)) (startAt g img j) (span g img (startAt g img j))
+  live-apart i j v w n =
+      by-le (suc (startAt g img i)) (startAt g img j)
+      (λ l. inl (ok .apart i j v w l))
+      (λ l. by-eq (startAt g img i) (startAt g img j)
+      (λ e. absurd (n (ok .alone i j v w e)))
+      (λ e. inr (ok .apart j i w v (omega arith))))
 
   pub length-block : (p : ℕ) → Begins p → length (blockAt g img p) ≡ span g img p
   length-block p h =
@@ -180,30 +148,30 @@ module _ (g : Layout) (img : Bytes) (ok : Packable g img) where
       ∙ ap (λ (m : ℕ). m + length (packedFrom g img n (suc p))) (length-block p h)
 
   -- they pack into what lies between
-  pub packed-fits : (n p r q : ℕ) → r ≤ q → Between n p r q → r + length (packedFrom g img n p) ≤ q
-  packed-fits zero p r q l b = unfold packedFrom in omega arith
-  packed-fits (suc n) p r q l b =
+  pub packed-between : (n p r q : ℕ) → r ≤ q → Between n p r q → r + length (packedFrom g img n p) ≤ q
+  packed-between zero p r q l b = unfold packedFrom in omega arith
+  packed-between (suc n) p r q l b =
       by-bool (beginsAt g img p)
       (λ h.
       let here = b p (omega arith) (omega arith) h in
-      let ih = packed-fits n (suc p) (p + span g img p) q (here .1) (between-on n p r q h b) in
+      let ih = packed-between n (suc p) (p + span g img p) q (here .1) (between-on n p r q h b) in
       omega (arith, length-yes n p h, ih, here .0))
       (λ h.
-      let ih = packed-fits n (suc p) r q l (between-skip n p r q b) in
+      let ih = packed-between n (suc p) r q l (between-skip n p r q b) in
       omega (arith, ap length (from-no n p h), ih))
 
   -- what is packed below a message ends at most where it begins
   pub below-fits : (q : ℕ) → Begins q → g .D + length (packedBelow g img q) ≤ q
   unfolding packedBelow
   below-fits q h =
-      packed-fits (q - g .D) (g .D) (g .D) q (begins-low q h)
+      packed-between (q - g .D) (g .D) (g .D) q (begins-low q h)
       (λ k lo hi hk. (lo, begins-apart k q hk h (omega (arith, begins-low q h))))
 
   -- X does not grow
   pub end-fits : packedEnd g img ≤ field img freeField
   unfolding packedEnd packed packedBelow
   end-fits =
-      packed-fits (field img freeField - g .D) (g .D) (g .D) (field img freeField) (ok .free-low)
+      packed-between (field img freeField - g .D) (g .D) (g .D) (field img freeField) (ok .free-low)
       (λ k lo hi hk. (lo, begins-end k hk))
 
   -- ---- where a message stands among those packed
@@ -269,7 +237,7 @@ module _ (g : Layout) (img : Bytes) (ok : Packable g img) where
       by-bool (beginsAt g img p)
       (λ h.
       let here = b p (omega arith) (omega arith) h in
-      let fits = packed-fits n (suc p) (p + span g img p) q (here .1) (between-on n p r q h b) in
+      let fits = packed-between n (suc p) (p + span g img p) q (here .1) (between-on n p r q h b) in
       let at : p ≡ r = omega (arith, length-yes n p h, fits, here .0) in
       let two : q - r ≡ span g img p + (q - (p + span g img p)) = omega (arith, here .1) in
       from-yes n p h
@@ -292,7 +260,7 @@ module _ (g : Layout) (img : Bytes) (ok : Packable g img) where
         let X = field img freeField in
         let l : o < X = omega (arith, begins-end o h, span-some g img o) in
         let behind =
-        packed-fits (X - suc o) (suc o) (o + span g img o) X (begins-end o h)
+        packed-between (X - suc o) (suc o) (o + span g img o) X (begins-end o h)
         (λ k lo hi hk. (begins-apart o k h hk (omega arith), begins-end k hk)) in
         rw (begins-active g img o h) (omega (arith, length-parted o h X l, behind, below-fits o h, tight))
 
@@ -315,9 +283,9 @@ length-from g img (suc n) p =
     ∙ length-append (packedFrom g img n p) (blockAt g img (p + n) ++ [])
     ∙ ap₂ _+_ ih (ap length (append-nil (blockAt g img (p + n))))
 
-module _ (g : Layout) (img : Bytes) (ok : Packable g img) where
+module _ (g : Layout) (img : Bytes) (ok : Stretches g img) where
   abbrev here? : ℕ → ℕ → Bool
-  here? p i = taken g img i && eqb (offsetAt g img i) p
+  here? p i = taken g img i && eqb (startAt g img i) p
 
   -- the bytes of the message at p, if it is one of the first n slots'
   abbrev sized : ℕ → ℕ → ℕ
@@ -338,40 +306,42 @@ module _ (g : Layout) (img : Bytes) (ok : Packable g img) where
   sized-inactive : (n p : ℕ) → isActive img p ≡ false → sized n p ≡ 0
   sized-inactive n p e = rw e refl
 
-  sized-here : (n : ℕ) → Shows g img n → sized (suc n) (offsetAt g img n) ≡ span g img (offsetAt g img n)
+  sized-here : (n : ℕ) → Live g img n → sized (suc n) (startAt g img n) ≡ span g img (startAt g img n)
   unfolding someBelow
-  sized-here n (l, t, a) = rw (a, t, eq-eqb (offsetAt g img n) (offsetAt g img n) refl) refl
+  sized-here n v = rw (v .active, v .is, eq-eqb (startAt g img n) (startAt g img n) refl) refl
 
   -- no lower slot has the same message
-  sized-new : (n : ℕ) → Shows g img n → sized n (offsetAt g img n) ≡ 0
-  sized-new n (l, t, a) =
-      let o = offsetAt g img n in
+  sized-new : (n : ℕ) → Live g img n → sized n (startAt g img n) ≡ 0
+  sized-new n v =
+      let o = startAt g img n in
       by-bool (someBelow (here? o) n)
       (λ y.
       let w = some-which (here? o) n y in
       let j = w .0 in
       let lj : j < n = w .1 in
-      let tj = and-left (taken g img j) (eqb (offsetAt g img j) o) (w .2) in
-      let ej : offsetAt g img j ≡ o =
-      eqb-true (offsetAt g img j) o (and-right (taken g img j) (eqb (offsetAt g img j) o) (w .2)) in
-      let sj : Shows g img j = (omega (arith, l), tj, ap (isActive img) ej ∙ a) in
-      absurd (by-either (ok .apart j n sj (l, t, a) (λ q. omega arith))
-      (λ h. omega (arith, span-some g img (offsetAt g img j)))
-      (λ h. omega (arith, span-some g img o))))
-      (λ h. rw (a, h) refl)
+      let e : startAt g img j ≡ o =
+      eqb-true (startAt g img j) o (and-right (taken g img j) (eqb (startAt g img j) o) (w .2)) in
+      let u : Live g img j =
+      record {
+        low = omega (arith, v .low);
+        is = and-left (taken g img j) (eqb (startAt g img j) o) (w .2);
+        active = ap (isActive img) e ∙ v .active;
+      } in
+      absurd (omega (arith, ok .alone j n u v e)))
+      (λ h. rw (v .active, h) refl)
 
-  weigh-shows : (i : ℕ) → Shows g img i → weigh g (activeSpan g img) (slot g img i) ≡ span g img (offsetAt g img i)
+  weigh-live : (i : ℕ) → Live g img i → weigh g (activeSpan g img) (slot g img i) ≡ span g img (startAt g img i)
   unfolding weigh activeSpan taken
-  weigh-shows i (l, t, a) = rw (not-true (vacant g (slot g img i)) t, a) refl
+  weigh-live i v = rw (not-true (vacant g (slot g img i)) (v .is), v .active) refl
 
-  weigh-not : (i : ℕ) → (taken g img i && isActive img (offsetAt g img i)) ≡ false
+  weigh-not : (i : ℕ) → (taken g img i && isActive img (startAt g img i)) ≡ false
       → weigh g (activeSpan g img) (slot g img i) ≡ 0
   unfolding weigh activeSpan taken
   weigh-not i h =
       by-bool (vacant g (slot g img i))
       (λ v. rw v refl)
-      (λ v. by-bool (isActive img (offsetAt g img i))
-      (λ a. absurd (not-both (not (vacant g (slot g img i)) && isActive img (offsetAt g img i)) (rw (v, a) refl) h))
+      (λ v. by-bool (isActive img (startAt g img i))
+      (λ a. absurd (not-both (not (vacant g (slot g img i)) && isActive img (startAt g img i)) (rw (v, a) refl) h))
       (λ a. rw (v, a) refl))
 
   abbrev places : ℕ
@@ -380,9 +350,9 @@ module _ (g : Layout) (img : Bytes) (ok : Packable g img) where
   abbrev summed : ℕ → ℕ
   summed n = total (λ k. sized n (g .D + k)) places
 
-  sum-shows : (n : ℕ) → Shows g img n → summed (suc n) ≡ summed n + span g img (offsetAt g img n)
-  sum-shows n s =
-      let o = offsetAt g img n in
+  sum-live : (n : ℕ) → Live g img n → summed (suc n) ≡ summed n + span g img (startAt g img n)
+  sum-live n s =
+      let o = startAt g img n in
       let at : g .D + (o - g .D) ≡ o = omega (arith, ok .low n s) in
       let change =
       total-change (λ k. sized (suc n) (g .D + k)) (λ k. sized n (g .D + k)) places (o - g .D)
@@ -403,15 +373,15 @@ module _ (g : Layout) (img : Bytes) (ok : Packable g img) where
       and-false true = refl
       and-false false = refl
 
-  sum-not : (n : ℕ) → (taken g img n && isActive img (offsetAt g img n)) ≡ false → summed (suc n) ≡ summed n
+  sum-not : (n : ℕ) → (taken g img n && isActive img (startAt g img n)) ≡ false → summed (suc n) ≡ summed n
   sum-not n h =
       total-same (λ k. sized (suc n) (g .D + k)) (λ k. sized n (g .D + k)) places
       (λ k l. by-bool (here? (g .D + k) n)
       (λ y.
-      let t = and-left (taken g img n) (eqb (offsetAt g img n) (g .D + k)) y in
-      let e = eqb-true (offsetAt g img n) (g .D + k) (and-right (taken g img n) (eqb (offsetAt g img n) (g .D + k)) y) in
-      by-bool (isActive img (offsetAt g img n))
-      (λ a. absurd (not-both (taken g img n && isActive img (offsetAt g img n)) (and-true _ _ t a) h))
+      let t = and-left (taken g img n) (eqb (startAt g img n) (g .D + k)) y in
+      let e = eqb-true (startAt g img n) (g .D + k) (and-right (taken g img n) (eqb (startAt g img n) (g .D + k)) y) in
+      by-bool (isActive img (startAt g img n))
+      (λ a. absurd (not-both (taken g img n && isActive img (startAt g img n)) (and-true _ _ t a) h))
       (λ a.
       let q : isActive img (g .D + k) ≡ false = ap (isActive img) (sym e) ∙ a in
       sized-inactive (suc n) (g .D + k) q ∙ sym (sized-inactive n (g .D + k) q)))
@@ -428,11 +398,15 @@ module _ (g : Layout) (img : Bytes) (ok : Packable g img) where
       none′ false m = refl
   sum-slots (suc n) l =
       let ih : summed n ≡ total (λ i. weigh g (activeSpan g img) (slot g img i)) n = sum-slots n (omega arith) in
-      by-bool (taken g img n && isActive img (offsetAt g img n))
+      by-bool (taken g img n && isActive img (startAt g img n))
       (λ y.
-      let s : Shows g img n =
-      (omega arith, and-left (taken g img n) _ y, and-right (taken g img n) (isActive img (offsetAt g img n)) y) in
-      omega (arith, ih, sum-shows n s, weigh-shows n s))
+      let s : Live g img n =
+      record {
+        low = omega arith;
+        is = and-left (taken g img n) (isActive img (startAt g img n)) y;
+        active = and-right (taken g img n) (isActive img (startAt g img n)) y;
+      } in
+      omega (arith, ih, sum-live n s, weigh-live n s))
       (λ m. omega (arith, ih, sum-not n m, weigh-not n m))
 
   pub packed-weight : length (packed g img) ≡ weight g img (activeSpan g img)
