@@ -49,7 +49,7 @@ fn insert(image: &mut [u8], shape: Shape, slot: Slot, key: &[u8], bytes: &[u8])
     enter(image, shape, slot, key, free);
 }
 
-// Questions 12 and 13, where there are bytes; then the point enters, with no message where there are none.
+// Questions 12 and 13 of the bytes; then the point enters, with them as its message. No bytes in mode 3 are no message.
 fn insert_fresh(
     image: &mut [u8],
     shape: Shape,
@@ -66,7 +66,7 @@ fn insert_fresh(
         (inserted (layoutOf (now (image .entry))) (now (image .entry)) (slot .0) (now (key .entry))
         (freshText (now (bytes .entry)) mode))) ⌝ }
 {
-    if bytes.len() == 0 {
+    if (mode == 3) & (bytes.len() == 0) {
         enter(image, shape, slot, key, Offset::new(0));
         return 0;
     }
@@ -78,7 +78,7 @@ fn insert_fresh(
     0
 }
 
-// Add of a point for which the search ended so, without meeting it: question 10, then 12 and 13.
+// Add of a point for which the search ended so, without meeting it: 14 in mode 4; question 10, then 12 and 13.
 pub fn add_absent(
     image: &mut [u8],
     shape: Shape,
@@ -96,6 +96,9 @@ pub fn add_absent(
         (addedAt (layoutOf (now (image .entry))) (now (image .entry)) (probeOf found) (now (key .entry))
         (now (bytes .entry)) mode)) ⌝ }
 {
+    if mode == 4 {
+        return 14;
+    }
     let Found::Empty(slot) = found else {
         return 10;
     };

@@ -7,31 +7,31 @@ use mathlib.Core.Path.{_≡_, refl, sym, ap, ap₂, _∙_}
 use Prim.Native.Nat.{ℕ, _+_, _-_, _≤_, _<_}
 use native.Mathlib.Omega.{arith}
 use mathlib.Core.Logic.{inl, inr}
-use mathlib.Core.Bool.{true, _&&_}
+use mathlib.Core.Bool.{true, false, _&&_, _||_}
 use mathlib.Core.List.{[], _∷_, _++_}
 use mathlib.Core.Option.{Option, none, some}
 use lib.ListN.{length, length-append}
 use lib.Dec.{eqb, leb, ltb}
 use borrow.Author.Tests.{leb-true, eq-eqb, ne-eqb}
 use Rattle.bhtf.specs.Bytes.{Bytes, part, zeros}
-use Rattle.bhtf.specs.Limits.{inactive, pointsField, freeField, tableStart}
+use Rattle.bhtf.specs.Limits.{inactive, major, minor, patch, versionField, pointsField, freeField, tableStart}
 use Rattle.bhtf.specs.Image.{field, setField, Layout, layoutOf, slotSize, slot, putSlot, offsetOf, slotBytes}
 use Rattle.bhtf.specs.Search.{met, empty, exhausted, search, isMet}
-use Rattle.bhtf.specs.Messages.{headSize, held, message, takeSpace, retire, overwrite, freshText, renewedText, enter, inserted, relocated, renewed, renewedAt, addedAt, added}
+use Rattle.bhtf.specs.Messages.{headSize, held, message, takeSpace, retire, overwrite, freshText, renewedText, enter, inserted, relocated, renewed, renewedAt, addedAt, noted, added}
 use Rattle.bhtf.specs.Delete.{deletedAt}
 use Rattle.bhtf.specs.Questions.{nameAllowed, modeKnown, messageSound, somePoint, lengthAllowed, spaceLeft, openNumber, addNumber, deleteNumber, placeNumber}
 use Rattle.bhtf.specs.Calls.{add, delete}
 use Rattle.bhtf.proofs.Tests.{by-bool, by-eq, and-left}
-use Rattle.bhtf.proofs.Bytes.{Apart, part-store-other, length-zeros}
+use Rattle.bhtf.proofs.Bytes.{Apart, part-store-other, part-store-behind, length-zeros}
 use Rattle.bhtf.proofs.Slots.{part-setField-other, part-putSlot-outside, length-putSlot, length-setField, length-entry}
 use Rattle.bhtf.proofs.Opened.{Opened, opened-facts, opened-room, firstNo-head, firstNo-tail}
-use Rattle.bhtf.proofs.Outcomes.{settled-yes, delete-closed, delete-7, delete-14, delete-11, delete-accepted, delete-refused, add-closed, add-7, add-8, add-9, add-10-exhausted, add-10-full, add-11, add-renewed, add-fresh, add-refused}
+use Rattle.bhtf.proofs.Outcomes.{settled-yes, delete-closed, delete-7, delete-14, delete-11, delete-accepted, delete-refused, add-closed, add-7, add-8, add-9, add-10-exhausted, add-10-full, add-11, add-14, add-renewed, add-fresh, add-refused}
 use Rattle.bhtf.proofs.Probe.{search-met, search-empty, by-search}
 use Rattle.bhtf.proofs.Kept.{kept-layout}
 use Rattle.bhtf.proofs.Effects.{area-above, message-end, active-some, by-retire, retire-kept, retire-field, retire-opened, length-message, Spaced, spaced, space-kept, space-opened}
 use Rattle.bhtf.proofs.Frames.{part-closed}
 use Rattle.bhtf.proofs.Texts.{replaced-held}
-use Rattle.bhtf.proofs.Stretch.{span, held-none, held-some}
+use Rattle.bhtf.proofs.Stretch.{span, held-some}
 use Rattle.agreement.proofs.File.{allowed-length}
 
 -- the n bytes from p on have none in common with the message at the offset
@@ -96,9 +96,9 @@ module _ (img : Bytes) (o : Opened img) (p n : ℕ) (low : layoutOf img .D ≤ p
   delete-keeps s c =
       let at = offsetOf (layoutOf img) (slot (layoutOf img) img i) in
       let off = retire img at in
-      let long : pointsField + 4 ≤ length off = omega (arith, retire-kept img o at s .size, o .size-low) in
+      let long : pointsField + 4 ≤ length off = omega (arith, retire-kept img o at s .fixed .size, o .size-low) in
       part-closed (layoutOf img) (setField off pointsField (field img pointsField - 1))
-      (rw (length-setField off pointsField (field img pointsField - 1) long, retire-kept img o at s .size)
+      (rw (length-setField off pointsField (field img pointsField - 1) long, retire-kept img o at s .fixed .size)
       (opened-room img o))
       i l p n (inr low)
       ∙ part-setField-other off pointsField (field img pointsField - 1) p n long
@@ -123,7 +123,7 @@ module _ (img : Bytes) (o : Opened img) (p n : ℕ) (low : layoutOf img .D ≤ p
     unfolding inserted
     insert-keeps none h = enter-keeps img o p n low i key 0 l (entry-size 0)
     insert-keeps (some t) h =
-        let same = kept-layout (space-kept img o t (fits t h)) (o .last) in
+        let same = kept-layout (space-kept img o t (fits t h) .fixed) (o .last) in
         (rw same at
         (enter-keeps (takeSpace (layoutOf img) img t) (space-opened img o t (fits t h)) p n (rw same low) i key
         (field img freeField) (rw same l)
@@ -136,13 +136,13 @@ module _ (img : Bytes) (o : Opened img) (p n : ℕ) (low : layoutOf img .D ≤ p
       unfolding relocated
       relocate-keeps t h =
           let off = retire img at in
-          let same = kept-layout (retire-kept img o at s) (o .last) in
+          let same = kept-layout (retire-kept img o at s .fixed) (o .last) in
           let x = retire-field img o at s freeField (omega arith) in
           let is : Spaced (layoutOf img) off t =
           rw same at (spaced off (retire-opened img o at s) t
-          (rw (same, x, retire-kept img o at s .size) (fits t h))) in
+          (rw (same, x, retire-kept img o at s .fixed .size) (fits t h))) in
           part-putSlot-outside (layoutOf img) (takeSpace (layoutOf img) off t)
-          (rw (is .kept .size, retire-kept img o at s .size) (opened-room img o))
+          (rw (is .kept .fixed .size, retire-kept img o at s .fixed .size) (opened-room img o))
           i (slotBytes key (field img freeField)) p n l (entry-size (field img freeField)) (inr low)
           ∙ is .below p n low (rw x high)
           ∙ retire-keeps img o p n low at s c
@@ -154,13 +154,11 @@ module _ (img : Bytes) (o : Opened img) (p n : ℕ) (low : layoutOf img .D ≤ p
       renew-keeps bytes mode (some t) q h = relocate-keeps t h
       renew-keeps bytes mode none q h =
           by-eq mode 2
-          (λ two. rw two (by-eq (length bytes) 0
-          (λ z. rw (eq-eqb (length bytes) 0 z) (retire-keeps img o p n low at s c))
-          (λ z. rw (ne-eqb (length bytes) 0 z)
-          (let le = replaced-held (layoutOf img) img i at key bytes (rw two at q) in
-          overwrite-keeps img o p n low at s c
-          (λ w. z (omega (arith, le, held-none (layoutOf img) img at w))) bytes le))))
-          (λ other. rw (ne-eqb mode 2 other) refl)
+          (λ two.
+          let held = replaced-held (layoutOf img) img i at key bytes (rw two at q) in
+          rw two (overwrite-keeps img o p n low at s c (held .0) bytes (held .1)))
+          (λ other. rw (ne-eqb mode 2 other)
+          (by-bool (eqb mode 4) (λ y. rw y (retire-keeps img o p n low at s c)) (λ no′. rw no′ refl)))
 
 -- ---- the calls
 
@@ -221,11 +219,21 @@ module _ (img key : Bytes) (p n : ℕ) (low : layoutOf img .D ≤ p) (c : Clear 
       add-not : (k : ℕ) → addNumber img key bytes mode ≡ k → (k ≡ 0 → ⊥) → ⊥
       add-not k e w = w (sym e ∙ z)
 
+      -- the version stands in the header
+      noted-keeps : (img′ : Bytes) → part (noted bytes mode img′) p n ≡ part img′ p n
+      unfolding noted
+      noted-keeps img′ =
+          by-bool (eqb (length bytes) 0 && (eqb mode 1 || eqb mode 2))
+          (λ y. rw y (part-store-behind img′ versionField (major ∷ minor ∷ patch ∷ []) p n
+          (omega (arith, above img o p n low))))
+          (λ no′. rw no′ refl)
+
       module _ (a : nameAllowed (G .K) key ≡ true) (k : modeKnown mode ≡ true) where
         of-met : (i : ℕ) → search G img key ≡ met i → part (added G img key bytes mode) p n ≡ part img p n
         unfolding added addedAt renewedAt
         of-met i m =
-            rw m
+            noted-keeps _
+            ∙ rw m
             (by-bool (eqb mode 1)
             (λ one. absurd (add-not 9 (add-9 img key add-open bytes mode a k i m one) (λ w. omega arith)))
             (λ one. by-bool (messageSound G img (offsetOf G (slot G img i)))
@@ -235,18 +243,32 @@ module _ (img key : Bytes) (p n : ℕ) (low : layoutOf img .D ≤ p) (c : Clear 
             (sym (add-renewed img key add-open bytes mode a k i m one s) ∙ z))
             (λ s. absurd (add-not 11 (add-11 img key add-open bytes mode a k i m one s) (λ w. omega arith)))))
 
+        -- mode 4 finds a point
+        not-four : isMet (search G img key) ≡ false → eqb mode 4 ≡ false
+        not-four h =
+            by-bool (eqb mode 4)
+            (λ y. absurd (add-not 14 (add-14 img key add-open bytes mode a k h y) (λ w. omega arith)))
+            (λ no′. no′)
+
         of-empty : (i : ℕ) → search G img key ≡ empty i → part (added G img key bytes mode) p n ≡ part img p n
         unfolding added addedAt
         of-empty i m =
-            rw m
+            noted-keeps _
+            ∙ rw m
             (by-bool (ltb (field img pointsField) (G .N))
             (λ lt.
             insert-keeps img o p n low i (search-empty G img key (some-slot o) i m .0) high key (allowed-length G key a)
-            (freshText bytes mode) (sym (add-fresh img key add-open bytes mode a k i m lt) ∙ z))
-            (λ lt. absurd (add-not 10 (add-10-full img key add-open bytes mode a k i m lt) (λ w. omega arith))))
+            (freshText bytes mode)
+            (sym (add-fresh img key add-open bytes mode a k (not-four (unfold isMet in ap isMet m)) i m lt) ∙ z))
+            (λ lt. absurd (add-not 10
+            (add-10-full img key add-open bytes mode a k (not-four (unfold isMet in ap isMet m)) i m lt)
+            (λ w. omega arith))))
 
         of-exhausted : search G img key ≡ exhausted → part (added G img key bytes mode) p n ≡ part img p n
-        of-exhausted m = absurd (add-not 10 (add-10-exhausted img key add-open bytes mode a k m) (λ w. omega arith))
+        of-exhausted m =
+            absurd (add-not 10
+            (add-10-exhausted img key add-open bytes mode a k (not-four (unfold isMet in ap isMet m)) m)
+            (λ w. omega arith))
 
       add-bytes : part (add img key bytes mode .after) p n ≡ part img p n
       unfolding add

@@ -104,7 +104,6 @@ module _ (g : Layout) (img : Bytes) (f : File g img) where
             (record {
               low = moved-low g img file-stretches i s;
               letter = rw (letterAt-moved g img o img′ (newAt i) m) (lies-at i s .letter);
-              least = rw (lengthAt-moved g img o img′ (newAt i) m) (lies-at i s .least);
               end =
                   rw (
                     span-again g img file-stretches i s,
@@ -157,7 +156,7 @@ module _ (g : Layout) (img : Bytes) (f : File g img) where
   pub file-compact : File g img′
   file-compact =
       record {
-        layout = kept-layout kept (f .opened .last) ∙ f .layout;
+        layout = kept-layout (kept .fixed) (f .opened .last) ∙ f .layout;
         opened =
             opened-kept kept (f .opened)
             (rw (compacted-points g img file-stretches) (f .opened .points))

@@ -13,9 +13,9 @@ use Rattle.bhtf.specs.Bytes.{Bytes}
 use Rattle.bhtf.specs.Limits.{pointsField, freeField, tableStart}
 use Rattle.bhtf.specs.Image.{field, Layout, offsetOf, slot, keyOf}
 use Rattle.bhtf.specs.Messages.{lengthAt}
-use Rattle.bhtf.specs.Questions.{messageSound}
+use Rattle.bhtf.specs.Questions.{messageSound, versionKnown}
 use Rattle.bhtf.proofs.Bytes.{Apart, apart-inside}
-use Rattle.bhtf.proofs.Kept.{Kept, kept-known}
+use Rattle.bhtf.proofs.Kept.{Fixed}
 use Rattle.bhtf.proofs.Table.{Findable, entryOf}
 use Rattle.bhtf.proofs.Probe.{entryOf-frame}
 use Rattle.bhtf.proofs.Insert.{weight-frame, findable-keys}
@@ -34,7 +34,8 @@ file-above f = omega (arith, file-room f .table)
 
 -- ---- a step that changes no slot and not C
 
-module _ (g : Layout) (img img′ : Bytes) (f : File g img) (kept₁ : Kept img img′)
+module _ (g : Layout) (img img′ : Bytes) (f : File g img) (kept₁ : Fixed img img′)
+    (known₁ : versionKnown img′ ≡ true)
     (slots : (k : ℕ) → k < g .N → slot g img′ k ≡ slot g img k)
     (points₁ : field img′ pointsField ≡ field img pointsField) (low : field img freeField ≤ field img′ freeField)
     (high : field img′ freeField ≤ length img) where
@@ -52,7 +53,7 @@ module _ (g : Layout) (img img′ : Bytes) (f : File g img) (kept₁ : Kept img 
   frame-change key still₁ here₁ apart₁ =
       record {
         kept = kept₁;
-        known = kept-known kept₁ (f .opened);
+        known = known₁;
         free-low = low;
         free-high = high;
         points = rw points₁ (omega (arith, f .opened .points, file-slots f));

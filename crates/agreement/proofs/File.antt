@@ -2,7 +2,7 @@
 --     File g img            1. its header is accepted; 2. searches find what stands in the table; 3. C is the number of
 --                           taken slots; 4. messages pass question 11, and their lengths are below 256 ^ W; 5. messages
 --                           of different points have no byte in common
---     pointOf g img key     name, text and length held of a point, as the book has them
+--     pointOf g img key     a point as the book has it: name, text or none, length held, whether it has an offset
 --     Change g img img′ key what a step that concerns the point `key` alone leaves
 --     file-change, point-other    such a step keeps the invariant, and every other point
 --     change-trans, change-any    changes in turn; a step that concerns no point
@@ -26,7 +26,7 @@ use Rattle.bhtf.proofs.Tests.{by-eq, and-left, and-right}
 use Rattle.bhtf.proofs.Bytes.{Apart, apart-sym, by-same}
 use Rattle.bhtf.proofs.Slots.{Room, layout-most}
 use Rattle.bhtf.proofs.Opened.{Opened, opened-room}
-use Rattle.bhtf.proofs.Kept.{Kept, kept-trans, kept-layout, opened-known}
+use Rattle.bhtf.proofs.Kept.{Fixed, fixed-trans, kept-layout, opened-known}
 use Rattle.bhtf.proofs.Table.{Findable, entryOf, weight}
 use Rattle.bhtf.proofs.Stretch.{span, Stored, SameOn, same-on-trans, span-same, shown-same, held-same, stored-same}
 
@@ -46,7 +46,7 @@ allowed-zero g key a = not-true _ (and-right (eqb (length key) (g .K)) (not (all
 -- ---- a point's value
 
 abbrev pub valueOf : Layout → Bytes → Bytes → ℕ → Entry
-valueOf g img key o = record { name = key; text = shown g img o; held = held g img o }
+valueOf g img key o = record { name = key; text = shown g img o; held = held g img o; offset? = not (eqb o 0) }
 
 unfoldable pub pointAt : Layout → Bytes → Bytes → Option Bytes → Option Entry
 pointAt g img key none = none
@@ -76,7 +76,7 @@ value-same g img img′ key o same-on =
     by-eq o 0
     (λ z. rw z (none-value g img img′ key))
     (λ z.
-    ap₂ (λ (t : Bytes) (h : ℕ). record { name = key; text = t; held = h })
+    ap₂ (λ (t : Option Bytes) (h : ℕ). record { name = key; text = t; held = h; offset? = not (eqb o 0) })
     (shown-same g img img′ o (same-on z)) (held-same g img img′ o (same-on z)))
 
 pub by-entry {ℓ} : {A : Type ℓ} (o : Option Bytes) → (o ≡ none → A) → ((s : Bytes) → o ≡ some s → A) → A
@@ -124,7 +124,7 @@ module _ {g : Layout} {img : Bytes} (f : File g img) where
 -- ---- a change to one point
 
 pub record Change (g : Layout) (img img′ key : Bytes) : Type 0 where
-  pub kept : Kept img img′
+  pub kept : Fixed img img′
   pub known : versionKnown img′ ≡ true
   pub free-low : field img freeField ≤ field img′ freeField
   pub free-high : field img′ freeField ≤ length img
@@ -216,7 +216,7 @@ module _ (g : Layout) (img img₁ img₂ key : Bytes) (c : Change g img img₁ k
   pub change-trans : Change g img img₂ key
   change-trans =
       record {
-        kept = kept-trans (c .kept) (d .kept);
+        kept = fixed-trans (c .kept) (d .kept);
         known = d .known;
         free-low = omega (arith, c .free-low, d .free-low);
         free-high = omega (arith, d .free-high, c .kept .size);

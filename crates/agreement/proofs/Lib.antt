@@ -14,6 +14,7 @@ pub mod Space  -- new space at X
 pub mod Overwrite  -- a message written in place
 pub mod Slots  -- a slot written, or entered
 pub mod Remove  -- a point gone
+pub mod Noted  -- the version written beside an empty message
 -- ---- each call keeps the relation
 pub mod Simple  -- count, lookup and delete
 pub mod Place  -- a message placed in new space

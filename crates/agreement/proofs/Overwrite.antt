@@ -11,12 +11,13 @@ use mathlib.Core.Option.{some}
 use lib.ListN.{length, length-append}
 use lib.Seq.{take-at}
 use Rattle.bhtf.specs.Bytes.{Bytes, part, store, zeros}
-use Rattle.bhtf.specs.Limits.{leastLength, pointsField, freeField, tableStart}
+use Rattle.bhtf.specs.Limits.{pointsField, freeField, tableStart}
 use Rattle.bhtf.specs.Image.{field, Layout, offsetOf, slot}
 use Rattle.bhtf.specs.Messages.{headSize, held, message, overwrite}
+use Rattle.bhtf.specs.Book.{noting}
 use Rattle.bhtf.proofs.Bytes.{part-store-inside, length-zeros}
 use Rattle.bhtf.proofs.Slots.{slot-store-data, field-store-other}
-use Rattle.bhtf.proofs.Kept.{kept-store}
+use Rattle.bhtf.proofs.Kept.{Kept, kept-store, kept-known}
 use Rattle.bhtf.proofs.Effects.{length-message}
 use Rattle.bhtf.proofs.Table.{entryOf}
 use Rattle.bhtf.proofs.Probe.{entryOf-frame}
@@ -26,7 +27,7 @@ use Rattle.agreement.proofs.Space.{Written, written, written-value, wri
 use Rattle.agreement.proofs.File.{Allowed, pointOf, pointOf-some, File, file-room, file-some, Change}
 
 module _ (g : Layout) (img : Bytes) (f : File g img) (key s : Bytes) (a : Allowed g key)
-    (e : entryOf g img key ≡ some s) (z : offsetOf g s ≡ 0 → ⊥) (t : Bytes) (least : leastLength ≤ length t)
+    (e : entryOf g img key ≡ some s) (z : offsetOf g s ≡ 0 → ⊥) (t : Bytes)
     (le : length t ≤ held g img (offsetOf g s)) where
   small : length t < 256 ^ g .W
   small = omega (arith, le, held-some g img (offsetOf g s) z, f .messages key s a e .short z)
@@ -67,18 +68,21 @@ module _ (g : Layout) (img : Bytes) (f : File g img) (key s : Bytes) (a : Allowe
 
   now-lies : Lies g (store img (offsetOf g s) bytes) (offsetOf g s)
   now-lies =
-      written-lies g (store img (offsetOf g s) bytes) (offsetOf g s) t now-written z (lies .low) least
+      written-lies g (store img (offsetOf g s) bytes) (offsetOf g s) t now-written z (lies .low)
       (rw (now-field freeField (omega arith)) (omega (arith, lies .end, held-some g img (offsetOf g s) z, le)))
 
   is-overwrite : overwrite g img (offsetOf g s) t ≡ store img (offsetOf g s) bytes
   unfolding overwrite bytes
   is-overwrite = refl
 
+  now-kept : Kept img (store img (offsetOf g s) bytes)
+  now-kept = kept-store img (offsetOf g s) bytes fits (omega (arith, lies .low, file-above f))
+
   pub overwrite-change : Change g img (overwrite g img (offsetOf g s) t) key
   overwrite-change =
       rw is-overwrite
       (point-change g img (store img (offsetOf g s) bytes) f
-      (kept-store img (offsetOf g s) bytes fits (omega (arith, lies .low, file-above f))) now-slot
+      (now-kept .fixed) (kept-known now-kept (f .opened)) now-slot
       (now-field pointsField (omega arith))
       (rw (now-field freeField (omega arith)) (omega arith))
       (rw (now-field freeField (omega arith)) (f .opened .free-high))
@@ -90,8 +94,7 @@ module _ (g : Layout) (img : Bytes) (f : File g img) (key s : Bytes) (a : Allowe
   pub overwrite-field : (at : ℕ) → at + 4 ≤ tableStart → field (overwrite g img (offsetOf g s) t) at ≡ field img at
   overwrite-field at h = rw is-overwrite (now-field at h)
 
-  pub overwrite-point : pointOf g (overwrite g img (offsetOf g s) t) key
-      ≡ some (record { name = key; text = t; held = length t })
+  pub overwrite-point : pointOf g (overwrite g img (offsetOf g s) t) key ≡ some (noting key t)
   overwrite-point =
       rw is-overwrite
       (pointOf-some g (store img (offsetOf g s) bytes) key s (entryOf-frame g img _ key (file-some f) now-slot ∙ e)

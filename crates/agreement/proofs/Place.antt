@@ -3,7 +3,7 @@
 --     place-length, place-space    what a yes to both gives
 --     relocate, insert           the relation after a message is placed: its length is allowed, and there is space
 -- Assumes nothing.
-use mathlib.Core.Path.{_≡_, sym, ap, ap₂, _∙_, subst}
+use mathlib.Core.Path.{_≡_, refl, sym, ap, ap₂, _∙_, subst}
 use Prim.Native.Nat.{ℕ, _+_, _-_, _^_, _≤_, _<_}
 use native.Mathlib.Omega.{arith}
 use mathlib.Core.Bool.{Bool}
@@ -13,12 +13,12 @@ use lib.ListN.{length}
 use lib.Dec.{leb}
 use borrow.Author.Tests.{leb-true, le-leb, lt-leb}
 use Rattle.bhtf.specs.Bytes.{Bytes}
-use Rattle.bhtf.specs.Limits.{leastLength, pointsField, freeField}
+use Rattle.bhtf.specs.Limits.{pointsField, freeField}
 use Rattle.bhtf.specs.Image.{field, Layout, slot, putSlot, slotBytes, offsetOf}
 use Rattle.bhtf.specs.Search.{met, empty, search}
 use Rattle.bhtf.specs.Messages.{headSize, retire, takeSpace, enter, inserted, relocated}
 use Rattle.bhtf.specs.Questions.{ask, firstNo, lengthAllowed, spaceLeft, placeNumber}
-use Rattle.bhtf.specs.Book.{Terms, Book, find, roomAsks, entered, placed}
+use Rattle.bhtf.specs.Book.{Terms, Book, find, roomAsks, entered, noting, placed}
 use Rattle.bhtf.proofs.Tests.{by-le}
 use Rattle.bhtf.proofs.Opened.{firstNo-head, firstNo-tail}
 use Rattle.bhtf.proofs.Effects.{Spaced}
@@ -79,13 +79,13 @@ module _ (g : Layout) (img : Bytes) (b : Book) (r : Reflects g img b) (t : Bytes
 
 -- the new message is sound, and meets no other point's
 unshared-space : (g : Layout) (img : Bytes) (f : File g img) (t : Bytes) (s : length t < 256 ^ g .W)
-    (l : field img freeField + headSize g + length t ≤ length img) → leastLength ≤ length t → (key : Bytes)
+    (l : field img freeField + headSize g + length t ≤ length img) → (key : Bytes)
     → Unshared g (takeSpace g img t) key (field img freeField)
-unshared-space g img f t s l le key =
+unshared-space g img f t s l key =
     record {
       stored =
           record {
-            sound = lies-sound g (takeSpace g img t) (field img freeField) (space-lies g img f t s l le);
+            sound = lies-sound g (takeSpace g img t) (field img freeField) (space-lies g img f t s l);
             short = λ z. rw (space-written g img f t s l .count) s;
           };
       small = omega (arith, f .opened .free-high, f .opened .size-high);
@@ -96,7 +96,7 @@ more-is : (g : Layout) (img : Bytes) (b : Book) → Reflects g img b → (m : �
 more-is g img b r m = ap (λ (x : ℕ). x + m) (sym (ap (λ (y : Terms). y .head) (r .terms)))
 
 module _ (g : Layout) (img : Bytes) (b : Book) (r : Reflects g img b) (key : Bytes) (a : Allowed g key) (t : Bytes)
-    (least : leastLength ≤ length t) (short : length t ≤ g .most)
+    (short : length t ≤ g .most)
     (l₁ : field img freeField + headSize g + length t ≤ length img) where
   abbrev x : ℕ
   x = field img freeField
@@ -140,7 +140,7 @@ module _ (g : Layout) (img : Bytes) (b : Book) (r : Reflects g img b) (key : Byt
         ∙ m
 
     own₁ : Unshared g grown key (field off freeField)
-    own₁ = unshared-space g off off-file t s₁ off-fits least key
+    own₁ = unshared-space g off off-file t s₁ off-fits key
 
     abbrev final : Bytes
     final = putSlot g grown i (slotBytes key (field off freeField))
@@ -152,7 +152,7 @@ module _ (g : Layout) (img : Bytes) (b : Book) (r : Reflects g img b) (key : Byt
         (change-any g off grown off-file (space-change g off off-file t s₁ off-fits) key)
         (set-change g grown grown-file key a (field off freeField) own₁ i grown-met))
 
-    final-point : pointOf g final key ≡ some (record { name = key; text = t; held = length t })
+    final-point : pointOf g final key ≡ some (noting key t)
     final-point =
         set-point g grown grown-file key a (field off freeField) own₁ i grown-met
         ∙ ap some
@@ -172,11 +172,11 @@ module _ (g : Layout) (img : Bytes) (b : Book) (r : Reflects g img b) (key : Byt
         ∙ retire-field g img (r .file) key (slot g img i) a e₁ pointsField (omega arith)
 
     pub relocate : Reflects g (relocated g img i (offsetOf g (slot g img i)) key t) (placed b key t)
-    unfolding relocated placed
+    unfolding relocated placed noting
     relocate =
         subst (λ (y : ℕ). Reflects g (putSlot g grown i (slotBytes key y))
-        (entered b key t (length t) (b .terms .head + length t))) off-free
-        (reflect-entered g img final key b r a final-change t (length t) (b .terms .head + length t)
+        (entered b (noting key t) (b .terms .head + length t))) off-free
+        (reflect-entered g img final key b r a final-change (noting key t) (b .terms .head + length t) refl
         final-point final-free
         (length-withEntry-old _ (b .entries) _ (found-met g img b r key a i m) ∙ r .number ∙ sym final-points))
 
@@ -198,19 +198,19 @@ module _ (g : Layout) (img : Bytes) (b : Book) (r : Reflects g img b) (key : Byt
     wide-left = rw (space₂ .points) left
 
     own₂ : Unshared g wide key x
-    own₂ = unshared-space g img (r .file) t s₁ l₁ least key
+    own₂ = unshared-space g img (r .file) t s₁ l₁ key
 
     absent : find key (b .entries) ≡ none
     absent = sym (r .points key a) ∙ pointOf-none g img key (entry-empty g img key i m)
 
     pub insert : Reflects g (inserted g img i key (some t)) (placed b key t)
-    unfolding inserted placed
+    unfolding inserted placed noting
     insert =
         reflect-entered g img (enter g wide i key x) key b r a
         (change-trans g img wide (enter g wide i key x) key
         (change-any g img wide (r .file) (space-change g img (r .file) t s₁ l₁) key)
         (enter-change g wide wide-file key a x own₂ i wide-empty wide-left))
-        t (length t) (b .terms .head + length t)
+        (noting key t) (b .terms .head + length t) refl
         (enter-point g wide wide-file key a x own₂ i wide-empty wide-left
         ∙ ap some (written-value g wide x t (space-written g img (r .file) t s₁ l₁)
         (space-some g img (r .file) t s₁ l₁) key))

@@ -1,32 +1,32 @@
--- Add of a point that is present, in its three modes: the file's answer is the book's, and the relation is kept.
+-- Add of a point that is present, in its four modes: the file's answer is the book's, and the relation is kept.
 -- Assumes nothing.
 use mathlib.Core.Path.{_≡_, refl, sym, ap, _∙_}
 use Prim.Native.Nat.{ℕ, _+_, _≤_}
 use native.Mathlib.Omega.{arith}
 use native.Mathlib.Nat.{add-zero}
-use mathlib.Core.Bool.{true, false}
+use mathlib.Core.Bool.{true, false, not, _&&_}
 use mathlib.Core.List.{[], _∷_, _++_}
 use mathlib.Core.Option.{Option, none, some}
-use lib.ListN.{length, length-append}
-use lib.Dec.{eqb}
-use borrow.Author.Tests.{eq-eqb, ne-eqb, le-leb, lt-leb}
+use lib.ListN.{length}
+use lib.Dec.{eqb, leb}
+use borrow.Author.Tests.{eq-eqb, ne-eqb}
 use Rattle.bhtf.specs.Bytes.{Bytes}
-use Rattle.bhtf.specs.Limits.{leastLength, pointsField, freeField, tableStart}
+use Rattle.bhtf.specs.Limits.{pointsField, freeField, tableStart}
 use Rattle.bhtf.specs.Image.{field, Layout, layoutOf, slot, offsetOf}
 use Rattle.bhtf.specs.Search.{met, search}
-use Rattle.bhtf.specs.Messages.{shown, held, retire, overwrite, renewedText, renewedAt, addedAt, added}
+use Rattle.bhtf.specs.Messages.{shown, bytesOf, held, retire, overwrite, renewedText, renewedAt, addedAt, noted, added}
 use Rattle.bhtf.specs.Questions.{ask, firstNo, modeKnown, openNumber, addNumber, placeNumber}
 use Rattle.bhtf.specs.Calls.{add}
-use Rattle.bhtf.specs.Book.{Entry, Book, find, withEntry, stepOf, roomAsks, entered, placed, replace, append, addPresent, addFound}
-use Rattle.bhtf.proofs.Tests.{by-eq, by-le}
+use Rattle.bhtf.specs.Book.{Entry, Book, find, withEntry, stepOf, roomAsks, entered, noting, placed, replace, append, withdrawn, addPresent, addFound}
+use Rattle.bhtf.proofs.Tests.{by-bool, by-eq}
 use Rattle.bhtf.proofs.Opened.{firstNo-none, firstNo-no}
 use Rattle.bhtf.proofs.Outcomes.{room-none, add-9, add-renewed}
-use Rattle.bhtf.proofs.Stretch.{held-none}
-use Rattle.bhtf.proofs.Texts.{by-mode, replaced-none, replaced-some, replaced-retired, replaced-over, appended-none, appended-some, appended-same, renewed-moved}
+use Rattle.bhtf.proofs.Texts.{by-mode, replaced-none, replaced-some, replaced-held, replaced-written, appended-none, appended-some, appended-same, withdrawn-none, withdrawn-retired, renewed-moved}
 use Rattle.bhtf.proofs.Table.{entryOf}
 use Rattle.bhtf.proofs.Insert.{entry-met}
 use Rattle.agreement.proofs.File.{Allowed, valueOf}
 use Rattle.agreement.proofs.Retire.{retire-change, retire-field, retire-point}
+use Rattle.agreement.proofs.Noted.{noted-reflects}
 use Rattle.agreement.proofs.Overwrite.{overwrite-change, overwrite-field, overwrite-point}
 use Rattle.agreement.proofs.Entries.{length-withEntry-old}
 use Rattle.agreement.proofs.Reflect.{Reflects, reflect-entered}
@@ -53,7 +53,7 @@ module _ (g : Layout) (img : Bytes) (b : Book) (r : Reflects g img b) (key : Byt
   open₁ : openNumber img ≡ 0
   open₁ = open₀ r
 
-  -- in modes 2 and 3 questions 12 and 13 decide, of the text p to be placed
+  -- in modes 2, 3 and 4 questions 12 and 13 decide, of the text p to be placed
   present-number : (mode : ℕ) (p : Option Bytes) → modeKnown mode ≡ true → eqb mode 1 ≡ false
       → renewedText g img o bytes mode ≡ p
       → addNumber img key bytes mode ≡ placeNumber g img p
@@ -63,25 +63,26 @@ module _ (g : Layout) (img : Bytes) (b : Book) (r : Reflects g img b) (key : Byt
       (rw (r .file .layout) (met-sound g img b r key a i m)))
       ∙ ap (placeNumber g img) q
 
-  after-present : (mode : ℕ) → added (layoutOf img) img key bytes mode ≡ renewedAt g img i o key bytes mode
+  after-present : (mode : ℕ)
+      → added (layoutOf img) img key bytes mode ≡ noted bytes mode (renewedAt g img i o key bytes mode)
   unfolding added addedAt
   after-present mode = rw (r .file .layout, m) refl
 
   -- a text in new space
   same-placed : (mode : ℕ) (t : Bytes) → modeKnown mode ≡ true → eqb mode 1 ≡ false
       → renewedText g img o bytes mode ≡ some t
-      → leastLength ≤ length t
       → Same g (add img key bytes mode) (stepOf b (roomAsks b (length t)) (placed b key t))
   unfolding add
-  same-placed mode t k h q le =
+  same-placed mode t k h q =
       let n = addNumber img key bytes mode in
       let asks = roomAsks b (length t) in
       let is : n ≡ firstNo asks = present-number mode (some t) k h q ∙ place-both g img b r t in
       by-eq (firstNo asks) 0
       (λ z.
       same-accepted g img b r n _ asks (placed b key t) (is ∙ z) z
-      (rw (after-present mode ∙ renewed-moved g img i o key bytes mode t q)
-      (relocate g img b r key a t le (place-length g img b r t z) (place-space g img b r t z) i m)))
+      (rw (after-present mode, renewed-moved g img i o key bytes mode t q)
+      (noted-reflects g _ _ bytes mode
+      (relocate g img b r key a t (place-length g img b r t z) (place-space g img b r t z) i m))))
       (λ z. same-refused g img b r n _ asks (placed b key t) is z)
 
   -- a step with nothing to place
@@ -92,7 +93,7 @@ module _ (g : Layout) (img : Bytes) (b : Book) (r : Reflects g img b) (key : Byt
   same-in-place mode img′ b′ k h q w s =
       let n = addNumber img key bytes mode in
       same-accepted g img b r n _ [] b′ (present-number mode none k h q ∙ room-none g img) firstNo-none
-      (rw (after-present mode ∙ w) s)
+      (rw (after-present mode, w) (noted-reflects g img′ b′ bytes mode s))
 
   -- ---- mode 1
   same-1 : Same g (add img key bytes 1) (addPresent b (valueOf g img key o) bytes 1)
@@ -104,46 +105,40 @@ module _ (g : Layout) (img : Bytes) (b : Book) (r : Reflects g img b) (key : Byt
       (λ z. omega (arith, z, book))
 
   -- ---- mode 2
-  retired : Reflects g (retire img o) (entered b key [] (held g img o) 0)
+  retired : Reflects g (retire img o) (entered b (withdrawn (valueOf g img key o)) 0)
+  unfolding withdrawn
   retired =
       let f : (at : ℕ) → at + 4 ≤ tableStart → field (retire img o) at ≡ field img at
       = retire-field g img (r .file) key (slot g img i) a e₁ in
-      reflect-entered g img (retire img o) key b r a (retire-change g img (r .file) key (slot g img i) a e₁) []
-      (held g img o) 0
+      reflect-entered g img (retire img o) key b r a (retire-change g img (r .file) key (slot g img i) a e₁)
+      (withdrawn (valueOf g img key o)) 0 refl
       (retire-point g img (r .file) key (slot g img i) a e₁)
       (f freeField (omega arith) ∙ sym (add-zero (field img freeField)))
       (old-number _ refl ∙ sym (f pointsField (omega arith)))
 
-  in-place : (o ≡ 0 → ⊥) → leastLength ≤ length bytes → length bytes ≤ held g img o
-      → Reflects g (overwrite g img o bytes) (entered b key bytes (length bytes) 0)
-  in-place z le hi =
+  in-place : (o ≡ 0 → ⊥) → length bytes ≤ held g img o
+      → Reflects g (overwrite g img o bytes) (entered b (noting key bytes) 0)
+  unfolding noting
+  in-place z hi =
       let f : (at : ℕ) → at + 4 ≤ tableStart → field (overwrite g img o bytes) at ≡ field img at
-      = overwrite-field g img (r .file) key (slot g img i) a e₁ z bytes le hi in
+      = overwrite-field g img (r .file) key (slot g img i) a e₁ z bytes hi in
       reflect-entered g img (overwrite g img o bytes) key b r a
-      (overwrite-change g img (r .file) key (slot g img i) a e₁ z bytes le hi) bytes (length bytes) 0
-      (overwrite-point g img (r .file) key (slot g img i) a e₁ z bytes le hi)
+      (overwrite-change g img (r .file) key (slot g img i) a e₁ z bytes hi) (noting key bytes) 0 refl
+      (overwrite-point g img (r .file) key (slot g img i) a e₁ z bytes hi)
       (f freeField (omega arith) ∙ sym (add-zero (field img freeField)))
       (old-number _ refl ∙ sym (f pointsField (omega arith)))
 
   same-2 : Same g (add img key bytes 2) (addPresent b (valueOf g img key o) bytes 2)
   unfolding addPresent replace modeKnown
   same-2 =
-      by-eq (length bytes) 0
-      (λ z.
-      rw (eq-eqb (length bytes) 0 z)
-      (same-in-place 2 (retire img o) _ refl refl
-      (replaced-none g img i o key bytes (omega arith)) (replaced-retired g img i o key bytes z) retired))
-      (λ z.
-      rw (ne-eqb (length bytes) 0 z)
-      (by-le (length bytes) (held g img o)
-      (λ l.
-      rw (le-leb (length bytes) (held g img o) l)
-      (same-in-place 2 (overwrite g img o bytes) _ refl refl
-      (replaced-none g img i o key bytes l) (replaced-over g img i o key bytes z l)
-      (in-place (λ q. z (omega (arith, l, held-none g img o q))) (omega arith) l)))
-      (λ l.
-      rw (lt-leb (length bytes) (held g img o) l)
-      (same-placed 2 bytes refl refl (replaced-some g img i o key bytes l) (omega arith)))))
+      by-bool (not (eqb o 0) && leb (length bytes) (held g img o))
+      (λ y.
+      let none′ = replaced-none g img i o key bytes y in
+      let held′ = replaced-held g img i o key bytes none′ in
+      rw y
+      (same-in-place 2 (overwrite g img o bytes) _ refl refl none′ (replaced-written g img i o key bytes none′)
+      (in-place (held′ .0) (held′ .1))))
+      (λ n. rw n (same-placed 2 bytes refl refl (replaced-some g img i o key bytes n)))
 
   -- ---- mode 3
   same-3 : Same g (add img key bytes 3) (addPresent b (valueOf g img key o) bytes 3)
@@ -155,11 +150,17 @@ module _ (g : Layout) (img : Bytes) (b : Book) (r : Reflects g img b) (key : Byt
       (same-in-place 3 img b refl refl (appended-none g img i o key bytes z) (appended-same g img i o key bytes z) r))
       (λ z.
       rw (ne-eqb (length bytes) 0 z)
-      (same-placed 3 (shown g img o ++ bytes) refl refl (appended-some g img i o key bytes z)
-      (rw (length-append (shown g img o) bytes) (omega arith))))
+      (same-placed 3 (bytesOf (shown g img o) ++ bytes) refl refl (appended-some g img i o key bytes z)))
+
+  -- ---- mode 4
+  same-4 : Same g (add img key bytes 4) (addPresent b (valueOf g img key o) bytes 4)
+  unfolding addPresent modeKnown
+  same-4 =
+      same-in-place 4 (retire img o) _ refl refl (withdrawn-none g img i o key bytes)
+      (withdrawn-retired g img i o key bytes) retired
 
   pub same-present : (mode : ℕ) → modeKnown mode ≡ true
       → Same g (add img key bytes mode) (addFound b key bytes mode (find key (b .entries)))
   unfolding addFound
   same-present mode k =
-      rw found (by-mode mode k (λ q. rw q same-1) (λ q. rw q same-2) (λ q. rw q same-3))
+      rw found (by-mode mode k (λ q. rw q same-1) (λ q. rw q same-2) (λ q. rw q same-3) (λ q. rw q same-4))

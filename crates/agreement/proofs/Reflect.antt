@@ -1,12 +1,12 @@
 -- The book and the file say the same: the relation that every call keeps.
 --     Reflects g img b      the file img, of layout g, holds what the book b says; Reflected img b: of some layout
---     reflect-entered, reflect-without      kept by a change to one point
+--     reflect-entered, reflect-without      kept by a change to one point; reflect-same: by a step that concerns none
 -- Assumes nothing.
 use mathlib.Core.Path.{_≡_, sym, ap, _∙_}
 use Prim.Native.Nat.{ℕ, _+_, _-_}
 use native.Mathlib.Omega.{arith}
 use mathlib.Core.Bool.{false}
-use mathlib.Core.List.{List}
+use mathlib.Core.List.{List, []}
 use mathlib.Core.Option.{none, some}
 use lib.ListN.{length}
 use Rattle.bhtf.specs.Bytes.{Bytes}
@@ -17,7 +17,7 @@ use Rattle.bhtf.specs.Questions.{nameAllowed}
 use Rattle.bhtf.specs.Book.{Entry, Terms, Book, find, without, withEntry, entered}
 use Rattle.bhtf.proofs.Tests.{not-both}
 use Rattle.bhtf.proofs.Bytes.{by-same}
-use Rattle.agreement.proofs.File.{Allowed, pointOf, File, Change, file-change, point-other}
+use Rattle.agreement.proofs.File.{Allowed, pointOf, not-allowed, File, Change, file-change, point-other}
 use Rattle.agreement.proofs.Entries.{Distinct, removed, find-without-other, find-without-same, distinct-without, find-withEntry, find-withEntry-other, distinct-withEntry}
 
 -- the book's terms of a file of L bytes
@@ -63,17 +63,17 @@ module _ (g : Layout) (img img′ key : Bytes) (b : Book) (r : Reflects g img b)
         distinct = d;
       }
 
-  -- the point has a text and a length held
-  pub reflect-entered : (text : Bytes) (held more : ℕ)
-      → pointOf g img′ key ≡ some (record { name = key; text = text; held = held })
+  -- the point is as an entry has it
+  pub reflect-entered : (new : Entry) (more : ℕ) → new .name ≡ key → pointOf g img′ key ≡ some new
       → field img′ freeField ≡ field img freeField + more
-      → length (withEntry (record { name = key; text = text; held = held }) (b .entries)) ≡ field img′ pointsField
-      → Reflects g img′ (entered b key text held more)
+      → length (withEntry new (b .entries)) ≡ field img′ pointsField
+      → Reflects g img′ (entered b new more)
   unfolding entered
-  reflect-entered text held more p x n =
-      let new : Entry = record { name = key; text = text; held = held } in
-      reflect-change (withEntry new (b .entries)) (b .used + more) (p ∙ sym (find-withEntry new (b .entries)))
-      (find-withEntry-other new (b .entries)) (distinct-withEntry new (b .entries) (r .distinct))
+  reflect-entered new more q p x n =
+      reflect-change (withEntry new (b .entries)) (b .used + more)
+      (p ∙ sym (ap (λ (k : Bytes). find k (withEntry new (b .entries))) (sym q) ∙ find-withEntry new (b .entries)))
+      (λ name m. find-withEntry-other new (b .entries) name (λ e. m (e ∙ q)))
+      (distinct-withEntry new (b .entries) (r .distinct))
       (omega (arith, x, r .used)) n
 
   -- the point is gone
@@ -84,3 +84,18 @@ module _ (g : Layout) (img img′ key : Bytes) (b : Book) (r : Reflects g img b)
       reflect-change (without key (b .entries)) (b .used) (p ∙ sym (find-without-same key (b .entries) (r .distinct)))
       (λ name q. find-without-other key name (b .entries) q) (distinct-without key (b .entries) (r .distinct))
       (x ∙ r .used) n
+
+-- a step that concerns no point, and changes neither X nor C, keeps the relation
+pub reflect-same : (g : Layout) (img img′ : Bytes) (b : Book) → Reflects g img b → Change g img img′ []
+    → field img′ freeField ≡ field img freeField → field img′ pointsField ≡ field img pointsField → Reflects g img′ b
+reflect-same g img img′ b r c x n =
+    record {
+      file = file-change g img img′ [] (r .file) c;
+      terms = rw (c .kept .size) (r .terms);
+      used = x ∙ r .used;
+      number = r .number ∙ sym n;
+      points =
+          λ name a. point-other g img img′ [] (r .file) c name a (λ q. not-allowed (r .file) (rw q at a)) ∙ r .points name a;
+      others = r .others;
+      distinct = r .distinct;
+    }

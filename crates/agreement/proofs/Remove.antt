@@ -45,7 +45,7 @@ module _ (g : Layout) (img : Bytes) (f : File g img) (key : Bytes) (a : Allowed 
   fewer-kept = points-kept img (f .opened) (field img pointsField - 1) few
 
   room-fewer : Room g (length fewer)
-  room-fewer = rw (fewer-kept .size) (file-room f)
+  room-fewer = rw (fewer-kept .fixed .size) (file-room f)
 
   fewer-slot : (k : ℕ) → k < g .N → slot g fewer k ≡ slot g img k
   unfolding fewer
@@ -120,7 +120,7 @@ module _ (g : Layout) (img : Bytes) (f : File g img) (key : Bytes) (a : Allowed 
   remove-change′ : Change g img gone key
   remove-change′ =
       record {
-        kept = remove-kept;
+        kept = remove-kept .fixed;
         known = kept-known remove-kept (f .opened);
         free-low = rw gone-free (omega arith);
         free-high = rw gone-free (f .opened .free-high);

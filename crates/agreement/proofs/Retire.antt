@@ -1,4 +1,4 @@
--- Retire: the message of a point made inactive. Its text is empty then, the length held as before.
+-- Retire: the message of a point made inactive. It has no text then, the length held is as before.
 --     retire-change, retire-point      the change, and the point's value
 --     retire-slot, retire-field        what stays as it was
 -- Assumes nothing.
@@ -7,7 +7,7 @@ use Prim.Native.Nat.{ℕ, _+_, _≤_, _<_}
 use native.Mathlib.Omega.{arith}
 use mathlib.Core.Bool.{true, false, _||_}
 use mathlib.Core.List.{[], _∷_}
-use mathlib.Core.Option.{some}
+use mathlib.Core.Option.{none, some}
 use lib.ListN.{length}
 use lib.Dec.{eqb}
 use borrow.Author.Tests.{ne-eqb}
@@ -16,19 +16,21 @@ use Rattle.bhtf.specs.Limits.{active, inactive, pointsField, freeField, tableSt
 use Rattle.bhtf.specs.Image.{field, Layout, layoutOf, offsetOf, slot}
 use Rattle.bhtf.specs.Messages.{headSize, letterAt, lengthAt, isActive, shown, held, retire}
 use Rattle.bhtf.specs.Questions.{messageSound}
+use Rattle.bhtf.specs.Book.{withdrawn}
 use Rattle.bhtf.proofs.Tests.{by-eq}
 use Rattle.bhtf.proofs.Bytes.{Apart, apart-sym, apart-inside, part-store-same}
+use Rattle.bhtf.proofs.Kept.{kept-known}
 use Rattle.bhtf.proofs.Effects
 use Rattle.bhtf.proofs.Effects.{active-some, by-retire, retire-kept, retire-behind}
 use Rattle.bhtf.proofs.Table.{entryOf}
 use Rattle.bhtf.proofs.Probe.{entryOf-frame}
 use Rattle.bhtf.proofs.Stretch.{span, Lies, lies-sound, none-sound, SameOn, same-on-refl, same-on-store}
 use Rattle.agreement.proofs.Data.{point-change, point-lies}
-use Rattle.agreement.proofs.File.{Allowed, pointOf, pointOf-some, File, file-some, Change}
+use Rattle.agreement.proofs.File.{Allowed, valueOf, pointOf, pointOf-some, File, file-some, Change}
 
 -- ---- retire
 
-shown-inactive : (g : Layout) (img : Bytes) (o : ℕ) → isActive img o ≡ false → shown g img o ≡ []
+shown-inactive : (g : Layout) (img : Bytes) (o : ℕ) → isActive img o ≡ false → shown g img o ≡ none
 unfolding shown
 shown-inactive g img o h = rw h refl
 
@@ -75,13 +77,13 @@ module _ (g : Layout) (img : Bytes) (f : File g img) (key s : Bytes) (a : Allowe
             (λ (i : Bytes). (eqb (letterAt i o) active || eqb (letterAt i o) inactive) ≡ true)
             (λ h lo hi. rw (dead-letter hi) refl)
             (λ h. l .letter);
-        least = rw off-length (l .least);
         end = rw (off-length, retire-field freeField (omega arith)) (l .end);
       }
 
   pub retire-change : Change g img off key
   retire-change =
-      point-change g img off f (retire-kept img (f .opened) o sound₁) retire-slot
+      point-change g img off f (retire-kept img (f .opened) o sound₁ .fixed)
+      (kept-known (retire-kept img (f .opened) o sound₁) (f .opened)) retire-slot
       (retire-field pointsField (omega arith))
       (rw (retire-field freeField (omega arith)) (omega arith))
       (rw (retire-field freeField (omega arith)) (f .opened .free-high))
@@ -99,8 +101,8 @@ module _ (g : Layout) (img : Bytes) (f : File g img) (key s : Bytes) (a : Allowe
           (apart-inside o (span g img o) p n o 1 (omega arith) (unfold headSize in omega arith)
           (apart-sym p n o (span g img o) h))
 
-  pub retire-point : pointOf g off key ≡ some (record { name = key; text = []; held = held g img o })
-  unfolding held
+  pub retire-point : pointOf g off key ≡ some (withdrawn (valueOf g img key o))
+  unfolding held withdrawn
   retire-point =
       pointOf-some g off key s (entryOf-frame g img off key (file-some f) retire-slot ∙ e)
       ∙ rw (shown-inactive g off o off-inactive, off-length) refl

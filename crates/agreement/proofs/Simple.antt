@@ -7,14 +7,14 @@ use Prim.Native.Nat.{ℕ, suc, _-_, _≤_}
 use native.Mathlib.Omega.{arith}
 use mathlib.Core.Bool.{true, false}
 use mathlib.Core.List.{List, [], _∷_}
-use mathlib.Core.Option.{none, some}
+use mathlib.Core.Option.{Option, none, some}
 use lib.ListN.{length}
 use borrow.Author.Tests.{ne-eqb, le-leb}
 use Rattle.bhtf.specs.Bytes.{Bytes}
 use Rattle.bhtf.specs.Limits.{pointsField, freeField}
 use Rattle.bhtf.specs.Image.{field, setField, Layout, slot, offsetOf}
 use Rattle.bhtf.specs.Search.{met, search, isMet}
-use Rattle.bhtf.specs.Messages.{shown, retire}
+use Rattle.bhtf.specs.Messages.{shown, bytesOf, retire}
 use Rattle.bhtf.specs.Delete.{closed, deleted, deletedAt}
 use Rattle.bhtf.specs.Questions.{Question, ask, firstNo, nameAllowed, messageSound, somePoint, openNumber, lookupNumber, deleteNumber}
 use Rattle.bhtf.specs.Calls.{Outcome, plain, settled, delete, lookup, count, countOf}
@@ -136,8 +136,8 @@ book-14-no z = omega (arith, z, book-14)
 
 module _ (g : Layout) (img : Bytes) (b : Book) (r : Reflects g img b) (key : Bytes) where
   pub lookup-is : (a : Allowed g key) (i : ℕ) → search g img key ≡ met i
-      → let t : Bytes = shown g img (offsetOf g (slot g img i)) in
-      lookup img key .answer ≡ record { number = 0; amount = length t; text = t }
+      → let t : Option Bytes = shown g img (offsetOf g (slot g img i)) in
+      lookup img key .answer ≡ record { number = 0; amount = length (bytesOf t); text = t }
   lookup-is a i m =
       rw (r .file .layout) at
       (lookup-shows img key (open₀ r) (rw (r .file .layout) a) i (rw (r .file .layout) m)

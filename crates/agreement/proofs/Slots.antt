@@ -60,7 +60,7 @@ module _ (g : Layout) (img : Bytes) (f : File g img) (key : Bytes) (a : Allowed 
       → Change g img img′ key
   slot-change points table counted others =
       record {
-        kept = k;
+        kept = k .fixed;
         known = kept-known k (f .opened);
         free-low = rw free (omega arith);
         free-high = rw free (f .opened .free-high);
@@ -177,7 +177,7 @@ module _ (g : Layout) (img : Bytes) (f : File g img) (key : Bytes) (a : Allowed 
 
     more : field img pointsField + 1 ≤ field put slotsField
     unfolding put
-    more = omega (arith, left, file-slots f, kept-slots (put-kept g img f i (slotBytes key x) lt len))
+    more = omega (arith, left, file-slots f, kept-slots (put-kept g img f i (slotBytes key x) lt len .fixed))
 
     is-enter : enter g img i key x ≡ setField put pointsField (field img pointsField + 1)
     unfolding enter put

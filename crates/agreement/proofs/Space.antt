@@ -15,10 +15,12 @@ use lib.ListN.{length, take, drop}
 use lib.Seq.{take-at, drop-at, take-length}
 use borrow.Author.Tests.{ne-eqb}
 use Rattle.bhtf.specs.Bytes.{Bytes, part, number, digits}
-use Rattle.bhtf.specs.Limits.{active, leastLength, freeField}
+use Rattle.bhtf.specs.Limits.{active, freeField}
 use Rattle.bhtf.specs.Image.{field, Layout, offsetOf}
 use Rattle.bhtf.specs.Messages.{headSize, letterAt, lengthAt, textAt, isActive, shown, held, message, takeSpace}
+use Rattle.bhtf.specs.Book.{noting}
 use Rattle.bhtf.proofs.Bytes.{Apart, part-part, length-digits, number-digits-fits}
+use Rattle.bhtf.proofs.Kept.{kept-known}
 use Rattle.bhtf.proofs.Effects.{Spaced, spaced}
 use Rattle.bhtf.proofs.Table.{entryOf}
 use Rattle.bhtf.proofs.Probe.{entryOf-frame}
@@ -60,14 +62,12 @@ module _ (g : Layout) (img : Bytes) (p : ℕ) (t : Bytes) (small : length t < 25
       }
 
 module _ (g : Layout) (img : Bytes) (p : ℕ) (t : Bytes) (w : Written g img p t) (z : p ≡ 0 → ⊥) where
-  pub written-value : (key : Bytes) → valueOf g img key p ≡ record { name = key; text = t; held = length t }
-  unfolding shown held isActive
+  pub written-value : (key : Bytes) → valueOf g img key p ≡ noting key t
+  unfolding shown held isActive noting
   written-value key = rw (w .letter, w .text, w .count, ne-eqb p 0 z) refl
 
-  pub written-lies : g .D ≤ p → leastLength ≤ length t → p + (headSize g + length t) ≤ field img freeField
-      → Lies g img p
-  written-lies lo le hi =
-      record { low = lo; letter = rw (w .letter) refl; least = rw (w .count) le; end = rw (w .count) hi }
+  pub written-lies : g .D ≤ p → p + (headSize g + length t) ≤ field img freeField → Lies g img p
+  written-lies lo hi = record { low = lo; letter = rw (w .letter) refl; end = rw (w .count) hi }
 
 -- ---- new space
 
@@ -86,7 +86,8 @@ module _ (g : Layout) (img : Bytes) (f : File g img) (t : Bytes) (small : length
 
   pub space-change : Change g img (takeSpace g img t) []
   space-change =
-      frame-change g img (takeSpace g img t) f (space-is .kept) (space-is .slots) (space-is .points)
+      frame-change g img (takeSpace g img t) f (space-is .kept .fixed) (kept-known (space-is .kept) (f .opened))
+      (space-is .slots) (space-is .points)
       (rw (space-is .free) (omega arith)) (rw (space-is .free) fits) []
       (λ key s a n e z.
       let lo = sound-lies g img (offsetOf g s) (f .messages key s a e .sound) z .low in
@@ -104,9 +105,9 @@ module _ (g : Layout) (img : Bytes) (f : File g img) (t : Bytes) (small : length
   pub space-some : field img freeField ≡ 0 → ⊥
   space-some z = omega (arith, low, file-above f)
 
-  pub space-lies : leastLength ≤ length t → Lies g (takeSpace g img t) (field img freeField)
-  space-lies le =
-      written-lies g (takeSpace g img t) (field img freeField) t space-written space-some low le
+  pub space-lies : Lies g (takeSpace g img t) (field img freeField)
+  space-lies =
+      written-lies g (takeSpace g img t) (field img freeField) t space-written space-some low
       (rw (space-is .free) (omega arith))
 
   -- no point's message meets it

@@ -1,5 +1,5 @@
 -- What a step does to the book: nothing, or one entry is put in, or one is taken out.
---     Given name text b b′     b′ is b with that text under the name
+--     Given name text b b′     b′ is b with that text, or none, under the name
 --     Added, book-add          what an add does, by cases; by-put: what they have in common
 --     Deleted, book-delete     what a delete does, by cases
 --     Effect, call-effect      what any call does, in one list of all calls; effect-..: what follows from it
@@ -8,45 +8,51 @@
 use mathlib.Core.Path.{_≡_, refl, sym, ap, _∙_}
 use Prim.Native.Nat.{ℕ, suc, _≤_}
 use native.Mathlib.Omega.{arith}
-use mathlib.Core.Bool.{false}
+use mathlib.Core.Bool.{false, _&&_}
 use mathlib.Core.List.{List, [], _∷_, _++_}
 use mathlib.Core.Option.{Option, none, some, Option·none-ne-some}
 use lib.ListN.{length}
-use lib.Dec.{eqb}
-use borrow.Author.Tests.{eq-eqb, ne-eqb, le-leb, lt-leb}
+use lib.Dec.{eqb, leb}
+use borrow.Author.Tests.{eq-eqb, ne-eqb}
 use Rattle.bhtf.specs.Bytes.{Bytes}
+use Rattle.bhtf.specs.Messages.{bytesOf}
 use Rattle.bhtf.specs.Questions.{Question, ask, firstNo, nameAllowed}
 use Rattle.bhtf.specs.Calls.{Outcome, plain}
 use Rattle.bhtf.specs.Lists.{Call, adding, deleting, looking, counting}
-use Rattle.bhtf.specs.Book.{Entry, Book, find, stepOf, guarded, entered, placed, addAbsent, replace, append, addPresent, addFound, bookAdd, deleteFound, bookDelete, lookupFound, bookLookup, bookCount, bookStep}
+use Rattle.bhtf.specs.Book.{Entry, Book, find, withEntry, stepOf, guarded, entered, noting, bare, placed, addAbsent, replace, append, withdrawn, addPresent, addFound, bookAdd, deleteFound, bookDelete, lookupFound, bookLookup, bookCount, bookStep}
 use Rattle.bhtf.specs.Demand.{bookText, textOf}
-use Rattle.bhtf.proofs.Tests.{by-bool, by-eq, by-le}
+use Rattle.bhtf.proofs.Tests.{by-bool, by-eq}
 use Rattle.bhtf.proofs.Bytes.{by-same}
 use Rattle.bhtf.proofs.Opened.{firstNo-none, firstNo-no}
 use Rattle.agreement.proofs.Entries.{removed, find-same, find-without-other, find-withEntry, find-withEntry-other, length-withEntry-new, length-withEntry-old}
 
 -- ---- a text given to a name
 
-pub record Given (name text : Bytes) (b b′ : Book) : Type 0 where
-  pub held : ℕ
+pub record Given (name : Bytes) (text : Option Bytes) (b b′ : Book) : Type 0 where
+  pub new : Entry
   pub more : ℕ
-  pub is : b′ ≡ entered b name text held more
+  pub named : new .name ≡ name
+  pub told : new .text ≡ text
+  pub is : b′ ≡ entered b new more
 
-module _ {name text : Bytes} {b b′ : Book} (w : Given name text b b′) where
+module _ {name : Bytes} {text : Option Bytes} {b b′ : Book} (w : Given name text b b′) where
   abbrev new : Entry
-  new = record { name = name; text = text; held = w .held }
+  new = w .new
 
   pub given-find : find name (b′ .entries) ≡ some new
   unfolding entered
-  given-find = rw (w .is) (find-withEntry new (b .entries))
+  given-find =
+      ap (λ (x : Book). find name (x .entries)) (w .is)
+      ∙ ap (λ (k : Bytes). find k (withEntry new (b .entries))) (sym (w .named))
+      ∙ find-withEntry new (b .entries)
 
   pub given-text : bookText b′ name ≡ some text
   unfolding bookText textOf
-  given-text = ap textOf given-find
+  given-text = ap textOf given-find ∙ ap some (w .told)
 
   pub given-other : (other : Bytes) → (other ≡ name → ⊥) → find other (b′ .entries) ≡ find other (b .entries)
   unfolding entered
-  given-other other n = rw (w .is) (find-withEntry-other new (b .entries) other n)
+  given-other other n = rw (w .is) (find-withEntry-other new (b .entries) other (λ e. n (e ∙ w .named)))
 
   pub given-used : b .used ≤ b′ .used
   unfolding entered
@@ -54,23 +60,29 @@ module _ {name text : Bytes} {b b′ : Book} (w : Given name text b b′) where
 
   pub given-new : find name (b .entries) ≡ none → length (b′ .entries) ≡ suc (length (b .entries))
   unfolding entered
-  given-new h = rw (w .is) (length-withEntry-new new (b .entries) h)
+  given-new h = rw (w .is) (length-withEntry-new new (b .entries) (ap (λ (k : Bytes). find k (b .entries)) (w .named) ∙ h))
 
   pub given-old : (e : Entry) → find name (b .entries) ≡ some e → length (b′ .entries) ≡ length (b .entries)
   unfolding entered
-  given-old e h = rw (w .is) (length-withEntry-old new (b .entries) e h)
+  given-old e h =
+      rw (w .is) (length-withEntry-old new (b .entries) e (ap (λ (k : Bytes). find k (b .entries)) (w .named) ∙ h))
 
 -- ---- add, by cases
 
 pub data Added (b : Book) (name bytes : Bytes) (mode : ℕ) (o : Outcome Book) : Type 0 where
   refused : (o .answer .number ≡ 0 → ⊥) → o .after ≡ b → Added b name bytes mode o
-  fresh : find name (b .entries) ≡ none → Given name bytes b (o .after) → Added b name bytes mode o
-  replaced : (e : Entry) → find name (b .entries) ≡ some e → mode ≡ 2 → Given name bytes b (o .after)
+  fresh : find name (b .entries) ≡ none → (mode ≡ 4 → ⊥) → (mode ≡ 3 → bytes ≡ [] → ⊥)
+      → Given name (some bytes) b (o .after) → Added b name bytes mode o
+  bared : find name (b .entries) ≡ none → mode ≡ 3 → bytes ≡ [] → Given name none b (o .after)
       → Added b name bytes mode o
-  appended : (e : Entry) → find name (b .entries) ≡ some e → (mode ≡ 1 → ⊥) → (mode ≡ 2 → ⊥)
-      → Given name (e .text ++ bytes) b (o .after) → Added b name bytes mode o
-  unchanged : (e : Entry) → find name (b .entries) ≡ some e → (mode ≡ 1 → ⊥) → (mode ≡ 2 → ⊥) → bytes ≡ []
-      → o .after ≡ b
+  replaced : (e : Entry) → find name (b .entries) ≡ some e → mode ≡ 2 → Given name (some bytes) b (o .after)
+      → Added b name bytes mode o
+  appended : (e : Entry) → find name (b .entries) ≡ some e → (mode ≡ 1 → ⊥) → (mode ≡ 2 → ⊥) → (mode ≡ 4 → ⊥)
+      → (bytes ≡ [] → ⊥) → Given name (some (bytesOf (e .text) ++ bytes)) b (o .after) → Added b name bytes mode o
+  unchanged : (e : Entry) → find name (b .entries) ≡ some e → (mode ≡ 1 → ⊥) → (mode ≡ 2 → ⊥) → (mode ≡ 4 → ⊥)
+      → bytes ≡ [] → o .after ≡ b
+      → Added b name bytes mode o
+  withdrew : (e : Entry) → find name (b .entries) ≡ some e → mode ≡ 4 → Given name none b (o .after)
       → Added b name bytes mode o
 
 no-bytes : (d : Bytes) → length d ≡ 0 → d ≡ []
@@ -95,42 +107,52 @@ module _ (b : Book) (name bytes : Bytes) (mode : ℕ) where
   step-refused n y z =
       rw (firstNo-no n false [] refl, ne-eqb n 0 z) (refused z refl)
 
-  gives : (text : Bytes) (h more : ℕ) (k : Bytes) (b′ : Book) → k ≡ name → b′ ≡ entered b k text h more
-      → Given name text b b′
-  gives text h more k b′ q e = record { held = h; more = more; is = e ∙ ap (λ (x : Bytes). entered b x text h more) q }
+  gives : (new : Entry) (more : ℕ) (b′ : Book) → new .name ≡ name → b′ ≡ entered b new more
+      → Given name (new .text) b b′
+  gives new more b′ q e = record { new = new; more = more; named = q; told = refl; is = e }
 
-  add-new : find name (b .entries) ≡ none → Here (addAbsent b name bytes)
-  unfolding addAbsent placed
+  some-bytes : (length bytes ≡ 0 → ⊥) → bytes ≡ [] → ⊥
+  some-bytes z q = z (ap length q)
+
+  add-new : find name (b .entries) ≡ none → Here (addAbsent b name bytes mode)
+  unfolding addAbsent placed noting bare
   add-new n =
-      by-eq (length bytes) 0
-      (λ z. rw (eq-eqb (length bytes) 0 z)
-      (step-cases _ _ (λ e. fresh n
-      (gives bytes 0 0 name _ refl (e ∙ ap (λ (t : Bytes). entered b name t 0 0) (sym (no-bytes bytes z)))))))
-      (λ z. rw (ne-eqb (length bytes) 0 z) (step-cases _ _ (λ e. fresh n (gives bytes _ _ name _ refl e))))
+      by-eq mode 4
+      (λ h. rw (eq-eqb mode 4 h) (step-refused 14 b (λ z. omega arith)))
+      (λ n₄. rw (ne-eqb mode 4 n₄) (by-eq mode 3
+      (λ three. by-eq (length bytes) 0
+      (λ z. rw (eq-eqb mode 3 three, eq-eqb (length bytes) 0 z)
+      (step-cases _ _ (λ e. bared n three (no-bytes bytes z) (gives (bare name) 0 _ refl e))))
+      (λ z. rw (eq-eqb mode 3 three, ne-eqb (length bytes) 0 z)
+      (step-cases _ _ (λ e. fresh n n₄ (λ t. some-bytes z) (gives (noting name bytes) _ _ refl e)))))
+      (λ n₃. rw (ne-eqb mode 3 n₃)
+      (step-cases _ _ (λ e. fresh n n₄ (λ t. absurd (n₃ t)) (gives (noting name bytes) _ _ refl e))))))
 
   module _ (e : Entry) (f : find name (b .entries) ≡ some e) where
     is-name : e .name ≡ name
     is-name = find-same name (b .entries) e f
 
     add-replace : mode ≡ 2 → Here (replace b e bytes)
-    unfolding replace placed
+    unfolding replace placed noting
     add-replace two =
-        by-eq (length bytes) 0
-        (λ z. rw (eq-eqb (length bytes) 0 z)
-        (step-cases _ _ (λ q. replaced e f two
-        (gives bytes _ 0 (e .name) _ is-name
-        (q ∙ ap (λ (t : Bytes). entered b (e .name) t (e .held) 0) (sym (no-bytes bytes z)))))))
-        (λ z. rw (ne-eqb (length bytes) 0 z) (by-le (length bytes) (e .held)
-        (λ l. rw (le-leb _ _ l) (step-cases _ _ (λ q. replaced e f two (gives bytes _ _ (e .name) _ is-name q))))
-        (λ l. rw (lt-leb _ _ l) (step-cases _ _ (λ q. replaced e f two (gives bytes _ _ (e .name) _ is-name q))))))
+        let put : (more : ℕ) (b′ : Book) → b′ ≡ entered b (noting (e .name) bytes) more → Given name (some bytes) b b′ =
+        λ more b′ q. gives (noting (e .name) bytes) more b′ is-name q in
+        by-bool (e .offset? && leb (length bytes) (e .held))
+        (λ y. rw y (step-cases _ _ (λ q. replaced e f two (put _ _ q))))
+        (λ no′. rw no′ (step-cases _ _ (λ q. replaced e f two (put _ _ q))))
 
-    add-append : (mode ≡ 1 → ⊥) → (mode ≡ 2 → ⊥) → Here (append b e bytes)
-    unfolding append placed
-    add-append n₁ n₂ =
+    add-append : (mode ≡ 1 → ⊥) → (mode ≡ 2 → ⊥) → (mode ≡ 4 → ⊥) → Here (append b e bytes)
+    unfolding append placed noting
+    add-append n₁ n₂ n₄ =
         by-eq (length bytes) 0
-        (λ z. rw (eq-eqb (length bytes) 0 z) (step-cases _ _ (λ q. unchanged e f n₁ n₂ (no-bytes bytes z) q)))
+        (λ z. rw (eq-eqb (length bytes) 0 z) (step-cases _ _ (λ q. unchanged e f n₁ n₂ n₄ (no-bytes bytes z) q)))
         (λ z. rw (ne-eqb (length bytes) 0 z)
-        (step-cases _ _ (λ q. appended e f n₁ n₂ (gives (e .text ++ bytes) _ _ (e .name) _ is-name q))))
+        (step-cases _ _ (λ q. appended e f n₁ n₂ n₄ (some-bytes z)
+        (gives (noting (e .name) (bytesOf (e .text) ++ bytes)) _ _ is-name q))))
+
+    add-withdraw : mode ≡ 4 → Here (stepOf b [] (entered b (withdrawn e) 0))
+    unfolding withdrawn
+    add-withdraw four = step-cases _ _ (λ q. withdrew e f four (gives (withdrawn e) 0 _ is-name q))
 
     add-present : Here (addPresent b e bytes mode)
     unfolding addPresent
@@ -139,7 +161,9 @@ module _ (b : Book) (name bytes : Bytes) (mode : ℕ) where
         (λ h. rw (eq-eqb mode 1 h) (step-refused 9 b (λ z. omega arith)))
         (λ n₁. rw (ne-eqb mode 1 n₁) (by-eq mode 2
         (λ h. rw (eq-eqb mode 2 h) (add-replace h))
-        (λ n₂. rw (ne-eqb mode 2 n₂) (add-append n₁ n₂))))
+        (λ n₂. rw (ne-eqb mode 2 n₂) (by-eq mode 4
+        (λ h. rw (eq-eqb mode 4 h) (add-withdraw h))
+        (λ n₄. rw (ne-eqb mode 4 n₄) (add-append n₁ n₂ n₄))))))
 
   add-found : (f : Option Entry) → find name (b .entries) ≡ f → Here (addFound b name bytes mode f)
   unfolding addFound
@@ -159,12 +183,14 @@ module _ (b : Book) (name bytes : Bytes) (mode : ℕ) where
 
 -- the book is as it was, or has a text under the name
 pub by-put {ℓ} : {A : Type ℓ} {b : Book} {name bytes : Bytes} {mode : ℕ} {o : Outcome Book} → Added b name bytes mode o
-    → (o .after ≡ b → A) → ((text : Bytes) → Given name text b (o .after) → A) → A
+    → (o .after ≡ b → A) → ((text : Option Bytes) → Given name text b (o .after) → A) → A
 by-put (refused z q) kept given = kept q
-by-put (fresh n w) kept given = given _ w
+by-put (fresh n n₄ s w) kept given = given _ w
+by-put (bared n m z w) kept given = given _ w
 by-put (replaced e f m w) kept given = given _ w
-by-put (appended e f n₁ n₂ w) kept given = given _ w
-by-put (unchanged e f n₁ n₂ z q) kept given = kept q
+by-put (appended e f n₁ n₂ n₄ s w) kept given = given _ w
+by-put (unchanged e f n₁ n₂ n₄ z q) kept given = kept q
+by-put (withdrew e f m w) kept given = given _ w
 
 -- ---- delete and lookup
 
@@ -203,7 +229,7 @@ module _ (b : Book) (name : Bytes) where
 -- nothing, or a text is put under the name that it adds, or the entry of the name that it deletes goes
 pub data Effect (b : Book) (c : Call) (b′ : Book) : Type 0 where
   nothing : b′ ≡ b → Effect b c b′
-  enters : (name bytes : Bytes) (mode : ℕ) (text : Bytes) → c ≡ adding name bytes mode → Given name text b b′
+  enters : (name bytes : Bytes) (mode : ℕ) (text : Option Bytes) → c ≡ adding name bytes mode → Given name text b b′
       → Effect b c b′
   leaves : (name : Bytes) (e : Entry) → c ≡ deleting name → find name (b .entries) ≡ some e
       → b′ ≡ removed name b → Effect b c b′

@@ -1,8 +1,11 @@
 -- Corollaries in the words of a user: what was added and not deleted is found, what was deleted is not, a call changes
 -- no other point, and C counts. Each is read off the book, which the file agrees with.
 --     call-others         a call changes no point but the one that it adds or deletes; so delete-others, add-others
---     added-found, replaced-found    after an accepted add in mode 1 or 2 the point is found with the data as its text
+--     added-found, replaced-found    after an accepted add in mode 1 or 2 the point is found with the data as its text,
+--                         also where that is empty
 --     appended-found, appended-new   in mode 3 with the data behind its text; with the data alone where it was absent
+--     appended-same, appended-bare   without data: as it was; without a message where it was absent
+--     withdrawn-found     in mode 4 the point is found, without a text
 --     deleted-gone        after an accepted delete it is not found
 --     count-added, count-replaced, count-deleted      C grows by 1, stays, falls by 1
 --     stays-found         a point that is found stays so until it is deleted
@@ -12,12 +15,13 @@
 use mathlib.Core.Path.{_≡_, refl, sym, ap, _∙_}
 use Prim.Native.Nat.{ℕ, suc, _+_, _≤_}
 use native.Mathlib.Omega.{arith}
-use mathlib.Core.List.{List, [], _∷_, _++_, append-nil}
+use mathlib.Core.List.{List, [], _∷_, _++_}
 use mathlib.Core.Option.{Option, none, some, Option·none-ne-some, Option·some-injective}
 use lib.ListN.{length}
 use Rattle.bhtf.specs.Bytes.{Bytes}
 use Rattle.bhtf.specs.Limits.{freeField}
 use Rattle.bhtf.specs.Image.{field}
+use Rattle.bhtf.specs.Messages.{bytesOf}
 use Rattle.bhtf.specs.Calls.{Answer, Outcome, add, delete, count}
 use Rattle.bhtf.specs.Lists.{Call, adding, deleting, perform, stateAfter}
 use Rattle.bhtf.specs.Book.{Entry, Book, find, bookDelete, bookCount, bookStep}
@@ -27,11 +31,11 @@ use Rattle.agreement.proofs.Reflect.{Reflected}
 use Rattle.agreement.proofs.Simple.{same-count}
 use Rattle.agreement.proofs.Theorem.{step-kept, step, reflects-step, points-agree, reflects-after}
 use Rattle.agreement.proofs.Reached.{Reached, reached-reflects, reached-after}
-use Rattle.agreement.proofs.Steps.{given-text, given-new, given-old, Added, refused, fresh, replaced, appended, unchanged, book-add, by-put, Deleted, gone, book-delete, call-effect, NotDeleting, NotAdding, Has, Lacks, effect-other, effect-has, effect-lacks, effect-used}
+use Rattle.agreement.proofs.Steps.{given-text, given-new, given-old, Added, refused, fresh, bared, replaced, appended, unchanged, withdrew, book-add, by-put, Deleted, gone, book-delete, call-effect, NotDeleting, NotAdding, Has, Lacks, effect-other, effect-has, effect-lacks, effect-used}
 
 -- ---- the book's texts
 
-text-some : (f : Option Entry) (text : Bytes) → textOf f ≡ some text → (e : Entry) × (f ≡ some e)
+text-some : (f : Option Entry) (text : Option Bytes) → textOf f ≡ some text → (e : Entry) × (f ≡ some e)
 unfolding textOf
 text-some none text h = absurd (Option·none-ne-some text h)
 text-some (some e) text h = (e, refl)
@@ -42,7 +46,7 @@ text-none none h = refl
 text-none (some e) h = absurd (Option·none-ne-some (e .text) (sym h))
 
 module _ (b : Book) (name : Bytes) where
-  found-entry : (text : Bytes) → bookText b name ≡ some text → (e : Entry) × (find name (b .entries) ≡ some e)
+  found-entry : (text : Option Bytes) → bookText b name ≡ some text → (e : Entry) × (find name (b .entries) ≡ some e)
   unfolding bookText
   found-entry text h = text-some _ text h
 
@@ -79,40 +83,81 @@ differ q =
 -- ---- an accepted add, by its mode
 
 module _ {b : Book} {name bytes : Bytes} {o : Outcome Book} where
-  book-added : Added b name bytes 1 o → o .answer .number ≡ 0 → bookText (o .after) name ≡ some bytes
+  book-added : Added b name bytes 1 o → o .answer .number ≡ 0 → bookText (o .after) name ≡ some (some bytes)
   book-added (refused z q) k = absurd (z k)
-  book-added (fresh n w) k = given-text w
+  book-added (fresh n n₄ s w) k = given-text w
+  book-added (bared n m z w) k = absurd (omega arith)
   book-added (replaced e f m w) k = given-text w
-  book-added (appended e f n₁ n₂ w) k = absurd (n₁ refl)
-  book-added (unchanged e f n₁ n₂ z q) k = absurd (n₁ refl)
+  book-added (appended e f n₁ n₂ n₄ s w) k = absurd (n₁ refl)
+  book-added (unchanged e f n₁ n₂ n₄ z q) k = absurd (n₁ refl)
+  book-added (withdrew e f m w) k = absurd (omega arith)
 
-  book-replaced : Added b name bytes 2 o → o .answer .number ≡ 0 → bookText (o .after) name ≡ some bytes
+  book-replaced : Added b name bytes 2 o → o .answer .number ≡ 0 → bookText (o .after) name ≡ some (some bytes)
   book-replaced (refused z q) k = absurd (z k)
-  book-replaced (fresh n w) k = given-text w
+  book-replaced (fresh n n₄ s w) k = given-text w
+  book-replaced (bared n m z w) k = absurd (omega arith)
   book-replaced (replaced e f m w) k = given-text w
-  book-replaced (appended e f n₁ n₂ w) k = absurd (n₂ refl)
-  book-replaced (unchanged e f n₁ n₂ z q) k = absurd (n₂ refl)
+  book-replaced (appended e f n₁ n₂ n₄ s w) k = absurd (n₂ refl)
+  book-replaced (unchanged e f n₁ n₂ n₄ z q) k = absurd (n₂ refl)
+  book-replaced (withdrew e f m w) k = absurd (omega arith)
 
-  -- of a point with the text old
-  book-appended : (old : Bytes) → bookText b name ≡ some old → Added b name bytes 3 o → o .answer .number ≡ 0
-      → bookText (o .after) name ≡ some (old ++ bytes)
-  book-appended old h (refused z q) k = absurd (z k)
-  book-appended old h (fresh n w) k = absurd (Option·none-ne-some old (sym (no-text b name n) ∙ h))
-  book-appended old h (replaced e f m w) k = absurd (omega arith)
-  book-appended old h (appended e f n₁ n₂ w) k =
+  -- of a point with the text old, or none
+  book-appended : (old : Option Bytes) → (bytes ≡ [] → ⊥) → bookText b name ≡ some old → Added b name bytes 3 o
+      → o .answer .number ≡ 0
+      → bookText (o .after) name ≡ some (some (bytesOf old ++ bytes))
+  book-appended old d h (refused z q) k = absurd (z k)
+  book-appended old d h (fresh n n₄ s w) k = absurd (Option·none-ne-some old (sym (no-text b name n) ∙ h))
+  book-appended old d h (bared n m z w) k = absurd (d z)
+  book-appended old d h (replaced e f m w) k = absurd (omega arith)
+  book-appended old d h (appended e f n₁ n₂ n₄ s w) k =
       given-text w
-      ∙ ap (λ (t : Bytes). some (t ++ bytes)) (Option·some-injective (e .text) old (sym (the-text b name e f) ∙ h))
-  book-appended old h (unchanged e f n₁ n₂ z q) k =
-      ap (λ (x : Book). bookText x name) q ∙ h ∙ ap some (sym (ap (λ (t : Bytes). old ++ t) z ∙ append-nil old))
+      ∙ ap (λ (t : Option Bytes). some (some (bytesOf t ++ bytes)))
+      (Option·some-injective (e .text) old (sym (the-text b name e f) ∙ h))
+  book-appended old d h (unchanged e f n₁ n₂ n₄ z q) k = absurd (d z)
+  book-appended old d h (withdrew e f m w) k = absurd (omega arith)
 
-  -- of a point that is absent
-  book-new : (mode : ℕ) → bookText b name ≡ none → Added b name bytes mode o → o .answer .number ≡ 0
-      → (bookText (o .after) name ≡ some bytes) × (length (o .after .entries) ≡ suc (length (b .entries)))
-  book-new mode h (refused z q) k = absurd (z k)
-  book-new mode h (fresh n w) k = (given-text w, given-new w n)
-  book-new mode h (replaced e f m w) k = absurd (Option·none-ne-some (e .text) (sym h ∙ the-text b name e f))
-  book-new mode h (appended e f n₁ n₂ w) k = absurd (Option·none-ne-some (e .text) (sym h ∙ the-text b name e f))
-  book-new mode h (unchanged e f n₁ n₂ z q) k = absurd (Option·none-ne-some (e .text) (sym h ∙ the-text b name e f))
+  -- no data: as it was
+  book-same : (old : Option Bytes) → bytes ≡ [] → bookText b name ≡ some old → Added b name bytes 3 o
+      → bookText (o .after) name ≡ some old
+  book-same old d h (refused z q) = ap (λ (x : Book). bookText x name) q ∙ h
+  book-same old d h (fresh n n₄ s w) = absurd (s refl d)
+  book-same old d h (bared n m z w) = absurd (Option·none-ne-some old (sym (no-text b name n) ∙ h))
+  book-same old d h (replaced e f m w) = absurd (omega arith)
+  book-same old d h (appended e f n₁ n₂ n₄ s w) = absurd (s d)
+  book-same old d h (unchanged e f n₁ n₂ n₄ z q) = ap (λ (x : Book). bookText x name) q ∙ h
+  book-same old d h (withdrew e f m w) = absurd (omega arith)
+
+  -- of a point that is absent: no message where there is no data, else one with the data
+  book-new : bookText b name ≡ none → Added b name bytes 3 o → o .answer .number ≡ 0
+      → ((bytes ≡ [] → ⊥) → bookText (o .after) name ≡ some (some bytes))
+      × (bytes ≡ [] → bookText (o .after) name ≡ some none)
+  book-new h (refused z q) k = absurd (z k)
+  book-new h (fresh n n₄ s w) k = (λ d. given-text w, λ d. absurd (s refl d))
+  book-new h (bared n m z w) k = (λ d. absurd (d z), λ d. given-text w)
+  book-new h (replaced e f m w) k = absurd (Option·none-ne-some (e .text) (sym h ∙ the-text b name e f))
+  book-new h (appended e f n₁ n₂ n₄ s w) k = absurd (Option·none-ne-some (e .text) (sym h ∙ the-text b name e f))
+  book-new h (unchanged e f n₁ n₂ n₄ z q) k = absurd (Option·none-ne-some (e .text) (sym h ∙ the-text b name e f))
+  book-new h (withdrew e f m w) k = absurd (Option·none-ne-some (e .text) (sym h ∙ the-text b name e f))
+
+  -- in whichever mode: one entry more
+  book-more : (mode : ℕ) → bookText b name ≡ none → Added b name bytes mode o → o .answer .number ≡ 0
+      → length (o .after .entries) ≡ suc (length (b .entries))
+  book-more mode h (refused z q) k = absurd (z k)
+  book-more mode h (fresh n n₄ s w) k = given-new w n
+  book-more mode h (bared n m z w) k = given-new w n
+  book-more mode h (replaced e f m w) k = absurd (Option·none-ne-some (e .text) (sym h ∙ the-text b name e f))
+  book-more mode h (appended e f n₁ n₂ n₄ s w) k = absurd (Option·none-ne-some (e .text) (sym h ∙ the-text b name e f))
+  book-more mode h (unchanged e f n₁ n₂ n₄ z q) k = absurd (Option·none-ne-some (e .text) (sym h ∙ the-text b name e f))
+  book-more mode h (withdrew e f m w) k = absurd (Option·none-ne-some (e .text) (sym h ∙ the-text b name e f))
+
+  book-withdrawn : Added b name bytes 4 o → o .answer .number ≡ 0 → bookText (o .after) name ≡ some none
+  book-withdrawn (refused z q) k = absurd (z k)
+  book-withdrawn (fresh n n₄ s w) k = absurd (n₄ refl)
+  book-withdrawn (bared n m z w) k = given-text w
+  book-withdrawn (replaced e f m w) k = absurd (omega arith)
+  book-withdrawn (appended e f n₁ n₂ n₄ s w) k = absurd (n₄ refl)
+  book-withdrawn (unchanged e f n₁ n₂ n₄ z q) k = absurd (n₄ refl)
+  book-withdrawn (withdrew e f m w) k = given-text w
 
 -- an accepted delete
 book-gone : {b : Book} {name : Bytes} {o : Outcome Book} → Distinct (b .entries) → Deleted b name o
@@ -130,7 +175,7 @@ module _ (img : Bytes) (b : Book) (r : Reached img b) where
   rel : Reflected img b
   rel = reached-reflects img b r
 
-  book-has : (key : Bytes) (t : Option Bytes) → fileText img key ≡ t → bookText b key ≡ t
+  book-has : (key : Bytes) (t : Option (Option Bytes)) → fileText img key ≡ t → bookText b key ≡ t
   book-has key t h = sym (points-agree img b rel key) ∙ h
 
   -- the book accepts too
@@ -165,34 +210,59 @@ module _ (img : Bytes) (b : Book) (r : Reached img b) where
   add-others key bytes other mode n =
       call-others (adding key bytes mode) other (λ bytes′ mode′ q. n (sym (same-added q))) (λ q. differ (sym q))
 
-  -- an accepted add, in its three modes
+  -- an accepted add, in its four modes
   pub added-found : (key bytes : Bytes) → add img key bytes 1 .answer .number ≡ 0
-      → fileText (add img key bytes 1 .after) key ≡ some bytes
+      → fileText (add img key bytes 1 .after) key ≡ some (some bytes)
   unfolding perform bookStep
   added-found key bytes ok =
       let c = adding key bytes 1 in
       text-after c key ∙ book-added (book-add b key bytes 1) (number-too c ok)
 
   pub replaced-found : (key bytes : Bytes) → add img key bytes 2 .answer .number ≡ 0
-      → fileText (add img key bytes 2 .after) key ≡ some bytes
+      → fileText (add img key bytes 2 .after) key ≡ some (some bytes)
   unfolding perform bookStep
   replaced-found key bytes ok =
       let c = adding key bytes 2 in
       text-after c key ∙ book-replaced (book-add b key bytes 2) (number-too c ok)
 
-  pub appended-found : (key bytes old : Bytes) → fileText img key ≡ some old → add img key bytes 3 .answer .number ≡ 0
-      → fileText (add img key bytes 3 .after) key ≡ some (old ++ bytes)
+  pub appended-found : (key bytes : Bytes) (old : Option Bytes) → (bytes ≡ [] → ⊥) → fileText img key ≡ some old
+      → add img key bytes 3 .answer .number ≡ 0
+      → fileText (add img key bytes 3 .after) key ≡ some (some (bytesOf old ++ bytes))
   unfolding perform bookStep
-  appended-found key bytes old h ok =
+  appended-found key bytes old d h ok =
       let c = adding key bytes 3 in
-      text-after c key ∙ book-appended old (book-has key _ h) (book-add b key bytes 3) (number-too c ok)
+      text-after c key ∙ book-appended old d (book-has key _ h) (book-add b key bytes 3) (number-too c ok)
 
-  pub appended-new : (key bytes : Bytes) → fileText img key ≡ none → add img key bytes 3 .answer .number ≡ 0
-      → fileText (add img key bytes 3 .after) key ≡ some bytes
+  -- no data: the text is as it was, or there is none as before
+  pub appended-same : (key : Bytes) (old : Option Bytes) → fileText img key ≡ some old
+      → fileText (add img key [] 3 .after) key ≡ some old
   unfolding perform bookStep
-  appended-new key bytes h ok =
+  appended-same key old h =
+      text-after (adding key [] 3) key ∙ book-same old refl (book-has key _ h) (book-add b key [] 3)
+
+  pub appended-new : (key bytes : Bytes) → (bytes ≡ [] → ⊥) → fileText img key ≡ none
+      → add img key bytes 3 .answer .number ≡ 0
+      → fileText (add img key bytes 3 .after) key ≡ some (some bytes)
+  unfolding perform bookStep
+  appended-new key bytes d h ok =
       let c = adding key bytes 3 in
-      text-after c key ∙ book-new 3 (book-has key _ h) (book-add b key bytes 3) (number-too c ok) .0
+      text-after c key ∙ book-new (book-has key _ h) (book-add b key bytes 3) (number-too c ok) .0 d
+
+  -- no data for a point that was absent: it is found, without a message
+  pub appended-bare : (key : Bytes) → fileText img key ≡ none → add img key [] 3 .answer .number ≡ 0
+      → fileText (add img key [] 3 .after) key ≡ some none
+  unfolding perform bookStep
+  appended-bare key h ok =
+      let c = adding key [] 3 in
+      text-after c key ∙ book-new (book-has key _ h) (book-add b key [] 3) (number-too c ok) .1 refl
+
+  -- whatever the data
+  pub withdrawn-found : (key bytes : Bytes) → add img key bytes 4 .answer .number ≡ 0
+      → fileText (add img key bytes 4 .after) key ≡ some none
+  unfolding perform bookStep
+  withdrawn-found key bytes ok =
+      let c = adding key bytes 4 in
+      text-after c key ∙ book-withdrawn (book-add b key bytes 4) (number-too c ok)
 
   -- an accepted delete
   pub deleted-gone : (key : Bytes) → delete img key .answer .number ≡ 0 → fileText (delete img key .after) key ≡ none
@@ -208,11 +278,11 @@ module _ (img : Bytes) (b : Book) (r : Reached img b) where
   unfolding perform bookStep
   count-added key bytes mode h ok =
       let c = adding key bytes mode in
-      let new = book-new mode (book-has key _ h) (book-add b key bytes mode) (number-too c ok) in
-      omega (arith, count-after c, count-now, new .1)
+      let new = book-more mode (book-has key _ h) (book-add b key bytes mode) (number-too c ok) in
+      omega (arith, count-after c, count-now, new)
 
   -- accepted or refused
-  pub count-replaced : (key bytes old : Bytes) (mode : ℕ) → fileText img key ≡ some old
+  pub count-replaced : (key bytes : Bytes) (old : Option Bytes) (mode : ℕ) → fileText img key ≡ some old
       → count (add img key bytes mode .after) .answer .amount ≡ count img .answer .amount
   unfolding perform bookStep
   count-replaced key bytes old mode h =
@@ -272,9 +342,9 @@ module _ (img : Bytes) (b : Book) (r : Reached img b) where
   text-after-all calls = points-agree _ _ (reflects-after calls img b (reached-reflects img b r))
 
   -- a point that is found stays found until it is deleted, whatever else is called
-  pub stays-found : (key text : Bytes) → fileText img key ≡ some text → (calls : List Call)
+  pub stays-found : (key : Bytes) (text : Option Bytes) → fileText img key ≡ some text → (calls : List Call)
       → Each (NotDeleting key) calls
-      → (text′ : Bytes) × (fileText (stateAfter perform calls img) key ≡ some text′)
+      → (text′ : Option Bytes) × (fileText (stateAfter perform calls img) key ≡ some text′)
   stays-found key text h calls n =
       let e = book-keeps (NotDeleting key) (Has key) (λ c x. effect-has key (call-effect c x)) calls b n
       (found-entry b key text (book-has img b r key _ h)) in

@@ -13,7 +13,7 @@ use lib.Seq.{take-at, drop-at, take-append-le, drop-append-le, drop-append-add, 
 use lib.Dec.{eqb}
 use lib.Pow.{pow-add, mod-pow-add}
 use borrow.Author.Tests.{eqb-true, eq-eqb}
-use Rattle.bhtf.proofs.Tests.{by-bool, and-left, and-right}
+use Rattle.bhtf.proofs.Tests.{by-bool, by-le, and-left, and-right}
 use Rattle.bhtf.specs.Bytes.{Bytes, part, store, number, digits, zeros, allZero, same}
 
 -- ---- part
@@ -121,6 +121,34 @@ pub part-store-other : (b : Bytes) (p : ℕ) (v : Bytes) (q m : ℕ) → p + len
     → part (store b p v) q m ≡ part b q m
 part-store-other b p v q m h (inl f) = part-store-below b p v q m (omega arith) f
 part-store-other b p v q m h (inr f) = part-store-above b p v q m h f
+
+-- bytes behind a store are as they were, also where it leads past the end
+take-most : (n : ℕ) (l : List ℕ) → length (take n l) ≤ n
+take-most zero l = omega arith
+take-most (suc n) [] = omega arith
+take-most (suc n) (x ∷ l) = omega (arith, take-most n l)
+
+pub drop-past : (n : ℕ) (l : List ℕ) → length l ≤ n → drop n l ≡ []
+drop-past zero [] h = refl
+drop-past zero (x ∷ l) h = absurd (omega arith)
+drop-past (suc n) [] h = refl
+drop-past (suc n) (x ∷ l) h = drop-past n l (omega arith)
+
+store-short : (b : Bytes) (p : ℕ) (v : Bytes) → length b < p + length v → length (store b p v) ≤ p + length v
+unfolding store
+store-short b p v h =
+    rw (length-append (take p b) (v ++ drop (length v) (drop p b)), length-append v (drop (length v) (drop p b)))
+    (simp (length-drop) (omega (arith, take-most p b)))
+
+pub part-store-behind : (b : Bytes) (p : ℕ) (v : Bytes) (q m : ℕ) → p + length v ≤ q
+    → part (store b p v) q m ≡ part b q m
+unfolding part
+part-store-behind b p v q m f =
+    by-le (p + length v) (length b)
+    (λ h. part-store-above b p v q m h f)
+    (λ h.
+    ap (take m)
+    (drop-past q (store b p v) (omega (arith, store-short b p v h)) ∙ sym (drop-past q b (omega arith))))
 
 -- ---- numbers of any width
 

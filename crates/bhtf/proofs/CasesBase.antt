@@ -11,18 +11,19 @@
 use mathlib.Core.Path.{_≡_}
 use Prim.Native.Nat.{ℕ, zero, suc, _-_, _*_}
 use mathlib.Core.List.{List, [], _∷_, _++_}
+use mathlib.Core.Option.{none, some}
 use Rattle.bhtf.specs.Limits.{tableStart}
 use Rattle.bhtf.specs.Bytes.{Bytes, part, store, number, digits, zeros, allZero, same}
 use Rattle.bhtf.specs.Image.{field, setField, roundUp, dataStart, lastPage, hashStep, hashFrom, scramble, hash, layoutOf, home, slotSize, slotStart, slot, putSlot, keyOf, offsetOf, slotBytes, blank, vacant}
 use Rattle.bhtf.specs.Create.{step, state, drawn, drawnBytes, slotsAsked, freshHeader, freshImage}
 use Rattle.bhtf.specs.Search.{next, dist, probe, search, isMet, isEmpty, slotOf}
-use Rattle.bhtf.specs.Messages.{headSize, letterAt, lengthAt, textAt, isActive, shown, shownLength, held, message, setFree, takeSpace, retire, overwrite, freshText, renewedText, placedText, enter, inserted, relocated, renewed, renewedAt, addedAt, added}
+use Rattle.bhtf.specs.Messages.{headSize, letterAt, lengthAt, textAt, isActive, shown, bytesOf, shownLength, held, message, setFree, takeSpace, retire, overwrite, freshText, renewedText, placedText, enter, inserted, relocated, renewed, renewedAt, addedAt, noted, added}
 use Rattle.bhtf.specs.Delete.{among, moved, closeFrom, closed, deletedAt, deleted}
-use Rattle.bhtf.specs.Questions.{ask, firstNo, sizeAllowed, keyAllowed, slotsAllowed, tableFits, versionKnown, headerSound, nameAllowed, modeKnown, newInMode1, slotToTake, messageSound, metMessageSound, somePoint, lengthAllowed, spaceLeft, createAsks, opened, named, pointAsks, addAsks, lookupAsks, deleteAsks, createNumber, openNumber, seekNumber, addNumber, deleteNumber, lookupNumber}
-use Rattle.bhtf.specs.Calls.{Answer, plain, settled, create, add, delete, lookupOffset, lookupStart, lookupLength, lookup, countOf, count}
+use Rattle.bhtf.specs.Questions.{ask, firstNo, sizeAllowed, keyAllowed, slotsAllowed, tableFits, versionKnown, headerSound, nameAllowed, modeKnown, metInMode4, newInMode1, slotToTake, messageSound, metMessageSound, somePoint, lengthAllowed, spaceLeft, createAsks, opened, named, pointAsks, addAsks, lookupAsks, deleteAsks, createNumber, openNumber, seekNumber, addNumber, deleteNumber, lookupNumber}
+use Rattle.bhtf.specs.Calls.{Answer, plain, settled, create, add, delete, lookupOffset, lookupStart, lookupLength, lookupText, lookup, countOf, count}
 use Rattle.bhtf.specs.Lists.{Call, adding, perform, answers, stateAfter}
 use Rattle.bhtf.specs.Inspect.{lowest, taken, takenFrom, nextTaken, stopAt, keyWalk, stopNumber, keyStart, keyLength, keyShown, endsAt, entrySound, stretchStart, endAt, stretchEnd, meets, someBelow, meetsLower, slotSound, slotFails, countSound, verdictOf, check, verdictNumber}
-use Rattle.bhtf.specs.Book.{newBook, find, without, withEntry, stepOf, roomAsks, entered, placed, addAbsent, replace, append, addPresent, addFound, guarded, bookAdd, deleteFound, bookDelete, lookupFound, bookLookup, bookCount, bookStep}
+use Rattle.bhtf.specs.Book.{newBook, find, without, withEntry, stepOf, roomAsks, entered, noting, bare, placed, addAbsent, replace, append, withdrawn, addPresent, addFound, guarded, bookAdd, deleteFound, bookDelete, lookupFound, bookLookup, bookCount, bookStep}
 use Rattle.bhtf.specs.Demand.{fileText, textOf, bookText, termsOf, Agrees, Agreement}
 
 -- file by file of `specs`, in its order
@@ -32,19 +33,20 @@ unfolding part store number digits zeros allZero same
     putSlot keyOf offsetOf slotBytes blank vacant
     step state drawn drawnBytes slotsAsked freshHeader freshImage
     next dist probe search isMet isEmpty slotOf
-    headSize letterAt lengthAt textAt isActive shown shownLength held message setFree takeSpace retire overwrite
-    freshText renewedText placedText enter inserted relocated renewed renewedAt addedAt added
+    headSize letterAt lengthAt textAt isActive shown bytesOf shownLength held message setFree takeSpace retire overwrite
+    freshText renewedText placedText enter inserted relocated renewed renewedAt addedAt noted added
     among moved closeFrom closed deletedAt deleted
-    ask firstNo sizeAllowed keyAllowed slotsAllowed tableFits versionKnown headerSound nameAllowed modeKnown newInMode1
+    ask firstNo sizeAllowed keyAllowed slotsAllowed tableFits versionKnown headerSound nameAllowed modeKnown metInMode4 newInMode1
     slotToTake messageSound metMessageSound somePoint lengthAllowed spaceLeft createAsks opened named pointAsks addAsks
     lookupAsks deleteAsks createNumber openNumber seekNumber addNumber deleteNumber lookupNumber
-    plain settled create add delete lookupOffset lookupStart lookupLength lookup countOf count perform answers
+    plain settled create add delete lookupOffset lookupStart lookupLength lookupText lookup countOf count perform answers
     stateAfter
 definitions = 0
 
 unfoldable pub book-definitions : ℕ
 unfolding definitions
-    newBook find without withEntry stepOf roomAsks entered placed addAbsent replace append addPresent addFound guarded
+    newBook find without withEntry stepOf roomAsks entered noting bare placed addAbsent replace append withdrawn addPresent
+    addFound guarded
     bookAdd deleteFound bookDelete lookupFound bookLookup bookCount bookStep
     fileText textOf bookText termsOf Agrees Agreement
 book-definitions = 0
@@ -91,19 +93,23 @@ two = 2 ∷ []
 abbrev pub point : ℕ → Call
 point c = adding (c ∷ []) [] 3
 
--- ---- answers: a number, an amount, a text
+-- ---- answers: a number, an amount, a text or none
 
 abbrev pub done : Answer
-done = record { number = 0; amount = 0; text = [] }
+done = record { number = 0; amount = 0; text = none }
 
 abbrev pub refused : ℕ → Answer
-refused n = record { number = n; amount = 0; text = [] }
+refused n = record { number = n; amount = 0; text = none }
 
 abbrev pub shows : ℕ → Bytes → Answer
-shows m t = record { number = 0; amount = m; text = t }
+shows m t = record { number = 0; amount = m; text = some t }
+
+-- lookup of a point without a message
+abbrev pub shows-none : Answer
+shows-none = record { number = 0; amount = 0; text = none }
 
 abbrev pub counts : ℕ → Answer
-counts n = record { number = 0; amount = n; text = [] }
+counts n = record { number = 0; amount = n; text = none }
 
 unfoldable pub answered : List Call → Bytes → List Answer
 unfolding definitions

@@ -14,7 +14,7 @@ use Rattle.bhtf.specs.Calls.{Answer, create}
 use Rattle.bhtf.specs.Lists.{Call, adding, deleting, looking, counting, perform, answers, stateAfter}
 use Rattle.bhtf.specs.Book.{Terms, Book, newBook, bookStep}
 use Rattle.bhtf.specs.Demand.{fileText, bookText, termsOf, Agreement}
-use Rattle.bhtf.proofs.CasesBase.{definitions, book-definitions, fresh, after, one, two, point, done, refused, shows, counts}
+use Rattle.bhtf.proofs.CasesBase.{definitions, book-definitions, fresh, after, one, two, point, done, refused, shows, shows-none, counts}
 use Rattle.bhtf.proofs.Cases.{five, by-three, by-four}
 
 -- a list of calls as a file answers it, and behind the answers how the file then stands: X − D, and the bytes from D to
@@ -40,13 +40,13 @@ Both L N calls expected n bytes =
     × (booked calls (newBook (termsOf L 1 N)) ≡ expected ++ (shows n [] ∷ []))
 
 -- Byte 1 is added with "PQR". "Lookup answers the message length .. and hands back the message bytes"; "count answers
--- C". Replaced by nothing, "length 0 turns "a" into "d"", and lookup shows no text; by as many bytes as stand there,
+-- C". Withdrawn, "a" turns "into "d"", and lookup shows no text; replaced by as many bytes as stand there,
 -- "written there as active". "V" is appended, "copied with the new bytes behind it into new space, and the old header
 -- becomes "d"". Deleted, "the message header, if active, becomes "d""; no space comes back.
 pub life : Both 8192 4
-    (adding one (80 ∷ 81 ∷ 82 ∷ []) 1 ∷ counting ∷ adding one [] 2 ∷ looking one ∷ adding one (83 ∷ 84 ∷ 85 ∷ []) 2
+    (adding one (80 ∷ 81 ∷ 82 ∷ []) 1 ∷ counting ∷ adding one [] 4 ∷ looking one ∷ adding one (83 ∷ 84 ∷ 85 ∷ []) 2
     ∷ adding one (86 ∷ []) 3 ∷ looking one ∷ deleting one ∷ counting ∷ [])
-    (done ∷ counts 1 ∷ done ∷ shows 0 [] ∷ done ∷ done ∷ shows 4 (83 ∷ 84 ∷ 85 ∷ 86 ∷ []) ∷ done ∷ counts 0 ∷ [])
+    (done ∷ counts 1 ∷ done ∷ shows-none ∷ done ∷ done ∷ shows 4 (83 ∷ 84 ∷ 85 ∷ 86 ∷ []) ∷ done ∷ counts 0 ∷ [])
     15 (100 ∷ 0 ∷ 0 ∷ 3 ∷ 83 ∷ 84 ∷ 85 ∷ 100 ∷ 0 ∷ 0 ∷ 4 ∷ 83 ∷ 84 ∷ 85 ∷ 86 ∷ [])
 unfolding filed booked fresh
 life = (refl, refl)
@@ -90,19 +90,19 @@ pub book-appended : booked
 unfolding booked
 book-appended = refl
 
--- "Mode 2 with m = 0 empties the text"; held stays: as many bytes take no space, more do.
+-- 02: "mode 4 makes the text none and keeps held": as many bytes take no space, more do. Its data is ignored.
 pub book-emptied : booked
-    (adding one (1 ∷ 2 ∷ 3 ∷ []) 1 ∷ adding one [] 2 ∷ looking one ∷ adding one (4 ∷ 5 ∷ 6 ∷ []) 2 ∷ looking one
+    (adding one (1 ∷ 2 ∷ 3 ∷ []) 1 ∷ adding one (9 ∷ []) 4 ∷ looking one ∷ adding one (4 ∷ 5 ∷ 6 ∷ []) 2 ∷ looking one
     ∷ adding one (7 ∷ 8 ∷ 9 ∷ 10 ∷ []) 2 ∷ looking one ∷ [])
     (newBook (termsOf 8192 1 4))
-    ≡ done ∷ done ∷ shows 0 [] ∷ done ∷ shows 3 (4 ∷ 5 ∷ 6 ∷ []) ∷ done ∷ shows 4 (7 ∷ 8 ∷ 9 ∷ 10 ∷ [])
+    ≡ done ∷ done ∷ shows-none ∷ done ∷ shows 3 (4 ∷ 5 ∷ 6 ∷ []) ∷ done ∷ shows 4 (7 ∷ 8 ∷ 9 ∷ 10 ∷ [])
     ∷ shows 15 [] ∷ []
 unfolding booked
 book-emptied = refl
 
--- Emptied, then appended to: the new bytes only, in new space.
+-- Withdrawn, then appended to: the new bytes only, in new space.
 pub book-emptied-appended : booked
-    (adding one (80 ∷ 81 ∷ []) 1 ∷ adding one [] 2 ∷ adding one (82 ∷ []) 3 ∷ looking one ∷ [])
+    (adding one (80 ∷ 81 ∷ []) 1 ∷ adding one [] 4 ∷ adding one (82 ∷ []) 3 ∷ looking one ∷ [])
     (newBook (termsOf 8192 1 4))
     ≡ done ∷ done ∷ done ∷ shows 1 (82 ∷ []) ∷ shows 11 [] ∷ []
 unfolding booked
@@ -111,7 +111,7 @@ book-emptied-appended = refl
 -- Refilled by fewer bytes a point holds fewer, and as many as at first take new space: "Mode 2 with m at most held sets
 -- the text and held = m."
 pub book-refilled-shorter : booked
-    (adding one (1 ∷ 2 ∷ 3 ∷ []) 1 ∷ adding one [] 2 ∷ adding one (4 ∷ 5 ∷ []) 2 ∷ looking one
+    (adding one (1 ∷ 2 ∷ 3 ∷ []) 1 ∷ adding one [] 4 ∷ adding one (4 ∷ 5 ∷ []) 2 ∷ looking one
     ∷ adding one (6 ∷ 7 ∷ 8 ∷ []) 2 ∷ looking one ∷ [])
     (newBook (termsOf 8192 1 4))
     ≡ done ∷ done ∷ done ∷ shows 2 (4 ∷ 5 ∷ []) ∷ done ∷ shows 3 (6 ∷ 7 ∷ 8 ∷ []) ∷ shows 14 [] ∷ []
@@ -172,14 +172,14 @@ agreement-says h calls = h (zeros 40960) 2 0 7 refl calls
 pub no-messages : Both 4096 4
     (looking one ∷ point 1 ∷ adding one (80 ∷ []) 3 ∷ adding two (80 ∷ []) 1 ∷ adding two (80 ∷ []) 2 ∷ point 1
     ∷ looking one ∷ counting ∷ [])
-    (refused 14 ∷ done ∷ refused 13 ∷ refused 13 ∷ refused 13 ∷ done ∷ shows 0 [] ∷ counts 1 ∷ [])
+    (refused 14 ∷ done ∷ refused 13 ∷ refused 13 ∷ refused 13 ∷ done ∷ shows-none ∷ counts 1 ∷ [])
     0 []
 unfolding filed booked fresh
 no-messages = (refl, refl)
 
--- Present in mode 1: 9. Modes 0 and 4: 8. A name of no or of two bytes: 7, before 8; lookup and delete ask 7 too.
+-- Present in mode 1: 9. Modes 0 and 5: 8. A name of no or of two bytes: 7, before 8; lookup and delete ask 7 too.
 pub refused-adds : Both 4096 4
-    (point 1 ∷ adding one [] 1 ∷ adding one [] 0 ∷ adding two [] 4 ∷ adding [] [] 1 ∷ adding (1 ∷ 2 ∷ []) [] 4
+    (point 1 ∷ adding one [] 1 ∷ adding one [] 0 ∷ adding two [] 5 ∷ adding [] [] 1 ∷ adding (1 ∷ 2 ∷ []) [] 5
     ∷ looking (1 ∷ 2 ∷ []) ∷ deleting [] ∷ counting ∷ [])
     (done ∷ refused 9 ∷ refused 8 ∷ refused 8 ∷ refused 7 ∷ refused 7 ∷ refused 7 ∷ refused 7 ∷ counts 1 ∷ [])
     0 []
@@ -223,29 +223,29 @@ book-12 = refl
 
 -- "The file finds a point when its name has K bytes, not all zero, and the search meets it; its message is what lookup
 -- shows."
-pub fileTexts : List Bytes → Bytes → List (Option Bytes)
+unfoldable pub fileTexts : List Bytes → Bytes → List (Option (Option Bytes))
 unfolding book-definitions
 fileTexts [] img = []
 fileTexts (name ∷ names) img = fileText img name ∷ fileTexts names img
 
-pub bookTexts : List Bytes → Book → List (Option Bytes)
+unfoldable pub bookTexts : List Bytes → Book → List (Option (Option Bytes))
 unfolding book-definitions
 bookTexts [] b = []
 bookTexts (name ∷ names) b = bookText b name ∷ bookTexts names b
 
 -- after a list of calls the file and the book find these texts under these names
-abbrev pub Find : ℕ → List Call → List Bytes → List (Option Bytes) → Type 0
+abbrev pub Find : ℕ → List Call → List Bytes → List (Option (Option Bytes)) → Type 0
 Find L calls names texts =
     (fileTexts names (after calls (fresh L 4)) ≡ texts)
     × (bookTexts names (stateAfter bookStep calls (newBook (termsOf L 1 4))) ≡ texts)
 
 -- byte 1 with "P"
-pub find-text : Find 8192 (adding one (80 ∷ []) 1 ∷ []) (one ∷ []) (some (80 ∷ []) ∷ [])
+pub find-text : Find 8192 (adding one (80 ∷ []) 1 ∷ []) (one ∷ []) (some (some (80 ∷ [])) ∷ [])
 unfolding fileTexts bookTexts after fresh
 find-text = (refl, refl)
 
--- byte 1 without a message: found, with an empty text; byte 2 absent; and names that no file has
+-- byte 1 without a message: found, with no text; byte 2 absent; and names that no file has
 pub find-none : Find 4096 (point 1 ∷ []) (one ∷ two ∷ (0 ∷ []) ∷ [] ∷ (1 ∷ 0 ∷ []) ∷ [])
-    (some [] ∷ none ∷ none ∷ none ∷ none ∷ [])
+    (some none ∷ none ∷ none ∷ none ∷ none ∷ [])
 unfolding fileTexts bookTexts after fresh
 find-none = (refl, refl)

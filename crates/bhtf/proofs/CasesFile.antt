@@ -107,13 +107,13 @@ unfolding definitions
 bytes-free = refl
 
 -- "11. If the key is present with an offset other than 0: is it at least D, the letter "a" or "d", m at least 1, the
--- message's end at most X?" No offset; active, inactive; another letter, no length, an end past X.
+-- message's end at most X?" No offset; active, inactive; another letter; m = 0, which 02 accepts; an end past X.
 abbrev pub Sound : ℕ → Bytes → Bool → Type 0
 Sound o m b = messageSound shortLayout (short m) o ≡ b
 
 pub sound-message : Sound 0 [] true × Sound 2053 (97 ∷ 0 ∷ 0 ∷ 1 ∷ 80 ∷ []) true
     × Sound 2053 (100 ∷ 0 ∷ 0 ∷ 1 ∷ 80 ∷ []) true × Sound 2053 (98 ∷ 0 ∷ 0 ∷ 1 ∷ 80 ∷ []) false
-    × Sound 2053 (97 ∷ 0 ∷ 0 ∷ 0 ∷ 80 ∷ []) false
+    × Sound 2053 (97 ∷ 0 ∷ 0 ∷ 0 ∷ 80 ∷ []) true
     × Sound 2053 (97 ∷ 0 ∷ 0 ∷ 2 ∷ 80 ∷ 0 ∷ []) false × Sound 2053 (97 ∷ 1 ∷ 0 ∷ 1 ∷ 80 ∷ []) false
 unfolding short
 sound-message = (refl, refl, refl, refl, refl, refl, refl)

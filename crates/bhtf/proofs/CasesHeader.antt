@@ -19,10 +19,10 @@ use Rattle.bhtf.proofs.CasesBase.{definitions, fresh, headed, done, ref
 
 -- ---- the image that create leaves
 
--- "Header: 0 "BHTF"; 4 the letter v and three bytes, version 1, 0, 1; 8 serial; 12 K .. ; 56 M, last page." K = 1, N =
--- 4, D = 4,096.
+-- "Header: 0 "BHTF"; 4 the letter v and three bytes, version 1, 0, 1; 8 serial; 12 K .. ; 56 M, last page." 02:
+-- "Version bytes become 1, 0, 2 at create". K = 1, N = 4, D = 4,096.
 pub header-bytes : part (fresh 4096 4) 0 60
-    ≡ 66 ∷ 72 ∷ 84 ∷ 70 ∷ 118 ∷ 1 ∷ 0 ∷ 1 ∷ 0 ∷ 0 ∷ 0 ∷ 0 ∷ 0 ∷ 0 ∷ 0 ∷ 1 ∷ 0 ∷ 0 ∷ 0 ∷ 4 ∷ 0 ∷ 0 ∷ 0 ∷ 0
+    ≡ 66 ∷ 72 ∷ 84 ∷ 70 ∷ 118 ∷ 1 ∷ 0 ∷ 2 ∷ 0 ∷ 0 ∷ 0 ∷ 0 ∷ 0 ∷ 0 ∷ 0 ∷ 1 ∷ 0 ∷ 0 ∷ 0 ∷ 4 ∷ 0 ∷ 0 ∷ 0 ∷ 0
     ∷ 1 ∷ 0 ∷ 1 ∷ 147 ∷ 129 ∷ 28 ∷ 157 ∷ 197 ∷ 0 ∷ 0 ∷ 0 ∷ 32 ∷ 0 ∷ 0 ∷ 0 ∷ 126 ∷ 0 ∷ 0 ∷ 2 ∷ 0 ∷ 0 ∷ 0 ∷ 8 ∷ 0
     ∷ 0 ∷ 0 ∷ 16 ∷ 0 ∷ 0 ∷ 0 ∷ 16 ∷ 0 ∷ 255 ∷ 255 ∷ 255 ∷ 255 ∷ []
 unfolding fresh
@@ -131,15 +131,15 @@ pub opened-5 : Refused 5 (zeros 4096) × Refused 5 (store (setField (headed 1 4 
 unfolding answered headed
 opened-5 = (refl, refl)
 
--- "the first 5 bytes "BHTFv", the next two 1 and 0, the next at most 1": version 1.0.0 is known; another letter than v
--- and versions 0.0.1, 2.0.1, 1.1.1 and 1.0.2 are not
+-- "the first 5 bytes "BHTFv", the next two 1 and 0, the next at most 1", 02: "up to 2": versions 1.0.0, 1.0.1 and 1.0.2
+-- are known; another letter than v and versions 0.0.1, 2.0.1, 1.1.1 and 1.0.3 are not
 abbrev pub Known : ℕ → ℕ → ℕ → ℕ → Bool → Type 0
 Known letter a b c known = versionKnown (66 ∷ 72 ∷ 84 ∷ 70 ∷ letter ∷ a ∷ b ∷ c ∷ []) ≡ known
 
 pub versions : Known 118 1 0 1 true × Known 118 1 0 0 true × Known 119 1 0 1 false × Known 118 0 0 1 false
-    × Known 118 2 0 1 false × Known 118 1 1 1 false × Known 118 1 0 2 false
+    × Known 118 2 0 1 false × Known 118 1 1 1 false × Known 118 1 0 2 true × Known 118 1 0 3 false
 unfolding definitions
-versions = (refl, refl, refl, refl, refl, refl, refl)
+versions = (refl, refl, refl, refl, refl, refl, refl, refl)
 
 -- 6, also where C is not 0
 pub opened-6 : Refused 6 (setField (setField (headed 1 4 4096) pointsField 3) keyField 0)

@@ -5,7 +5,9 @@
 use mathlib.Core.Path.{_≡_, refl}
 use Prim.Native.Nat.{ℕ, _<_}
 use mathlib.Core.List.{List, [], _∷_, _++_}
+use mathlib.Core.Option.{none, some}
 use mathlib.Core.Logic.{inr}
+use mathlib.Core.Bool.{true, false}
 use lib.ListN.{getD}
 use Rattle.bhtf.specs.Limits.{magic, pointsField}
 use Rattle.bhtf.specs.Bytes.{Bytes, store, digits, zeros}
@@ -16,7 +18,7 @@ use Rattle.bhtf.specs.Inspect.{check, sound}
 use Rattle.bhtf.specs.Book.{Book, bookStep}
 use Rattle.bhtf.specs.Demand.{fileText, bookText}
 use Rattle.bhtf.specs.Reopened.{entryAt, entriesFrom, bookOf, Starts, Reopened, AgreementFrom}
-use Rattle.bhtf.proofs.CasesBase.{book-definitions, inspect-definitions, headed, one, two, point, done, refused, shows, counts}
+use Rattle.bhtf.proofs.CasesBase.{book-definitions, inspect-definitions, headed, one, two, point, done, refused, shows, shows-none, counts}
 use Rattle.bhtf.proofs.CasesBook.{filed, booked}
 use Rattle.bhtf.proofs.CasesInspect.{no, slotOf}
 
@@ -61,8 +63,9 @@ othersBook =
     record {
       terms = record { K = 1; N = 3; R = 4096; head = 4; most = 16777215 };
       entries =
-          record { name = one; text = []; held = 2 } ∷ record { name = 3 ∷ []; text = 84 ∷ []; held = 1 }
-          ∷ record { name = two; text = 80 ∷ 81 ∷ []; held = 2 } ∷ [];
+          record { name = one; text = none; held = 2; offset? = true }
+          ∷ record { name = 3 ∷ []; text = some (84 ∷ []); held = 1; offset? = true }
+          ∷ record { name = two; text = some (80 ∷ 81 ∷ []); held = 2; offset? = true } ∷ [];
       used = 24;
     }
 
@@ -79,7 +82,7 @@ othersCalls =
 
 abbrev pub othersAnswers : List Answer
 othersAnswers =
-    shows 0 [] ∷ shows 2 (80 ∷ 81 ∷ []) ∷ done ∷ done ∷ shows 2 (84 ∷ 87 ∷ []) ∷ refused 10 ∷ done ∷ refused 14 ∷ done
+    shows-none ∷ shows 2 (80 ∷ 81 ∷ []) ∷ done ∷ done ∷ shows 2 (84 ∷ 87 ∷ []) ∷ refused 10 ∷ done ∷ refused 14 ∷ done
     ∷ shows 2 (85 ∷ 86 ∷ []) ∷ counts 3 ∷ []
 
 pub others-answers : (filed othersCalls others
@@ -104,7 +107,7 @@ left-sound = refl
 pub left-book : bookOf left
     ≡ record {
       terms = record { K = 1; N = 4; R = 0; head = 4; most = 16777215 };
-      entries = record { name = one; text = []; held = 0 } ∷ [];
+      entries = record { name = one; text = none; held = 0; offset? = false } ∷ [];
       used = 0;
     }
 unfolding reading left

@@ -10,7 +10,7 @@ use native.Mathlib.Omega.{arith}
 use mathlib.Core.Logic.{_↔_, inl}
 use lib.ListN.{length}
 use Rattle.bhtf.specs.Bytes.{Bytes, part, number}
-use Rattle.bhtf.specs.Limits.{serialField, pointsField, multiplierField, headerSize, tableStart}
+use Rattle.bhtf.specs.Limits.{versionField, serialField, pointsField, multiplierField, headerSize, tableStart}
 use Rattle.bhtf.specs.Image.{field, Layout, slot, putSlot, keyOf, blank, vacant}
 use Rattle.bhtf.specs.Delete.{moved, closed}
 use Rattle.bhtf.proofs.Tests.{by-eq, not-both}
@@ -45,12 +45,15 @@ module _ (g : Layout) (img : Bytes) (r : Room g (length img)) (i : ℕ) (l : i <
   pub kept-closed : Kept img (closed g img i)
   kept-closed =
       record {
-        size = length-closed g img r i l;
-        magic = part-closed 0 5 (inl (omega arith));
-        version = part-closed 5 3 (inl (omega arith));
-        front = part-closed serialField (pointsField - serialField) (inl (omega arith));
-        middle = part-closed multiplierField middleSize (inl (omega arith));
-        rest = part-closed headerSize restSize (inl (omega arith));
+        fixed =
+            record {
+              size = length-closed g img r i l;
+              magic = part-closed 0 5 (inl (omega arith));
+              front = part-closed serialField (pointsField - serialField) (inl (omega arith));
+              middle = part-closed multiplierField middleSize (inl (omega arith));
+              rest = part-closed headerSize restSize (inl (omega arith));
+            };
+        version = part-closed versionField 3 (inl (omega arith));
       }
 
   pub field-closed : (at : ℕ) → at + 4 ≤ tableStart → field (closed g img i) at ≡ field img at

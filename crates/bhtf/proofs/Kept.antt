@@ -1,5 +1,6 @@
--- What no call changes: the header but for C, X and M, the scramble, and the image's length.
---     Kept img img′      img′ keeps them
+-- What no call changes: the header but for the version, C, X and M, the scramble, and the image's length.
+--     Fixed img img′     img′ keeps them
+--     Kept img img′      and the version too, which only a call that stores an empty message writes
 --     kept-layout        then the layout is the same
 --     opened-known       and questions 1, 5 and 6 are passed again where the version is one that is known
 --     opened-kept        as it is where the version's bytes are kept
@@ -10,13 +11,15 @@ use Prim.Native.Nat.{ℕ, _+_, _-_, _*_, _≤_, _<_}
 use native.Mathlib.Omega.{arith}
 use mathlib.Core.Logic.{inl, inr}
 use mathlib.Core.Bool.{true}
+use mathlib.Core.List.{[], _∷_}
 use lib.ListN.{length, getD, drop}
 use lib.Seq.{getD-take, getD-drop}
-use Rattle.bhtf.specs.Bytes.{Bytes, part, store, number, digits}
-use Rattle.bhtf.specs.Limits.{mostCharacter, serialField, keyField, slotsField, pointsField, multiplierField, startField, firstField, lastField, scrambleField, tableField, dataField, freeField, pageField, headerSize, scrambleStart, tableStart}
+use Rattle.bhtf.specs.Bytes.{Bytes, part, store, number, digits, same}
+use Rattle.bhtf.specs.Limits.{mostCharacter, magic, major, minor, patch, versionField, serialField, keyField, slotsField, pointsField, multiplierField, startField, firstField, lastField, scrambleField, tableField, dataField, freeField, pageField, headerSize, scrambleStart, tableStart}
 use Rattle.bhtf.specs.Image.{field, setField, hash, scramble, layoutOf}
 use Rattle.bhtf.specs.Questions.{versionKnown}
-use Rattle.bhtf.proofs.Bytes.{Apart, apart-inside, length-store, part-store-other, part-part, length-digits}
+use Rattle.bhtf.proofs.Bytes.{Apart, apart-inside, length-store, part-store-other, part-store-same, part-part, length-digits}
+use Rattle.bhtf.proofs.Tests.{and-left}
 use Rattle.bhtf.proofs.Opened.{Opened}
 
 -- the bytes from the multiplier to D, and those from behind M to the table, the scramble among them
@@ -26,28 +29,37 @@ middleSize = freeField - multiplierField
 abbrev pub restSize : ℕ
 restSize = tableStart - headerSize
 
--- what stands before C (magic; version; serial, K and N), and these
-pub record Kept (img img′ : Bytes) : Type 0 where
+-- what stands before C but for the version (magic; serial, K and N), and these
+pub record Fixed (img img′ : Bytes) : Type 0 where
   pub size : length img′ ≡ length img
   pub magic : part img′ 0 5 ≡ part img 0 5
-  pub version : part img′ 5 3 ≡ part img 5 3
   pub front : part img′ serialField (pointsField - serialField) ≡ part img serialField (pointsField - serialField)
   pub middle : part img′ multiplierField middleSize ≡ part img multiplierField middleSize
   pub rest : part img′ headerSize restSize ≡ part img headerSize restSize
 
-pub kept-refl : (img : Bytes) → Kept img img
-kept-refl img = record { size = refl; magic = refl; version = refl; front = refl; middle = refl; rest = refl }
+pub record Kept (img img′ : Bytes) : Type 0 where
+  pub fixed : Fixed img img′
+  pub version : part img′ versionField 3 ≡ part img versionField 3
 
-pub kept-trans : {a b c : Bytes} → Kept a b → Kept b c → Kept a c
-kept-trans p q =
+pub kept-refl : (img : Bytes) → Kept img img
+kept-refl img =
+    record {
+      fixed = record { size = refl; magic = refl; front = refl; middle = refl; rest = refl };
+      version = refl;
+    }
+
+pub fixed-trans : {a b c : Bytes} → Fixed a b → Fixed b c → Fixed a c
+fixed-trans p q =
     record {
       size = q .size ∙ p .size;
       magic = q .magic ∙ p .magic;
-      version = q .version ∙ p .version;
       front = q .front ∙ p .front;
       middle = q .middle ∙ p .middle;
       rest = q .rest ∙ p .rest;
     }
+
+pub kept-trans : {a b c : Bytes} → Kept a b → Kept b c → Kept a c
+kept-trans p q = record { fixed = fixed-trans (p .fixed) (q .fixed); version = q .version ∙ p .version }
 
 -- the n bytes from p on have none in common with what is kept
 record Spared (p n : ℕ) : Type 0 where
@@ -62,12 +74,15 @@ kept-spared img p v h a =
     λ q m l.
     part-store-other img p v q m h (apart-inside 0 pointsField p (length v) q m (omega arith) l (a .front)) in
     record {
-      size = length-store img p v h;
-      magic = before 0 5 (omega arith);
-      version = before 5 3 (omega arith);
-      front = before serialField (pointsField - serialField) (omega arith);
-      middle = part-store-other img p v multiplierField middleSize h (a .middle);
-      rest = part-store-other img p v headerSize restSize h (a .rest);
+      fixed =
+          record {
+            size = length-store img p v h;
+            magic = before 0 5 (omega arith);
+            front = before serialField (pointsField - serialField) (omega arith);
+            middle = part-store-other img p v multiplierField middleSize h (a .middle);
+            rest = part-store-other img p v headerSize restSize h (a .rest);
+          };
+      version = before versionField 3 (omega arith);
     }
 
 pub kept-store : (img : Bytes) (p : ℕ) (v : Bytes) → p + length v ≤ length img → tableStart ≤ p
@@ -113,7 +128,7 @@ byte-part : (b : Bytes) (p n i : ℕ) → i < n → getD (part b p n) i 0 ≡ ge
 unfolding part
 byte-part b p n i h = getD-take n (drop p b) i 0 h ∙ getD-drop p b i 0
 
-module _ {img img′ : Bytes} (k : Kept img img′) where
+module _ {img img′ : Bytes} (k : Fixed img img′) where
   front-field : (at : ℕ) → serialField ≤ at → at + 4 ≤ pointsField → field img′ at ≡ field img at
   unfolding field
   front-field at lo hi =
@@ -149,15 +164,6 @@ module _ {img img′ : Bytes} (k : Kept img img′) where
 
   pub kept-data : field img′ dataField ≡ field img dataField
   kept-data = middle-field dataField (omega arith) (omega arith)
-
-  version-byte : (i : ℕ) → i < 3 → getD img′ (5 + i) 0 ≡ getD img (5 + i) 0
-  version-byte i h =
-      sym (byte-part img′ 5 3 i h) ∙ ap (λ (l : Bytes). getD l i 0) (k .version) ∙ byte-part img 5 3 i h
-
-  pub kept-version : versionKnown img′ ≡ versionKnown img
-  unfolding versionKnown
-  kept-version =
-      rw (k .magic, version-byte 0 (omega arith), version-byte 1 (omega arith), version-byte 2 (omega arith)) refl
 
   -- the scramble ends below the table where E is a character's value
   kept-scramble : field img lastField ≤ mostCharacter → scramble img′ ≡ scramble img
@@ -200,10 +206,68 @@ module _ {img img′ : Bytes} (k : Kept img img′) where
         free-high = rw (k .size) hi;
       }
 
+module _ {img img′ : Bytes} (k : Kept img img′) where
+  version-byte : (i : ℕ) → i < 3 → getD img′ (versionField + i) 0 ≡ getD img (versionField + i) 0
+  version-byte i h =
+      sym (byte-part img′ versionField 3 i h)
+      ∙ ap (λ (l : Bytes). getD l i 0) (k .version)
+      ∙ byte-part img versionField 3 i h
+
+  pub kept-version : versionKnown img′ ≡ versionKnown img
+  unfolding versionKnown
+  kept-version =
+      rw (
+        k .fixed .magic,
+        version-byte 0 (omega arith),
+        version-byte 1 (omega arith),
+        version-byte 2 (omega arith),
+      ) refl
+
   pub kept-known : Opened img → versionKnown img′ ≡ true
   kept-known o = kept-version ∙ o .version
 
   pub opened-kept : Opened img → field img′ pointsField ≤ field img slotsField
       → field img dataField ≤ field img′ freeField
       → field img′ freeField ≤ length img → Opened img′
-  opened-kept o = opened-known o (kept-known o)
+  opened-kept o = opened-known (k .fixed) o (kept-known o)
+
+-- ---- the version written
+
+module _ (img : Bytes) (o : Opened img) where
+  abbrev versioned : Bytes
+  versioned = store img versionField (major ∷ minor ∷ patch ∷ [])
+
+  inside-image : versionField + 3 ≤ length img
+  inside-image = omega (arith, o .size-low)
+
+  pub version-elsewhere : (p n : ℕ) → Apart p n versionField 3 → part versioned p n ≡ part img p n
+  version-elsewhere p n a = part-store-other img versionField (major ∷ minor ∷ patch ∷ []) p n inside-image a
+
+  pub version-fixed : Fixed img versioned
+  version-fixed =
+      record {
+        size = length-store img versionField (major ∷ minor ∷ patch ∷ []) inside-image;
+        magic = version-elsewhere 0 5 (inl (omega arith));
+        front = version-elsewhere serialField (pointsField - serialField) (inr (omega arith));
+        middle = version-elsewhere multiplierField middleSize (inr (omega arith));
+        rest = version-elsewhere headerSize restSize (inr (omega arith));
+      }
+
+  version-at : (i : ℕ) → i < 3 → getD versioned (versionField + i) 0 ≡ getD (major ∷ minor ∷ patch ∷ []) i 0
+  version-at i h =
+      sym (byte-part versioned versionField 3 i h)
+      ∙ ap (λ (l : Bytes). getD l i 0)
+      (part-store-same img versionField (major ∷ minor ∷ patch ∷ []) (omega (arith, inside-image)))
+
+  -- "question 5 accepts up to 2"
+  pub version-known : versionKnown versioned ≡ true
+  unfolding versionKnown
+  version-known =
+      let m : same (part img 0 5) magic ≡ true = and-left _ _ (and-left _ _ (and-left _ _ (o .version))) in
+      rw (
+        version-fixed .magic,
+        m,
+        version-at 0 (omega arith),
+        version-at 1 (omega arith),
+        version-at 2 (omega arith),
+      ) refl

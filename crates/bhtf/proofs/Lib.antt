@@ -45,3 +45,4 @@ pub mod CasesBook  -- the book, and file and book side by side
 pub mod CasesInspect  -- walk and check
 pub mod CasesStretches  -- two points on one message
 pub mod CasesReopened  -- images that no call of ours made, and the books read off them
+pub mod CasesNotes  -- empty notes, and the version bytes

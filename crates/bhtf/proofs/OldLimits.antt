@@ -10,6 +10,7 @@ use Prim.Native.Nat.{ℕ, _+_, _%_, _≤_}
 use native.Mathlib.Omega.{arith}
 use mathlib.Core.Bool.{Bool, cond, _&&_}
 use mathlib.Core.List.{List, [], _∷_}
+use mathlib.Core.Option.{none, some}
 use lib.ListN.{length}
 use lib.Dec.{leb, eqb}
 use borrow.Author.Tests.{le-leb}
@@ -21,7 +22,7 @@ use Rattle.bhtf.specs.Search.{search, slotOf}
 use Rattle.bhtf.specs.Messages.{headSize, isActive, held, added}
 use Rattle.bhtf.specs.Delete.{deleted}
 use Rattle.bhtf.specs.Questions.{Question, ask, firstNo, sizeAllowed, keyAllowed, slotsAllowed, tableFits, versionKnown, headerSound, nameAllowed, createAsks, opened, addAsks, deleteAsks, lookupAsks, createNumber, openNumber, addNumber, deleteNumber, lookupNumber}
-use Rattle.bhtf.specs.Calls.{Outcome, plain, settled, create, add, delete, lookupOffset, lookupStart, lookupLength, lookup, countOf, count}
+use Rattle.bhtf.specs.Calls.{Outcome, plain, settled, create, add, delete, lookupOffset, lookupStart, lookupLength, lookupText, lookup, countOf, count}
 use Rattle.bhtf.specs.Lists.{Call, adding, deleting, looking, counting, perform}
 use Rattle.bhtf.specs.Inspect.{Stop, stopAt, nextTaken, keyWalk, Verdict, tableVerdict, check}
 
@@ -108,13 +109,13 @@ lookupBy img key n =
     let o : ℕ = offsetBy img key n in
     let m : ℕ = held (layoutOf img) img o in
     let start : ℕ = cond (eqb o 0) 0 (o + headSize (layoutOf img)) in
-    record { after = img; answer = record { number = n; amount = m; text = part img start m } }
+    record { after = img; answer = record { number = n; amount = m; text = cond (eqb o 0) none (some (part img start m)) } }
 
 countBy : Bytes → ℕ → Outcome Bytes
 countBy img n =
     record {
       after = img;
-      answer = record { number = n; amount = cond (eqb n 0) (field img pointsField) 0; text = [] };
+      answer = record { number = n; amount = cond (eqb n 0) (field img pointsField) 0; text = none };
     }
 
 createBy : Bytes → ℕ → ℕ → ℕ → ℕ → Outcome Bytes
@@ -168,7 +169,7 @@ delete-as-before img key w =
     ap (λ (qs : List Question). deleteBy img key (firstNo qs)) (opened-as-before img _ w)
 
 lookup-as-before : (img key : Bytes) → Within img → lookup img key ≡ oldPerform (looking key) img
-unfolding lookup oldPerform lookupNumber lookupOffset lookupStart lookupLength lookupBy offsetBy
+unfolding lookup oldPerform lookupNumber lookupOffset lookupStart lookupLength lookupText lookupBy offsetBy
 lookup-as-before img key w =
     ap (λ (qs : List Question). lookupBy img key (firstNo qs)) (opened-as-before img _ w)
 

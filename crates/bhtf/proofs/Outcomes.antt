@@ -1,5 +1,5 @@
 -- What a call answers, case by case, on any image whose header is accepted; and the image that it leaves.
---     lookup-7, lookup-14, lookup-11, lookup-0, and so for delete; add-7 to add-11
+--     lookup-7, lookup-14, lookup-11, lookup-0, and so for delete; add-7 to add-11, add-14 for mode 4
 --     add-renewed, add-fresh      add's number where 12 and 13 decide
 --     room-none    12 and 13 where nothing is placed
 --     offset-refused, offset-met, lookup-shows, lookup-refused      lookup's answer
@@ -18,10 +18,10 @@ use Rattle.bhtf.specs.Bytes.{Bytes, part}
 use Rattle.bhtf.specs.Limits.{pointsField, freeField}
 use Rattle.bhtf.specs.Image.{field, Layout, layoutOf, slot, offsetOf}
 use Rattle.bhtf.specs.Search.{Probe, met, empty, exhausted, search, isMet, isEmpty, slotOf}
-use Rattle.bhtf.specs.Messages.{headSize, lengthAt, textAt, isActive, shown, held, freshText, renewedText, placedText}
+use Rattle.bhtf.specs.Messages.{headSize, lengthAt, textAt, isActive, shown, bytesOf, held, freshText, renewedText, placedText}
 use Rattle.bhtf.specs.Delete.{deleted, deletedAt}
-use Rattle.bhtf.specs.Questions.{ask, firstNo, nameAllowed, modeKnown, newInMode1, slotToTake, messageSound, metMessageSound, somePoint, lengthAllowed, spaceLeft, named, pointAsks, addAsks, shownAsks, removedAsks, lookupAsks, deleteAsks, openNumber, addNumber, deleteNumber, lookupNumber, placeNumber}
-use Rattle.bhtf.specs.Calls.{plain, settled, add, delete, lookup, lookupOffset, lookupStart, lookupLength}
+use Rattle.bhtf.specs.Questions.{ask, firstNo, nameAllowed, modeKnown, metInMode4, newInMode1, slotToTake, messageSound, metMessageSound, somePoint, lengthAllowed, spaceLeft, named, pointAsks, addAsks, shownAsks, removedAsks, lookupAsks, deleteAsks, openNumber, addNumber, deleteNumber, lookupNumber, placeNumber}
+use Rattle.bhtf.specs.Calls.{plain, settled, add, delete, lookup, lookupOffset, lookupStart, lookupLength, lookupText}
 use Rattle.bhtf.proofs.Tests.{by-bool, and-true, zero-yes, zero-no}
 use Rattle.bhtf.proofs.Bytes.{part-length}
 use Rattle.bhtf.proofs.Opened.{firstNo-none, firstNo-yes, firstNo-no, firstNo-opened, firstNo-refused, opened-facts}
@@ -73,21 +73,37 @@ module _ (g : Layout) (img : Bytes) where
     unfolding isMet metMessageSound
     removed-0 h k = firstNo-yes 14 true _ refl ∙ firstNo-yes 11 _ [] (and-true _ _ h k) ∙ firstNo-none
 
-  -- add's, 9 to 13
+  -- add's, 14 for mode 4, then 9 to 13
   module _ (bytes : Bytes) (mode : ℕ) where
+    -- of a key that is absent, in mode 4 and in the others
+    pub point-14 : (s : Probe) → isMet s ≡ false → eqb mode 4 ≡ true → firstNo (pointAsks g img s bytes mode) ≡ 14
+    unfolding pointAsks metInMode4
+    point-14 s e h = firstNo-no 14 _ _ (rw (e, h) refl)
+
+    other-mode : (s : Probe) → eqb mode 4 ≡ false → metInMode4 s mode ≡ true
+    unfolding metInMode4
+    other-mode s h = rw h refl
+
     module _ (i : ℕ) where
       abbrev renewal : Option Bytes
       renewal = renewedText g img (offsetOf g (slot g img i)) bytes mode
 
+      met-14 : metInMode4 (met i) mode ≡ true
+      unfolding metInMode4 isMet
+      met-14 = by-bool (eqb mode 4) (λ y. rw y refl) (λ n. rw n refl)
+
       pub point-9 : eqb mode 1 ≡ true → firstNo (pointAsks g img (met i) bytes mode) ≡ 9
       unfolding pointAsks newInMode1 isMet
-      point-9 h = firstNo-no 9 _ _ (ap (λ (t : Bool). not (t && true)) h)
+      point-9 h = firstNo-yes 14 _ _ met-14 ∙ firstNo-no 9 _ _ (ap (λ (t : Bool). not (t && true)) h)
 
       present : eqb mode 1 ≡ false → firstNo (pointAsks g img (met i) bytes mode)
           ≡ firstNo (ask 11 (messageSound g img (offsetOf g (slot g img i))) ∷ ask 12 (lengthAllowed g renewal)
           ∷ ask 13 (spaceLeft g (field img freeField) (length img) renewal) ∷ [])
       unfolding pointAsks newInMode1 slotToTake isMet metMessageSound placedText
-      present h = firstNo-yes 9 _ _ (ap (λ (t : Bool). not (t && true)) h) ∙ firstNo-yes 10 _ _ refl
+      present h =
+          firstNo-yes 14 _ _ met-14
+          ∙ firstNo-yes 9 _ _ (ap (λ (t : Bool). not (t && true)) h)
+          ∙ firstNo-yes 10 _ _ refl
 
       pub point-11 : eqb mode 1 ≡ false → messageSound g img (offsetOf g (slot g img i)) ≡ false
           → firstNo (pointAsks g img (met i) bytes mode) ≡ 11
@@ -101,24 +117,30 @@ module _ (g : Layout) (img : Bytes) where
     unfolding newInMode1
     absent-9 s e = rw e (by-bool (eqb mode 1) (λ y. rw y refl) (λ n. rw n refl))
 
-    pub point-10 : (s : Probe) → isMet s ≡ false → slotToTake (field img pointsField) (g .N) s ≡ false
+    pub point-10 : (s : Probe) → isMet s ≡ false → eqb mode 4 ≡ false
+        → slotToTake (field img pointsField) (g .N) s ≡ false
         → firstNo (pointAsks g img s bytes mode) ≡ 10
     unfolding pointAsks
-    point-10 s e h = firstNo-yes 9 _ _ (absent-9 s e) ∙ firstNo-no 10 _ _ h
+    point-10 s e m h =
+        firstNo-yes 14 _ _ (other-mode s m) ∙ firstNo-yes 9 _ _ (absent-9 s e) ∙ firstNo-no 10 _ _ h
 
-    pub point-10-exhausted : firstNo (pointAsks g img exhausted bytes mode) ≡ 10
+    pub point-10-exhausted : eqb mode 4 ≡ false → firstNo (pointAsks g img exhausted bytes mode) ≡ 10
     unfolding isMet isEmpty slotToTake
-    point-10-exhausted = point-10 exhausted refl refl
+    point-10-exhausted m = point-10 exhausted refl m refl
 
-    pub point-10-full : (i : ℕ) → ltb (field img pointsField) (g .N) ≡ false
+    pub point-10-full : (i : ℕ) → eqb mode 4 ≡ false → ltb (field img pointsField) (g .N) ≡ false
         → firstNo (pointAsks g img (empty i) bytes mode) ≡ 10
     unfolding isMet isEmpty slotToTake
-    point-10-full i h = point-10 (empty i) refl h
+    point-10-full i m h = point-10 (empty i) refl m h
 
-    pub point-fresh : (i : ℕ) → ltb (field img pointsField) (g .N) ≡ true
+    pub point-fresh : (i : ℕ) → eqb mode 4 ≡ false → ltb (field img pointsField) (g .N) ≡ true
         → firstNo (pointAsks g img (empty i) bytes mode) ≡ placeNumber g img (freshText bytes mode)
     unfolding pointAsks isMet isEmpty slotToTake metMessageSound placedText
-    point-fresh i h = firstNo-yes 9 _ _ (absent-9 (empty i) refl) ∙ firstNo-yes 10 _ _ h ∙ firstNo-yes 11 true _ refl
+    point-fresh i m h =
+        firstNo-yes 14 _ _ (other-mode (empty i) m)
+        ∙ firstNo-yes 9 _ _ (absent-9 (empty i) refl)
+        ∙ firstNo-yes 10 _ _ h
+        ∙ firstNo-yes 11 true _ refl
 
 -- ---- questions 1, 5 and 6 come first
 
@@ -189,8 +211,8 @@ module _ (img key : Bytes) (open₀ : openNumber img ≡ 0) where
       offset-is = offset-met img key i m (lookup-0 s)
 
       pub lookup-shows : lookup img key .answer
-          ≡ record { number = 0; amount = length (shown g img at); text = shown g img at }
-      unfolding lookup lookupLength lookupStart held shown textAt part
+          ≡ record { number = 0; amount = length (bytesOf (shown g img at)); text = shown g img at }
+      unfolding lookup lookupText lookupLength lookupStart held shown bytesOf textAt part
       lookup-shows =
           by-bool (isActive img at)
           (λ h.
@@ -274,21 +296,25 @@ module _ (img key : Bytes) (open₀ : openNumber img ≡ 0) where
         add-renewed h s = ended (met i) m ∙ point-renewed g img bytes mode i h s
 
       -- a point that is absent
-      pub add-10-exhausted : found ≡ exhausted → addNumber img key bytes mode ≡ 10
-      add-10-exhausted m = ended exhausted m ∙ point-10-exhausted g img bytes mode
+      pub add-14 : isMet found ≡ false → eqb mode 4 ≡ true → addNumber img key bytes mode ≡ 14
+      add-14 e h = add-point ∙ point-14 g img bytes mode found e h
 
-      module _ (i : ℕ) (m : found ≡ empty i) where
-        pub add-10-full : ltb (field img pointsField) (g .N) ≡ false → addNumber img key bytes mode ≡ 10
-        add-10-full h = ended (empty i) m ∙ point-10-full g img bytes mode i h
+      module _ (other : eqb mode 4 ≡ false) where
+        pub add-10-exhausted : found ≡ exhausted → addNumber img key bytes mode ≡ 10
+        add-10-exhausted m = ended exhausted m ∙ point-10-exhausted g img bytes mode other
 
-        pub add-fresh : ltb (field img pointsField) (g .N) ≡ true
-            → addNumber img key bytes mode ≡ placeNumber g img (freshText bytes mode)
-        add-fresh h = ended (empty i) m ∙ point-fresh g img bytes mode i h
+        module _ (i : ℕ) (m : found ≡ empty i) where
+          pub add-10-full : ltb (field img pointsField) (g .N) ≡ false → addNumber img key bytes mode ≡ 10
+          add-10-full h = ended (empty i) m ∙ point-10-full g img bytes mode i other h
+
+          pub add-fresh : ltb (field img pointsField) (g .N) ≡ true
+              → addNumber img key bytes mode ≡ placeNumber g img (freshText bytes mode)
+          add-fresh h = ended (empty i) m ∙ point-fresh g img bytes mode i other h
 
 -- a refused lookup shows the image's first 0 bytes
 pub lookup-refused : (img key : Bytes) → (lookupNumber img key ≡ 0 → ⊥)
     → lookup img key .answer ≡ plain (lookupNumber img key)
-unfolding lookup lookupLength lookupStart lookupOffset plain held part
+unfolding lookup lookupText lookupLength lookupStart lookupOffset plain held part
 lookup-refused img key z = rw (ne-eqb (lookupNumber img key) 0 z) refl
 
 -- a refused call leaves the image

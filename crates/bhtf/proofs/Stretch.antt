@@ -13,7 +13,7 @@ use lib.ListN.{length}
 use lib.Dec.{leb, eqb}
 use borrow.Author.Tests.{leb-true, le-leb, eqb-true, ne-eqb}
 use Rattle.bhtf.specs.Bytes.{Bytes, part, store, number}
-use Rattle.bhtf.specs.Limits.{active, inactive, leastLength, freeField}
+use Rattle.bhtf.specs.Limits.{active, inactive, freeField}
 use Rattle.bhtf.specs.Image.{field, Layout}
 use Rattle.bhtf.specs.Messages.{headSize, letterAt, lengthAt, textAt, isActive, shown, held}
 use Rattle.bhtf.specs.Questions.{messageSound}
@@ -37,7 +37,6 @@ held-some g img o z = rw (ne-eqb o 0 z) refl
 pub record Lies (g : Layout) (img : Bytes) (o : ℕ) : Type 0 where
   pub low : g .D ≤ o
   pub letter : (eqb (letterAt img o) active || eqb (letterAt img o) inactive) ≡ true
-  pub least : leastLength ≤ lengthAt g img o
   pub end : o + span g img o ≤ field img freeField
 
 pub sound-lies : (g : Layout) (img : Bytes) (o : ℕ) → messageSound g img o ≡ true → (o ≡ 0 → ⊥) → Lies g img o
@@ -46,31 +45,21 @@ sound-lies g img o h n =
     let m = lengthAt g img o in
     let a = leb (g .D) o in
     let b = eqb (letterAt img o) active || eqb (letterAt img o) inactive in
-    let c = leb leastLength m in
     let d = leb (o + headSize g + m) (field img freeField) in
-    by-or (eqb o 0) (a && b && c && d) h
+    by-or (eqb o 0) (a && b && d) h
     (λ z. absurd (n (eqb-true o 0 z)))
     (λ z all.
-    let abc = and-left (a && b && c) d all in
-    let ab = and-left (a && b) c abc in
-    let end₁ : o + headSize g + m ≤ field img freeField = leb-true _ _ (and-right (a && b && c) d all) in
-    record {
-      low = leb-true _ _ (and-left a b ab);
-      letter = and-right a b ab;
-      least = leb-true _ _ (and-right (a && b) c abc);
-      end = omega arith;
-    })
+    let ab = and-left (a && b) d all in
+    let end₁ : o + headSize g + m ≤ field img freeField = leb-true _ _ (and-right (a && b) d all) in
+    record { low = leb-true _ _ (and-left a b ab); letter = and-right a b ab; end = omega arith })
 
 pub lies-sound : (g : Layout) (img : Bytes) (o : ℕ) → Lies g img o → messageSound g img o ≡ true
 unfolding messageSound
 lies-sound g img o l =
     let a = leb (g .D) o in
     let b = eqb (letterAt img o) active || eqb (letterAt img o) inactive in
-    let c = leb leastLength (lengthAt g img o) in
     let end₁ : o + headSize g + lengthAt g img o ≤ field img freeField = omega (arith, l .end) in
-    or-right (eqb o 0) _
-    (and-true (a && b && c) _
-    (and-true (a && b) c (and-true a b (le-leb _ _ (l .low)) (l .letter)) (le-leb _ _ (l .least))) (le-leb _ _ end₁))
+    or-right (eqb o 0) _ (and-true (a && b) _ (and-true a b (le-leb _ _ (l .low)) (l .letter)) (le-leb _ _ end₁))
 
 pub none-sound : (g : Layout) (img : Bytes) → messageSound g img 0 ≡ true
 unfolding messageSound
@@ -135,7 +124,6 @@ module _ (g : Layout) (img img′ : Bytes) (o : ℕ) (same : SameOn img img′ o
       record {
         low = l .low;
         letter = rw letterAt-same (l .letter);
-        least = rw lengthAt-same (l .least);
         end = rw lengthAt-same (omega (arith, l .end));
       }
 

@@ -1,22 +1,26 @@
--- Document 01, "The plain control book": entries with distinct names, and the space used. It knows nothing of slots or
--- bytes of an image: "Each step is fed its call's arguments and nothing from the file."
+-- Document 01, "The plain control book", as document 02, Job 4, changes it: entries with distinct names, and the space
+-- used. It knows nothing of slots or bytes of an image: "Each step is fed its call's arguments and nothing from the
+-- file."
 -- Assumes nothing.
 use Prim.Native.Nat.{ℕ, _+_}
-use mathlib.Core.Bool.{false, cond}
+use mathlib.Core.Bool.{Bool, true, false, cond, _&&_}
 use mathlib.Core.List.{List, [], _∷_, _++_}
 use mathlib.Core.Option.{Option, none, some}
 use lib.ListN.{length}
 use lib.Dec.{leb, ltb, eqb}
 use Rattle.bhtf.specs.Bytes.{Bytes, same}
+use Rattle.bhtf.specs.Messages.{bytesOf}
 use Rattle.bhtf.specs.Questions.{Question, ask, firstNo, nameAllowed, named}
 use Rattle.bhtf.specs.Calls.{Outcome, plain}
 use Rattle.bhtf.specs.Lists.{Call, adding, deleting, looking, counting}
 
--- "entries (name, text, held)"
+-- "entries (name, text, held)"; 02: "The book's text is none or a list that may be empty, and an entry notes whether it
+-- has an offset"
 pub record Entry : Type 0 where
   pub name : Bytes
-  pub text : Bytes
+  pub text : Option Bytes
   pub held : ℕ
+  pub offset? : Bool
 
 -- "N and K are as created; R = L − D." head is the size of a message's header, most its largest length.
 pub record Terms : Type 0 where
@@ -57,49 +61,60 @@ stepOf b asks next = record { after = cond (eqb (firstNo asks) 0) next b; answer
 unfoldable pub roomAsks : Book → ℕ → List Question
 roomAsks b m = ask 12 (leb m (b .terms .most)) ∷ ask 13 (leb (b .used + b .terms .head + m) (b .terms .R)) ∷ []
 
--- the book with an entry of that name, and so much more space used
-unfoldable pub entered : Book → Bytes → Bytes → ℕ → ℕ → Book
-entered b name text held more =
-    record {
-      terms = b .terms;
-      entries = withEntry (record { name = name; text = text; held = held }) (b .entries);
-      used = b .used + more;
-    }
+-- the book with that entry, in place of one of its name, and so much more space used
+unfoldable pub entered : Book → Entry → ℕ → Book
+entered b e more = record { terms = b .terms; entries = withEntry e (b .entries); used = b .used + more }
+
+-- an entry with a text, and one without: "held = m"; "the text none and no offset"
+unfoldable pub noting : Bytes → Bytes → Entry
+noting name text = record { name = name; text = some text; held = length text; offset? = true }
+
+unfoldable pub bare : Bytes → Entry
+bare name = record { name = name; text = none; held = 0; offset? = false }
 
 -- the book with a text in new space
 unfoldable pub placed : Book → Bytes → Bytes → Book
-placed b name text = entered b name text (length text) (b .terms .head + length text)
+placed b name text = entered b (noting name text) (b .terms .head + length text)
 
 -- "Add of m bytes, name absent: 10 if there are N entries; then, for m above 0, 12 .. and 13 .. Otherwise the text is
--- the data, held = m, and U grows by 4 + m if m is above 0."
-unfoldable pub addAbsent : Book → Bytes → Bytes → Outcome Book
-addAbsent b name data′ =
-    cond (eqb (length data′) 0)
-    (stepOf b (ask 10 (ltb (length (b .entries)) (b .terms .N)) ∷ []) (entered b name [] 0 0))
-    (stepOf b (ask 10 (ltb (length (b .entries)) (b .terms .N)) ∷ roomAsks b (length data′)) (placed b name data′))
+-- the data, held = m, and U grows by 4 + m if m is above 0." 02: "where empty data takes new space the book puts 13 and U
+-- grows by 4", "mode 3 with empty data gives an absent name the text none and no offset"; mode 4 "gives 14 for an absent
+-- name".
+unfoldable pub addAbsent : Book → Bytes → Bytes → ℕ → Outcome Book
+addAbsent b name data′ mode =
+    cond (eqb mode 4) (stepOf b (ask 14 false ∷ []) b)
+    (cond (eqb mode 3 && eqb (length data′) 0)
+    (stepOf b (ask 10 (ltb (length (b .entries)) (b .terms .N)) ∷ []) (entered b (bare name) 0))
+    (stepOf b (ask 10 (ltb (length (b .entries)) (b .terms .N)) ∷ roomAsks b (length data′)) (placed b name data′)))
 
--- "Mode 2 with m = 0 empties the text. Mode 2 with m at most held sets the text and held = m. Mode 2 with larger m sets
--- both after 12 and 13, and U grows by 4 + m."
+-- "Mode 2 with m at most held sets the text and held = m. Mode 2 with larger m sets both after 12 and 13, and U grows by
+-- 4 + m." 02: "stores it, in new space of 4 bytes when the point has no offset", "mode 2 with empty data sets held = 0
+-- beside the empty text".
 unfoldable pub replace : Book → Entry → Bytes → Outcome Book
 replace b e data′ =
-    cond (eqb (length data′) 0) (stepOf b [] (entered b (e .name) [] (e .held) 0))
-    (cond (leb (length data′) (e .held)) (stepOf b [] (entered b (e .name) data′ (length data′) 0))
-    (stepOf b (roomAsks b (length data′)) (placed b (e .name) data′)))
+    cond (e .offset? && leb (length data′) (e .held)) (stepOf b [] (entered b (noting (e .name) data′) 0))
+    (stepOf b (roomAsks b (length data′)) (placed b (e .name) data′))
 
 -- "Mode 3 with m = 0 changes nothing. Otherwise t = text length + m takes m's place in 12, 13 and the growth of U; the
 -- text gets the data behind it and held = t."
 unfoldable pub append : Book → Entry → Bytes → Outcome Book
 append b e data′ =
-    cond (eqb (length data′) 0) (stepOf b [] b)
-    (stepOf b (roomAsks b (length (e .text ++ data′))) (placed b (e .name) (e .text ++ data′)))
+    let t : Bytes = bytesOf (e .text) ++ data′ in
+    cond (eqb (length data′) 0) (stepOf b [] b) (stepOf b (roomAsks b (length t)) (placed b (e .name) t))
+
+-- 02: "mode 4 makes the text none and keeps held"
+unfoldable pub withdrawn : Entry → Entry
+withdrawn e = record { name = e .name; text = none; held = e .held; offset? = e .offset? }
 
 -- "Name present: mode 1 gives 9."
 unfoldable pub addPresent : Book → Entry → Bytes → ℕ → Outcome Book
 addPresent b e data′ mode =
-    cond (eqb mode 1) (stepOf b (ask 9 false ∷ []) b) (cond (eqb mode 2) (replace b e data′) (append b e data′))
+    cond (eqb mode 1) (stepOf b (ask 9 false ∷ []) b)
+    (cond (eqb mode 2) (replace b e data′)
+    (cond (eqb mode 4) (stepOf b [] (entered b (withdrawn e) 0)) (append b e data′)))
 
 unfoldable pub addFound : Book → Bytes → Bytes → ℕ → Option Entry → Outcome Book
-addFound b name data′ mode none = addAbsent b name data′
+addFound b name data′ mode none = addAbsent b name data′ mode
 addFound b name data′ mode (some e) = addPresent b e data′ mode
 
 -- "Before its own rules the book puts questions 7 and 8 as the file does, and answers their numbers."
@@ -123,14 +138,15 @@ bookDelete b name =
 -- "Lookup: 14 if absent, else text and length."
 unfoldable pub lookupFound : Book → Option Entry → Outcome Book
 lookupFound b none = stepOf b (ask 14 false ∷ []) b
-lookupFound b (some e) = record { after = b; answer = record { number = 0; amount = length (e .text); text = e .text } }
+lookupFound b (some e) =
+    record { after = b; answer = record { number = 0; amount = length (bytesOf (e .text)); text = e .text } }
 
 unfoldable pub bookLookup : Book → Bytes → Outcome Book
 bookLookup b name = guarded b (ask 7 (nameAllowed (b .terms .K) name) ∷ []) (lookupFound b (find name (b .entries)))
 
 -- "Count: the number of entries."
 unfoldable pub bookCount : Book → Outcome Book
-bookCount b = record { after = b; answer = record { number = 0; amount = length (b .entries); text = [] } }
+bookCount b = record { after = b; answer = record { number = 0; amount = length (b .entries); text = none } }
 
 unfoldable pub bookStep : Call → Book → Outcome Book
 bookStep (adding name data′ mode) b = bookAdd b name data′ mode

@@ -1,11 +1,11 @@
 -- The calls, each as a function from the image's bytes and the arguments to the answer and every byte afterwards.
---     Answer        what a call answers: its number; count's C or lookup's length; lookup's bytes
+--     Answer        what a call answers: its number; count's C or lookup's length; lookup's text, or none
 --     Outcome S     the state afterwards (a file's: the image), and the answer
 --     create, add, delete, lookup, count     for any bytes, names, data and modes
 -- Assumes nothing.
 use Prim.Native.Nat.{ℕ, _+_}
 use mathlib.Core.Bool.{cond, _&&_}
-use mathlib.Core.List.{[]}
+use mathlib.Core.Option.{Option, none, some}
 use lib.ListN.{length}
 use lib.Dec.{eqb}
 use Rattle.bhtf.specs.Bytes.{Bytes, part}
@@ -20,7 +20,7 @@ use Rattle.bhtf.specs.Questions.{createNumber, openNumber, addNumber, de
 pub record Answer : Type 0 where
   pub number : ℕ
   pub amount : ℕ
-  pub text : Bytes
+  pub text : Option Bytes
 
 pub record Outcome (S : Type 0) : Type 0 where
   pub after : S
@@ -28,7 +28,7 @@ pub record Outcome (S : Type 0) : Type 0 where
 
 -- "An accepted create, add or delete answers 0"; of a refused call the part is "the image's first 0 bytes"
 unfoldable pub plain : ℕ → Answer
-plain n = record { number = n; amount = 0; text = [] }
+plain n = record { number = n; amount = 0; text = none }
 
 -- "A refused call .. changes no byte": the image as it was, or as an accepted call leaves it
 unfoldable pub settled : ℕ → Bytes → Bytes → Bytes
@@ -64,12 +64,17 @@ lookupStart img key = cond (eqb (lookupOffset img key) 0) 0 (lookupOffset img ke
 unfoldable pub lookupLength : Bytes → Bytes → ℕ
 lookupLength img key = held (layoutOf img) img (lookupOffset img key)
 
+-- 02: "Lookup tells an empty message from none."
+unfoldable pub lookupText : Bytes → Bytes → Option Bytes
+lookupText img key =
+    cond (eqb (lookupOffset img key) 0) none (some (part img (lookupStart img key) (lookupLength img key)))
+
 unfoldable pub lookup : Bytes → Bytes → Outcome Bytes
 lookup img key =
-    let m : ℕ = lookupLength img key in
     record {
       after = img;
-      answer = record { number = lookupNumber img key; amount = m; text = part img (lookupStart img key) m };
+      answer =
+          record { number = lookupNumber img key; amount = lookupLength img key; text = lookupText img key };
     }
 
 -- "count answers C, and 0 beside the number when refused"
@@ -77,4 +82,4 @@ unfoldable pub countOf : Bytes → ℕ
 countOf img = cond (eqb (openNumber img) 0) (field img pointsField) 0
 
 unfoldable pub count : Bytes → Outcome Bytes
-count img = record { after = img; answer = record { number = openNumber img; amount = countOf img; text = [] } }
+count img = record { after = img; answer = record { number = openNumber img; amount = countOf img; text = none } }

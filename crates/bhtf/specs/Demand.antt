@@ -18,18 +18,18 @@ use Rattle.bhtf.specs.Lists.{perform, Call, answers, stateAfter}
 use Rattle.bhtf.specs.Book.{Book, Terms, Entry, newBook, find, bookStep}
 
 -- "The file finds a point when its name has K bytes, not all zero, and the search meets it; its message is what lookup
--- shows."
-unfoldable pub fileText : Bytes → Bytes → Option Bytes
+-- shows." A point that is found has a text, or none.
+unfoldable pub fileText : Bytes → Bytes → Option (Option Bytes)
 fileText img name =
     let g = layoutOf img in
     cond (nameAllowed (g .K) name && isMet (search g img name)) (some (lookup img name .answer .text)) none
 
 -- the text of the book's entry of that name, if it has one
-unfoldable pub textOf : Option Entry → Option Bytes
+unfoldable pub textOf : Option Entry → Option (Option Bytes)
 textOf none = none
 textOf (some e) = some (e .text)
 
-unfoldable pub bookText : Book → Bytes → Option Bytes
+unfoldable pub bookText : Book → Bytes → Option (Option Bytes)
 bookText b name = textOf (find name (b .entries))
 
 -- "N and K are as created; R = L − D."

@@ -22,12 +22,9 @@ mostSlots = 1048576
 abbrev pub mostCharacter : ℕ
 mostCharacter = 255
 
--- ---- messages: bytes of a length, the least and the largest length
+-- ---- messages: bytes of a length, the largest length
 abbrev pub lengthWidth : ℕ
 lengthWidth = 3
-
-abbrev pub leastLength : ℕ
-leastLength = 1
 
 abbrev pub mostLength : ℕ
 mostLength = 16777215
@@ -39,7 +36,7 @@ active = 97
 abbrev pub inactive : ℕ
 inactive = 100
 
--- ---- the header: "BHTF", the letter v, and the version bytes
+-- ---- the header: "BHTF", the letter v, and the version bytes; 02: "Version bytes become 1, 0, 2"
 abbrev pub magic : Bytes
 magic = 66 ∷ 72 ∷ 84 ∷ 70 ∷ 118 ∷ []
 
@@ -50,9 +47,12 @@ abbrev pub minor : ℕ
 minor = 0
 
 abbrev pub patch : ℕ
-patch = 1
+patch = 2
 
--- where each header number stands
+-- where the version bytes and each header number stand
+abbrev pub versionField : ℕ
+versionField = 5
+
 abbrev pub serialField : ℕ
 serialField = 8
 

@@ -9,7 +9,7 @@ use mathlib.Core.Option.{Option, none, some}
 use lib.ListN.{length, getD}
 use lib.Dec.{leb, ltb, eqb}
 use Rattle.bhtf.specs.Bytes.{Bytes, part, same, allZero}
-use Rattle.bhtf.specs.Limits.{pageSize, mostImage, mostKey, mostSlots, mostCharacter, magic, major, minor, patch, active, inactive, leastLength, keyField, slotsField, pointsField, firstField, lastField, scrambleField, tableField, dataField, freeField, scrambleStart, tableStart}
+use Rattle.bhtf.specs.Limits.{pageSize, mostImage, mostKey, mostSlots, mostCharacter, magic, major, minor, patch, active, inactive, keyField, slotsField, pointsField, firstField, lastField, scrambleField, tableField, dataField, freeField, scrambleStart, tableStart}
 use Rattle.bhtf.specs.Image.{field, dataStart, Layout, layoutOf, slot, offsetOf}
 use Rattle.bhtf.specs.Search.{Probe, met, empty, exhausted, search, isMet, isEmpty}
 use Rattle.bhtf.specs.Messages.{headSize, letterAt, lengthAt, placedText}
@@ -43,7 +43,7 @@ slotsAllowed N = leb N mostSlots
 unfoldable pub tableFits : ℕ → ℕ → ℕ → Bool
 tableFits L K N = leb (dataStart K N) L
 
--- "5. Are the first 5 bytes "BHTFv", the next two 1 and 0, the next at most 1?"
+-- "5. Are the first 5 bytes "BHTFv", the next two 1 and 0, the next at most 1?" 02: "question 5 accepts up to 2"
 unfoldable pub versionKnown : Bytes → Bool
 versionKnown img =
     same (part img 0 5) magic && eqb (getD img 5 0) major && eqb (getD img 6 0) minor && leb (getD img 7 0) patch
@@ -65,9 +65,13 @@ headerSound img =
 unfoldable pub nameAllowed : ℕ → Bytes → Bool
 nameAllowed K key = eqb (length key) K && not (allZero key)
 
--- "8. Is the mode 1, 2 or 3?"
+-- "8. Is the mode 1, 2 or 3?" 02: "question .. 8 [accepts] mode 4"
 unfoldable pub modeKnown : ℕ → Bool
-modeKnown mode = leb 1 mode && leb mode 3
+modeKnown mode = leb 1 mode && leb mode 4
+
+-- 02: "Mode 4 .. gives 14 for an absent name", "14 stands after 8 for mode 4"
+unfoldable pub metInMode4 : Probe → ℕ → Bool
+metInMode4 s mode = not (eqb mode 4) || isMet s
 
 -- "9. In mode 1, is the key absent?"
 unfoldable pub newInMode1 : Probe → ℕ → Bool
@@ -78,13 +82,12 @@ unfoldable pub slotToTake : ℕ → ℕ → Probe → Bool
 slotToTake points N s = isMet s || (isEmpty s && ltb points N)
 
 -- "11. If the key is present with an offset other than 0: is it at least D, the letter "a" or "d", m at least 1, the
--- message's end at most X?" of the offset o
+-- message's end at most X?" of the offset o. 02: "question .. 11 [accepts] m = 0"
 unfoldable pub messageSound : Layout → Bytes → ℕ → Bool
 messageSound g img o =
     eqb o 0
     || (leb (g .D) o
     && (eqb (letterAt img o) active || eqb (letterAt img o) inactive)
-    && leb leastLength (lengthAt g img o)
     && leb (o + headSize g + lengthAt g img o) (field img freeField))
 
 -- of the key's slot, where it is present
@@ -121,10 +124,11 @@ opened img more = ask 1 (sizeAllowed (length img)) ∷ ask 5 (versionKnown img) 
 unfoldable pub named : ℕ → Bytes → ℕ → List Question → List Question
 named K key mode more = ask 7 (nameAllowed K key) ∷ ask 8 (modeKnown mode) ∷ more
 
--- 9 to 13
+-- 14 for mode 4, then 9 to 13
 unfoldable pub pointAsks : Layout → Bytes → Probe → Bytes → ℕ → List Question
 pointAsks g img s data′ mode =
-    ask 9 (newInMode1 s mode)
+    ask 14 (metInMode4 s mode)
+    ∷ ask 9 (newInMode1 s mode)
     ∷ ask 10 (slotToTake (field img pointsField) (g .N) s)
     ∷ ask 11 (metMessageSound g img s)
     ∷ ask 12 (lengthAllowed g (placedText g img s data′ mode))

@@ -6,10 +6,11 @@
 -- Assumes nothing.
 use Prim.Native.Nat.{ℕ, zero, suc, _-_, _<_}
 use mathlib.Core.Path.{_≡_}
-use mathlib.Core.Bool.{cond}
+use mathlib.Core.Bool.{cond, not}
 use mathlib.Core.List.{List, [], _∷_}
 use mathlib.Core.Logic.{_⊎_}
 use lib.ListN.{length, getD}
+use lib.Dec.{eqb}
 use Rattle.bhtf.specs.Bytes.{Bytes}
 use Rattle.bhtf.specs.Limits.{freeField}
 use Rattle.bhtf.specs.Image.{field, Layout, layoutOf, slot, keyOf, offsetOf}
@@ -21,11 +22,11 @@ use Rattle.bhtf.specs.Inspect.{taken, check, sound}
 use Rattle.bhtf.specs.Book.{Book, Terms, Entry, newBook}
 use Rattle.bhtf.specs.Demand.{termsOf, Agrees}
 
--- "text from active messages, held from the length at the offset"
+-- "text from active messages, held from the length at the offset"; Job 4: "an entry notes whether it has an offset"
 unfoldable pub entryAt : Layout → Bytes → ℕ → Entry
 entryAt g img i =
     let o : ℕ = offsetOf g (slot g img i) in
-    record { name = keyOf g (slot g img i); text = shown g img o; held = held g img o }
+    record { name = keyOf g (slot g img i); text = shown g img o; held = held g img o; offset? = not (eqb o 0) }
 
 -- "entries from taken slots": those from slot i on, of the slots that are left
 unfoldable pub entriesFrom : Layout → Bytes → ℕ → ℕ → List Entry

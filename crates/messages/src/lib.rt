@@ -6,6 +6,8 @@ use words::fields::read_u32;
 use words::limits::FREE_FIELD;
 use words::limits::LENGTH_WIDTH;
 ghost use mathlib.Core.Path.{_≡_};
+ghost use mathlib.Core.Bool.{not, _&&_};
+ghost use lib.Dec.{eqb, leb};
 ghost use Prim.Native.Nat.{_+_, _≤_, _<_, _^_};
 ghost use lib.ListN.{length};
 ghost use Rattle.bhtf.specs.Image.{layoutOf};
@@ -41,7 +43,7 @@ pub fn message_sound(image: &[u8], shape: Shape, o: Offset) -> bool
     }
     let m = length_at(image, shape, o);
     let letter = image[at];
-    ((letter == b'a') | (letter == b'd')) & (1 <= m) & (at + shape.head + m <= free)
+    ((letter == b'a') | (letter == b'd')) & (at + shape.head + m <= free)
 }
 
 // Whether the offset is that of an active message. Nothing is read at offset 0.
@@ -56,15 +58,15 @@ pub fn is_active(image: &[u8], o: Offset) -> bool
     image[at] == b'a'
 }
 
-// The length at the offset, 0 for no offset.
-pub fn held_at(image: &[u8], shape: Shape, o: Offset) -> usize
+// Whether there is an offset, and the length there is at least m.
+pub fn holds(image: &[u8], shape: Shape, o: Offset, m: usize) -> bool
     requires { ⌜ Open (now image) shape × (o .0 + shape .head ≤ length (now image)) ⌝ }
-    ensures { λ r. ⌜ r ≡ held (layoutOf (now (image .entry))) (now (image .entry)) (o .0) ⌝ }
+    ensures { λ r. ⌜ r ≡ (not (eqb (o .0) 0) && leb m (held (layoutOf (now (image .entry))) (now (image .entry)) (o .0))) ⌝ }
 {
     if o.at() == 0 {
-        return 0;
+        return false;
     }
-    length_at(image, shape, o)
+    m <= length_at(image, shape, o)
 }
 
 // How many bytes of text the offset shows: those of an active message.

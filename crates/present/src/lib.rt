@@ -2,7 +2,7 @@
 use layout::places::Offset;
 use layout::places::Slot;
 use layout::shape::Shape;
-use messages::held_at;
+use messages::holds;
 use messages::message_sound;
 use messages::shown_length;
 use messages::text_start;
@@ -54,7 +54,7 @@ fn relocate(
     put_entry(image, shape, slot, key, free);
 }
 
-// Mode 2: no bytes make the message inactive; as many as the offset holds are written in place; more are placed in new
+// Mode 2: as many bytes as the offset holds are written in place; more, or where there is no offset, are placed in new
 // space.
 fn replace(image: &mut [u8], shape: Shape, slot: Slot, o: Offset, key: &[u8], bytes: &[u8]) -> u32
     requires { ⌜ Open (now image) shape × (slot .0 < shape .slots) × (length (now key) ≡ shape .keylen)
@@ -66,11 +66,7 @@ fn replace(image: &mut [u8], shape: Shape, slot: Slot, o: Offset, key: &[u8], by
         (renewedAt (layoutOf (now (image .entry))) (now (image .entry)) (slot .0) (o .0) (now (key .entry))
         (now (bytes .entry)) 2)) ⌝ }
 {
-    if bytes.len() == 0 {
-        retire(image, o);
-        return 0;
-    }
-    if bytes.len() <= held_at(image, shape, o) {
+    if holds(image, shape, o, bytes.len()) {
         overwrite(image, shape, o, bytes);
         return 0;
     }
@@ -132,6 +128,10 @@ pub fn add_present(
     }
     if mode == 2 {
         return replace(image, shape, slot, o, key, bytes);
+    }
+    if mode == 4 {
+        retire(image, o);
+        return 0;
     }
     append(image, shape, slot, o, key, bytes)
 }

@@ -135,5 +135,5 @@ pub fn name_allowed(key: &[u8], size: usize) -> bool
 pub fn mode_known(mode: u32) -> bool
     ensures { λ r. ⌜ r ≡ modeKnown mode ⌝ }
 {
-    (1 <= mode) & (mode <= 3)
+    (1 <= mode) & (mode <= 4)
 }
