@@ -9,7 +9,7 @@
 --     compact-twice      compacting twice is compacting once
 -- Assumes nothing.
 use mathlib.Core.Path.{_≡_, sym, ap, ap₂, _∙_, subst}
-use Prim.Native.Nat.{ℕ, _+_, _<_}
+use Prim.Native.Nat.{ℕ, _+_, _≤_, _<_}
 use native.Mathlib.Omega.{arith}
 use mathlib.Core.Bool.{Bool, true, false, cond, not}
 use mathlib.Core.List.{[]}
@@ -40,7 +40,6 @@ use Rattle.bhtf.proofs.Packing.{startAt, Live, Stretches, sound-stretches, live
 use Rattle.bhtf.proofs.Packed.{live-apart, packed-end, activeSpan, packed-weight}
 use Rattle.bhtf.proofs.Compacted.{Moved, letterAt-moved, lengthAt-moved, compacted-length, compacted-kept, compacted-points, compacted-free, compacted-key, compacted-vacant, compacted-taken, compacted-entry, compacted-offset, compacted-moved, moved-inactive, moved-low, active-again, span-again, compacted-stretches, compacted-twice}
 use Rattle.agreement.proofs.File.{Allowed, File, file-some, file-data}
-use Rattle.agreement.proofs.Data.{file-above}
 use Rattle.agreement.proofs.Checked.{taken-allowed, entry-slot, file-check}
 
 module _ (g : Layout) (img : Bytes) (f : File g img) where
@@ -219,9 +218,21 @@ module _ (g : Layout) (img : Bytes) (f : File g img) where
       (λ i m. ap (slotMet g img′) (search-compact key ∙ m))
       (λ m. ap (slotMet g img′) (search-compact key ∙ m))
 
+  pub offset-compact : (key s : Bytes) → Allowed g key → entryOf g img key ≡ some s
+      → offsetOf g (slotBytes key (packedOffset g img (offsetOf g s))) ≡ packedOffset g img (offsetOf g s)
+  offset-compact key s a e =
+      let w = entry-slot g img key s (file-some f) a e in
+      let t : taken g img (w .0) ≡ true = unfold taken in ap not (w .2) in
+      ap (offsetOf g)
+      (ap₂ (λ (k x : Bytes). slotBytes k (packedOffset g img (offsetOf g x))) (sym (w .3)) (sym (w .4))
+      ∙ sym (compacted-entry g img file-stretches (w .0) (w .1) t))
+      ∙ offset-now (w .0) (w .1) t
+      ∙ ap (λ (x : Bytes). packedOffset g img (offsetOf g x)) (w .4)
+
   -- a point's message, by cases on whether it is active
   pub by-moved {ℓ} : {A : Type ℓ} (key s : Bytes) → Allowed g key → entryOf g img key ≡ some s
-      → (isActive img (offsetOf g s) ≡ true → (packedOffset g img (offsetOf g s) ≡ 0 → ⊥)
+      → (isActive img (offsetOf g s) ≡ true → isActive img′ (packedOffset g img (offsetOf g s)) ≡ true
+      → offsetOf g s + span g img (offsetOf g s) ≤ length img
       → Moved img (offsetOf g s) img′ (packedOffset g img (offsetOf g s)) (span g img (offsetOf g s)) → A)
       → (isActive img (offsetOf g s) ≡ false → packedOffset g img (offsetOf g s) ≡ 0 → A)
       → A
@@ -234,7 +245,10 @@ module _ (g : Layout) (img : Bytes) (f : File g img) where
       (λ h.
       let sh : Live g img (w .0) = record { low = w .1; is = t; active = ap (isActive img) is ∙ h } in
       moves h
-      (λ z. omega (arith, moved-low g img file-stretches (w .0) sh, ap (packedOffset g img) is, file-above f))
+      (ap (λ (x : ℕ). isActive img′ (packedOffset g img x)) (sym is)
+      ∙ active-again g img file-stretches (w .0) (w .1) t ∙ ap (isActive img) is ∙ h)
+      (subst (λ (x : ℕ). x + span g img x ≤ length img) is
+      (omega (arith, file-stretches .end (w .0) sh, file-stretches .free-high)))
       (subst (λ (x : ℕ). Moved img x img′ (packedOffset g img x) (span g img x)) is (moved-at (w .0) sh)))
       (λ h. drops h (moved-inactive g img file-stretches o h))
 
