@@ -46,3 +46,4 @@ pub mod CasesInspect  -- walk and check
 pub mod CasesStretches  -- two points on one message
 pub mod CasesReopened  -- images that no call of ours made, and the books read off them
 pub mod CasesNotes  -- empty notes, and the version bytes
+pub mod CasesCompact  -- compaction, of file and book
