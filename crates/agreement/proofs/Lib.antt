@@ -24,7 +24,10 @@ pub mod Add  -- add
 pub mod Fresh  -- create
 -- ---- lists of calls
 pub mod Checked  -- the check of a file with the invariant
+pub mod Compact  -- a compacted file
 pub mod Reopened  -- the book read off a file
+pub mod Trimmed  -- the book's entries after a compaction
+pub mod Compacting  -- compaction keeps the relation
 pub mod Theorem  -- the theorem
 pub mod Reached  -- files that calls have reached
 pub mod Steps  -- what a call does to the book

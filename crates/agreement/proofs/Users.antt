@@ -10,7 +10,7 @@
 --     count-added, count-replaced, count-deleted      C grows by 1, stays, falls by 1
 --     stays-found         a point that is found stays so until it is deleted
 --     stays-gone          a point that is not found stays so until it is added; so deleted-stays-gone
---     free-grows          X never falls; free-grows-each: over calls that give no space back
+--     free-grows          X does not fall over calls other than compaction
 -- Assumes nothing.
 use mathlib.Core.Path.{_≡_, refl, sym, ap, _∙_}
 use Prim.Native.Nat.{ℕ, suc, _+_, _≤_}
@@ -22,7 +22,8 @@ use Rattle.bhtf.specs.Bytes.{Bytes}
 use Rattle.bhtf.specs.Limits.{freeField}
 use Rattle.bhtf.specs.Image.{field}
 use Rattle.bhtf.specs.Messages.{bytesOf}
-use Rattle.bhtf.specs.Calls.{Answer, Outcome, Call, adding, deleting, perform, stateAfter, add, delete, count}
+use Rattle.bhtf.specs.Calls.{Answer, Outcome, add, delete, count}
+use Rattle.bhtf.specs.Lists.{Call, adding, deleting, perform, stateAfter}
 use Rattle.bhtf.specs.Book.{Entry, Book, find, bookDelete, bookCount, bookStep}
 use Rattle.bhtf.specs.Demand.{fileText, bookText, textOf}
 use Rattle.agreement.proofs.Entries.{Distinct, find-without-same, length-without}
@@ -30,7 +31,7 @@ use Rattle.agreement.proofs.Reflect.{Reflected}
 use Rattle.agreement.proofs.Simple.{same-count}
 use Rattle.agreement.proofs.Theorem.{step-kept, step, reflects-step, points-agree, reflects-after}
 use Rattle.agreement.proofs.Reached.{Reached, reached-reflects, reached-after}
-use Rattle.agreement.proofs.Steps.{given-text, given-new, given-old, Added, refused, fresh, bared, replaced, appended, unchanged, withdrew, book-add, by-put, Deleted, gone, book-delete, call-effect, NotDeleting, NotAdding, Has, Lacks, effect-other, effect-has, effect-lacks, effect-used}
+use Rattle.agreement.proofs.Steps.{given-text, given-new, given-old, Added, refused, fresh, bared, replaced, appended, unchanged, withdrew, book-add, by-put, Deleted, gone, book-delete, call-effect, NotDeleting, NotAdding, Has, Lacks, Keeping, effect-other, effect-has, effect-lacks, effect-used}
 
 -- ---- the book's texts
 
@@ -195,7 +196,7 @@ module _ (img : Bytes) (b : Book) (r : Reached img b) where
       → fileText (perform c img .after) other ≡ fileText img other
   unfolding bookText
   call-others c other na nd =
-      text-after c other ∙ ap textOf (effect-other other (call-effect c b) na nd) ∙ sym (points-agree img b rel other)
+      text-after c other ∙ effect-other other (call-effect c b) na nd ∙ sym (points-agree img b rel other)
 
   pub delete-others : (key other : Bytes) → (other ≡ key → ⊥)
       → fileText (delete img key .after) other ≡ fileText img other
@@ -307,20 +308,12 @@ abbrev pub Each : (Call → Type 0) → List Call → Type 0
 Each p [] = Unit {0}
 Each p (c ∷ cs) = p c × Each p cs
 
-each-of : (p : Call → Type 0) → ((c : Call) → p c) → (calls : List Call) → Each p calls
-each-of p all [] = tt
-each-of p all (c ∷ cs) = (all c, each-of p all cs)
-
 -- what each such call keeps, the list keeps
 book-keeps : (p : Call → Type 0) (P : Book → Type 0) → ((c : Call) (b : Book) → p c → P b → P (bookStep c b .after))
     → (calls : List Call) (b : Book) → Each p calls → P b → P (stateAfter bookStep calls b)
 unfolding stateAfter
 book-keeps p P one [] b a h = h
 book-keeps p P one (c ∷ cs) b a h = book-keeps p P one cs (bookStep c b .after) (a .1) (one c b (a .0) h)
-
--- the call gives no space back and does not move the data area: every call is such a one
-abbrev pub Keeping : Call → Type 0
-Keeping c = Unit {0}
 
 free-keeps : (calls : List Call) (img : Bytes) (b : Book) → Reflected img b → Each Keeping calls
     → field img freeField ≤ field (stateAfter perform calls img) freeField
@@ -330,7 +323,7 @@ free-keeps (c ∷ cs) img b (g, r) k =
     omega (
       arith,
       r .used,
-      effect-used (call-effect c b),
+      effect-used (call-effect c b) (k .0),
       step-kept g img b r c .after .used,
       free-keeps cs (perform c img .after) (bookStep c b .after) (reflects-step img b (g, r) c) (k .1),
     )
@@ -358,13 +351,10 @@ module _ (img : Bytes) (b : Book) (r : Reached img b) where
       (book-keeps (NotAdding key) (Lacks key) (λ c x. effect-lacks key (call-effect c x)) calls b n
       (found-no b key (book-has img b r key _ h)))
 
-  -- "Space once taken is never handed out again": new space is taken at X, and X never falls
-  pub free-grows-each : (calls : List Call) → Each Keeping calls
+  -- between compactions space once taken is never handed out again: new space is taken at X, and X does not fall
+  pub free-grows : (calls : List Call) → Each Keeping calls
       → field img freeField ≤ field (stateAfter perform calls img) freeField
-  free-grows-each calls k = free-keeps calls img b (reached-reflects img b r) k
-
-  pub free-grows : (calls : List Call) → field img freeField ≤ field (stateAfter perform calls img) freeField
-  free-grows calls = free-grows-each calls (each-of Keeping (λ c. tt) calls)
+  free-grows calls k = free-keeps calls img b (reached-reflects img b r) k
 
 -- a point that was deleted stays so until it is added again
 pub deleted-stays-gone : (img : Bytes) (b : Book) → Reached img b → (key : Bytes) → delete img key .answer .number ≡ 0
