@@ -78,6 +78,10 @@ pub record Staged (img img′ : Bytes) (s : Shape) (lo q : ℕ) : Type 0 where
   pub low : layoutOf img .D ≤ lo
   pub stage : Stage (layoutOf img) img img′ lo q
 
+-- whatever image lo and q are a stage of, hi and r are one of it afterwards
+abbrev pub Onward : Shape → Bytes → Bytes → ℕ → ℕ → ℕ → ℕ → Type 0
+Onward s img′ img″ lo q hi r = (img : Bytes) → Staged img img′ s lo q → Stage (layoutOf img) img img″ hi r
+
 -- ---- a message moved
 
 -- what a move asks: the message lies in the image, and q is in the data area, not above it

@@ -1,0 +1,4 @@
+-- Laws of compaction's stages, for the proofs of its steps.
+pub mod Entries
+pub mod Stages
+pub mod Steps
