@@ -8,18 +8,22 @@ use mathlib.Core.Path.{_≡_, refl, sym, ap, ap₂, _∙_, subst}
 use Prim.Native.Nat.{ℕ, zero, suc, _+_, _-_, _*_, _/_, _%_, _≤_, _<_}
 use native.Mathlib.Nat.{mul-le-mul-right, suc-mul}
 use native.Mathlib.Omega.{arith}
+use mathlib.Core.Bool.{true, false, not, and-false}
 use mathlib.Core.List.{[], _∷_, _++_}
 use lib.ListN.{length, take, drop, getD, length-drop, take-append-drop}
 use lib.Seq.{drop-drop, getD-drop}
+use borrow.Author.Tests.{eq-eqb, ne-eqb}
 use Rattle.bhtf.specs.Bytes.{Bytes, part, store, number, digits}
 use Rattle.bhtf.specs.Limits.{tableStart}
-use Rattle.bhtf.specs.Image.{setField, Layout, layoutOf, slotSize, slotStart, slot, putSlot, keyOf, offsetOf, slotBytes}
+use Rattle.bhtf.specs.Image.{setField, Layout, layoutOf, slotSize, slotStart, slot, putSlot, keyOf, offsetOf, slotBytes, vacant}
+use Rattle.bhtf.specs.Messages.{isActive}
+use Rattle.bhtf.specs.Inspect.{taken}
 use mathlib.Core.Logic.{inr}
 use Rattle.bhtf.proofs.Bytes.{AreBytes, part-length, part-store-other}
 use Rattle.bhtf.proofs.Stores.{store-append}
 use Rattle.bhtf.proofs.Slots.{Room, keyOf-slot}
 use Rattle.runs.proofs.Little.{bytes-part}
-use Rattle.packing.specs.Stages.{keyIn, withOffset, tableEnd}
+use Rattle.packing.specs.Stages.{offsetIn, keyIn, deadIn, withOffset, tableEnd}
 
 -- ---- four bytes
 digit-first : (a b c d : ℕ) → a < 256 → b < 256 → c < 256 → d < 256
@@ -101,6 +105,25 @@ behind-putSlot g img i v r l e =
     part-store-other img (slotStart g i) v (tableEnd g) (g .D - tableEnd g)
     (omega (arith, e, table-above g i l, r .table, r .area))
     (inr (omega (arith, e, table-above g i l)))
+
+-- ---- whether a slot's message is inactive
+module _ (img : Bytes) (i : ℕ) where
+  pub dead-none : offsetIn img i ≡ 0 → deadIn img i ≡ false
+  unfolding deadIn
+  dead-none z = rw (eq-eqb (offsetIn img i) 0 z) (and-false (taken (layoutOf img) img i))
+
+  pub dead-vacant : vacant (layoutOf img) (slot (layoutOf img) img i) ≡ true → deadIn img i ≡ false
+  unfolding deadIn taken
+  dead-vacant v = rw v refl
+
+  pub dead-is : (offsetIn img i ≡ 0 → ⊥) → vacant (layoutOf img) (slot (layoutOf img) img i) ≡ false
+      → deadIn img i ≡ not (isActive img (offsetIn img i))
+  unfolding deadIn taken
+  dead-is z v = rw (v, ne-eqb (offsetIn img i) 0 z) refl
+
+  pub vacant-taken : vacant (layoutOf img) (slot (layoutOf img) img i) ≡ false → taken (layoutOf img) img i ≡ true
+  unfolding taken
+  vacant-taken v = ap not v
 
 -- ---- the offset's field
 pub offset-written : (g : Layout) (img : Bytes) (i o : ℕ) → slotStart g i + slotSize g ≤ length img

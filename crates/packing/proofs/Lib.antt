@@ -2,3 +2,7 @@
 pub mod Entries
 pub mod Stages
 pub mod Steps
+pub mod Forgetting
+pub mod Fills
+pub mod Cells
+pub mod Ends

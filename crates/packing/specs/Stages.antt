@@ -3,7 +3,8 @@
 --     offsetNow, slotNow      a slot at that stage
 --     Stage g img img′ s q      img′ is img at that stage; q is the next free place
 --     Staged      a stage of a sound image
---     movedTo      the message of a slot moved down to q
+--     Onward      what a step leaves of a stage
+--     Movable, movedTo      the message of a slot that can be moved down to q, and the image with it moved
 -- Assumes nothing.
 use mathlib.Core.Path.{_≡_}
 use mathlib.Core.Bool.{Bool, true, cond, not, _&&_}
@@ -92,10 +93,18 @@ pub record Movable (img : Bytes) (s : Shape) (i q : ℕ) : Type 0 where
   pub down : q ≤ offsetIn img i
   pub end : offsetIn img i + spanIn img i ≤ length img
 
+-- n bytes copied down from `from` to q, and q written into slot i
+unfoldable pub carried : Bytes → ℕ → ℕ → ℕ → ℕ → Bytes
+carried img i from q n =
+    putSlot (layoutOf img) (store img q (part img from n)) i (slotBytes (keyIn img i) q)
+
 unfoldable pub movedTo : Bytes → ℕ → ℕ → Bytes
-movedTo img i q =
-    cond (eqb q (offsetIn img i)) img
-    (putSlot (layoutOf img) (store img q (part img (offsetIn img i) (spanIn img i))) i (slotBytes (keyIn img i) q))
+movedTo img i q = cond (eqb q (offsetIn img i)) img (carried img i (offsetIn img i) q (spanIn img i))
+
+-- a cell passed: the slot that it names moved, or nothing where it names none
+pub record Passed (s : Shape) (img img′ : Bytes) (i q r : ℕ) : Type 0 where
+  pub none : s .slots ≤ i → (img′ ≡ img) × (r ≡ q)
+  pub one : i < s .slots → (img′ ≡ movedTo img i q) × (r ≡ q + spanIn img i)
 
 -- ---- the end
 

@@ -7,7 +7,7 @@ use table::is_vacant;
 use table::offset_of;
 use words::fields::write_u32;
 ghost use mathlib.Core.Path.{_≡_};
-ghost use mathlib.Core.Bool.{true};
+ghost use mathlib.Core.Bool.{true, cond};
 ghost use Prim.Native.Nat.{_<_, _^_};
 ghost use lib.ListN.{length};
 ghost use Rattle.bhtf.specs.Image.{layoutOf};
@@ -42,6 +42,19 @@ fn is_dead(image: &[u8], shape: Shape, i: Slot) -> bool
     !is_active(image, o)
 }
 
+// Sets the offset of slot i to 0 if its message is inactive.
+fn forget(image: &mut [u8], shape: Shape, i: Slot)
+    requires { ⌜ Open (now image) shape × (i .0 < shape .slots)
+        × (taken (layoutOf (now image)) (now image) (i .0) ≡ true → offsetIn (now image) (i .0) < length (now image)) ⌝ }
+    ensures { λ _. ⌜ now (image .exit)
+        ≡ cond (deadIn (now (image .entry)) (i .0)) (withOffset (now (image .entry)) (i .0) 0) (now (image .entry)) ⌝ }
+{
+    if !is_dead(image, shape, i) {
+        return;
+    }
+    set_offset(image, shape, i, Offset::new(0));
+}
+
 // Sets the offset of each inactive message to 0. A message that is moved may overwrite the header of one.
 pub fn forget_dead(image: &mut [u8], shape: Shape)
     requires { ⌜ Sound (now image) shape ⌝ }
@@ -51,10 +64,7 @@ pub fn forget_dead(image: &mut [u8], shape: Shape)
     let slots = shape.slots;
     let mut i = 0;
     while i < slots {
-        let at = Slot::new(i);
-        if is_dead(image, shape, at) {
-            set_offset(image, shape, at, Offset::new(0));
-        }
+        forget(image, shape, Slot::new(i));
         i += 1;
     }
 }

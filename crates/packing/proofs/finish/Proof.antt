@@ -1,69 +1,71 @@
+-- `packing::finish` meets its contract. Assumes nothing.
+use native.Mathlib.Omega.{arith}
+use mathlib.Core.Path.{ap₂, _∙_}
+use Prim.Native.Nat.{ℕ}
 use borrow.Author.Needs.{needs}
+use Rattle.bhtf.specs.Messages.{setFree}
+use Rattle.bhtf.proofs.Opened.{opened-facts}
+use Rattle.layout.proofs.Shaped.{shape-area}
+use Rattle.packing.proofs.Ends.{finish-same, finish-lower}
 use Rattle.packing.proofs.finish.Statement.{statement}
 use Rattle.packing.proofs.finish.Tie as tie
-use Rattle.packing.proofs.finish.Reads as reads
-use Rattle.packing.proofs.finish.Lts as lts
-use Rattle.layout.proofs.places.Offset.new.Reads as new-reads
-use Rattle.runs.proofs.zero.Reads as zero-reads
-use Rattle.storing.proofs.set_free.Reads as set-free-reads
-use Rattle.words.proofs.fields.read_u32.Reads as read-u32-reads
 
--- src/lib.rt:114:10
-sub-zero : tie.Need-sub-zero
-sub-zero c = search needs
+zero-from-requires : tie.Need-zero-from-requires
+zero-from-requires c κs = search needs
 
--- src/lib.rt:114:10
-part-zero-start : tie.Need-part-zero-start
-part-zero-start c = search needs
-
--- src/lib.rt:114:10
-part-zero-end : tie.Need-part-zero-end
-part-zero-end c = search needs
-
--- src/lib.rt:114:5
-zero-requires : tie.Need-zero-requires
-zero-requires c κs = search needs
-
--- src/lib.rt:115:9
 read-u32-requires : tie.Need-read-u32-requires
-read-u32-requires c κs = ?
+read-u32-requires c κs =
+    let Z = c .before .before .before in
+    let S = Z .before .before .before in
+    omega (arith, Z .zero-from .kept .0, opened-facts (S .args .image .now) (S .pre .0 .accepted) .size-low)
 
--- src/lib.rt:115:9
 cast-if1 : tie.Need-cast-if1
 cast-if1 c = search needs
 
--- src/lib.rt:116:9
 same-length : tie.Need-same-length
 same-length c = search needs
 
--- src/lib.rt:116:9
 returns : tie.Need-returns
-returns c = ?
+returns c =
+    let Z = c .before .before .before .before .before in
+    let A = Z .before .before .before .args in
+    finish-same (A .image .now) (Z .zero-from .last .0) (A .end) (c .before .read-u32 .result) (Z .zero-from .ensures)
+    (c .before .read-u32 .ensures) (c .if1 .taken)
 
--- src/lib.rt:118:33
 new-requires : tie.Need-new-requires
 new-requires c κs = search needs
 
--- src/lib.rt:118:5
 set-free-requires : tie.Need-set-free-requires
-set-free-requires c κs = ?
+set-free-requires c κs =
+    let Z = c .before .before .before .before .before .before .before in
+    let S = Z .before .before .before in
+    let o = opened-facts (S .args .image .now) (S .pre .0 .accepted) in (
+      omega (arith, Z .zero-from .kept .0, o .size-low),
+      omega (arith, c .new .ensures, shape-area (S .pre .0), S .pre .1),
+      omega (arith, c .new .ensures, S .pre .2, o .size-high),
+    )
 
--- src/lib.rt:110:1
 same-length-2 : tie.Need-same-length-2
 same-length-2 c = search needs
 
--- src/lib.rt:110:1
 returns-2 : tie.Need-returns-2
-returns-2 c = ?
+returns-2 c =
+    let P = c .before .before in
+    let N = P .before in
+    let E = N .before .before in
+    let Z = E .before .before .before .before .before in
+    let S = Z .before .before .before in
+    let A = S .args in
+    let x = Z .zero-from .last .0 in
+    finish-lower (A .image .now) x (A .end) (E .before .read-u32 .result) (Z .zero-from .ensures)
+    (E .before .read-u32 .ensures) (E .if1 .left) (P .set-free .last .0)
+    (P .set-free .ensures ∙ ap₂ (λ (d n : ℕ). setFree d x n) (shape-area (S .pre .0)) (N .new .ensures))
 
 pub finish-spec : {M : Type 1} → statement M
 finish-spec =
     tie.close
     (tie.spec
-    sub-zero
-    part-zero-start
-    part-zero-end
-    zero-requires
+    zero-from-requires
     read-u32-requires
     cast-if1
     same-length

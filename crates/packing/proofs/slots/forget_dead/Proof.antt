@@ -1,57 +1,86 @@
+-- `packing::slots::forget_dead` meets its contract: below slot i it is done. Assumes nothing.
+use Prim.Native.Nat.{ℕ, _-_, _≤_, _<_}
+use native.Mathlib.Omega.{arith}
+use mathlib.Core.Path.{_≡_, sym, ap, _∙_, subst}
+use mathlib.Core.Bool.{true, cond}
+use lib.ListN.{length}
+use Rattle.bhtf.specs.Image.{layoutOf}
+use Rattle.bhtf.specs.Inspect.{taken}
+use Rattle.layout.specs.Shapes.{Open}
+use Rattle.table.proofs.Headers.{header, layout-slots}
+use Rattle.packing.specs.Stages.{offsetIn, withOffset, deadIn}
+use Rattle.packing.proofs.Forgetting.{Forgetting, forgetting-start, forgetting-open, forgetting-inside, forgetting-on, forgotten}
 use Rattle.packing.proofs.slots.forget_dead.Statement.{statement}
 use Rattle.packing.proofs.slots.forget_dead.Tie as tie
-use Rattle.packing.proofs.slots.forget_dead.Reads as reads
-use Rattle.packing.proofs.slots.forget_dead.Lts as lts
-use Rattle.layout.proofs.places.Offset.new.Reads as places-Offset-new-reads
-use Rattle.layout.proofs.places.Slot.new.Reads as places-Slot-new-reads
-use Rattle.packing.proofs.slots.is_dead.Reads as is-dead-reads
-use Rattle.packing.proofs.slots.set_offset.Reads as set-offset-reads
 
 abbrev Inv-loop : tie.InvT-loop
-Inv-loop image₀ shape slots i₀ image i = ?
+Inv-loop image₀ shape slots i₀ image i = (i ≤ slots) × Forgetting (layoutOf image₀) image₀ image i
 
 abbrev μ-loop : tie.MeasureT-loop
-μ-loop image₀ shape slots i₀ image i = ?
+μ-loop image₀ shape slots i₀ image i = slots - i
 
--- src/slots.rt:53:5
 loop-holds : tie.Need-loop-holds Inv-loop μ-loop
-loop-holds c = ?
+loop-holds c = let img = c .before .args .image .now in (omega arith, forgetting-start (layoutOf img) img)
 
--- src/slots.rt:54:13
 new-requires : tie.Need-new-requires Inv-loop μ-loop
-new-requires c κs = ?
+new-requires c κs = tt
 
--- src/slots.rt:55:12
-is-dead-requires : tie.Need-is-dead-requires Inv-loop μ-loop
-is-dead-requires c κs = ?
+forget-requires : tie.Need-forget-requires Inv-loop μ-loop
+forget-requires c κs =
+    let I = c .before .before in
+    let L = I .before in
+    let S = L .before .before in
+    let img = S .args .image .now in
+    let s = S .args .shape in
+    let x = L .loop .image in
+    let l = omega (arith, I .loop-test .taken, layout-slots img s (S .pre .opened .shape)) in
+    subst (λ (n : ℕ). Open x s × (n < s .slots) × (taken (layoutOf x) x n ≡ true → offsetIn x n < length x))
+    (sym (c .new .ensures))
+    (
+      forgetting-open img s (S .pre) x (L .loop .i) l (L .loop .inv .1),
+      I .loop-test .taken,
+      forgetting-inside img s (S .pre) x (L .loop .i) l (L .loop .inv .1),
+    )
 
--- src/slots.rt:56:42
-new-requires-2 : tie.Need-new-requires-2 Inv-loop μ-loop
-new-requires-2 c κs = ?
-
--- src/slots.rt:56:13
-set-offset-requires : tie.Need-set-offset-requires Inv-loop μ-loop
-set-offset-requires c κs = ?
-
--- src/slots.rt:58:9
 add-i : tie.Need-add-i Inv-loop μ-loop
-add-i c = ?
+add-i c =
+    let I = c .before .before .before .before .before in
+    let S = I .before .before .before in
+    omega (arith, header (S .args .image .now) (S .args .shape) (S .pre .opened) .slots-high, I .loop-test .taken)
 
--- src/slots.rt:53:5
 loop-less : tie.Need-loop-less Inv-loop μ-loop
-loop-less c = ?
+loop-less c =
+    let I = c .before .before .before .before .before in
+    omega (arith, I .loop-test .taken)
 
--- src/slots.rt:53:5
 loop-again : tie.Need-loop-again Inv-loop μ-loop
-loop-again c = ?
+loop-again c =
+    let P = c .before .before in
+    let N = P .before in
+    let I = N .before .before in
+    let L = I .before in
+    let S = L .before .before in
+    let img = S .args .image .now in
+    let s = S .args .shape in
+    let x = L .loop .image in (
+      omega (arith, I .loop-test .taken),
+      forgetting-on img s (S .pre) x (L .loop .i)
+          (omega (arith, I .loop-test .taken, layout-slots img s (S .pre .opened .shape))) (L .loop .inv .1)
+          (P .forget .last .0)
+          (P .forget .ensures ∙ ap (λ (n : ℕ). cond (deadIn x n) (withOffset x n 0) x) (N .new .ensures)),
+    )
 
--- src/slots.rt:46:1
 same-length : tie.Need-same-length Inv-loop μ-loop
-same-length c = ?
+same-length c = c .before .loop .inv .1 .size
 
--- src/slots.rt:46:1
 returns : tie.Need-returns Inv-loop μ-loop
-returns c = ?
+returns c =
+    let L = c .before in
+    let S = L .before .before in
+    let img = S .args .image .now in
+    let s = S .args .shape in
+    forgotten img s (S .pre) (L .loop .image) (L .loop .i)
+    (omega (arith, c .loop-test .left, layout-slots img s (S .pre .opened .shape))) (L .loop .inv .1)
 
 pub forget-dead-spec : {M : Type 1} → statement M
 forget-dead-spec =
@@ -61,9 +90,7 @@ forget-dead-spec =
     μ-loop
     loop-holds
     new-requires
-    is-dead-requires
-    new-requires-2
-    set-offset-requires
+    forget-requires
     add-i
     loop-less
     loop-again
