@@ -6,3 +6,4 @@ pub mod Forgetting
 pub mod Fills
 pub mod Cells
 pub mod Ends
+pub mod Told

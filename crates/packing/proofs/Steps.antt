@@ -1,5 +1,5 @@
 -- From one stage to the next: past places where no message begins, and past a message that is moved.
---     stage-skip      no message begins from s up to e
+--     stage-skip, stage-back      no message begins from s up to e
 --     stage-move      slot i's alone does, and is moved down to the next free place
 --     place-below     the next free place is not above a waiting message
 -- Assumes nothing.
@@ -67,6 +67,26 @@ module _ (g : Layout) (img : Bytes) (S : Stretches g img) where
         place = T .place ∙ ap (λ (b : Bytes). g .D + length b) (sym same);
         filled = subst (λ (b : Bytes). part img′ (g .D) (length b) ≡ b) (sym same) (T .filled);
         waiting = λ i a b c w. T .waiting i a b c (omega (arith, w, l));
+      }
+
+  -- and back
+  pub stage-back : (img′ : Bytes) (s e q : ℕ) → g .D ≤ s → s ≤ e
+      → ((i : ℕ) → Live g img i → s ≤ startAt g img i → ⊥)
+      → Stage g img img′ e q → Stage g img img′ s q
+  stage-back img′ s e q d l none T =
+      let same : packedBelow g img e ≡ packedBelow g img s = below-none g img s e d l (λ i v a b. none i v a) in
+      record {
+        size = T .size;
+        front = T .front;
+        slots = λ i h. T .slots i h ∙ now-same g img e s i
+            (λ v. by-le s (startAt g img i)
+            (λ w. absurd (none i v w))
+            (λ w. lt-ltb (startAt g img i) e (omega (arith, w, l)) ∙ sym (lt-ltb (startAt g img i) s w)))
+            h;
+        behind = T .behind;
+        place = T .place ∙ ap (λ (b : Bytes). g .D + length b) same;
+        filled = subst (λ (b : Bytes). part img′ (g .D) (length b) ≡ b) same (T .filled);
+        waiting = λ i a b c w. absurd (none i (record { low = a; is = b; active = c }) w);
       }
 
   -- ---- one message begins

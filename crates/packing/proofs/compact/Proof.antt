@@ -1,70 +1,94 @@
+-- `packing::compact` meets its contract: the check's verdict, and the compaction of a sound image. Assumes nothing.
+use native.Mathlib.Omega.{arith}
+use mathlib.Core.Path.{sym, ap, _∙_}
+use borrow.Author.Needs.{needs}
+use Rattle.bhtf.proofs.Opened.{opened-facts}
+use Rattle.bhtf.proofs.Verdict.{check-open}
+use Rattle.inspect.specs.Verdicts.{verdictIn}
+use Rattle.packing.proofs.Told.{told-refused, told-sound, told-slot, told-count}
 use Rattle.packing.proofs.compact.Statement.{statement}
 use Rattle.packing.proofs.compact.Tie as tie
-use Rattle.packing.proofs.compact.Reads as reads
-use Rattle.packing.proofs.compact.Lts as lts
-use Rattle.inspect.proofs.check.Reads as check-reads
-use Rattle.layout.proofs.shape.read_shape.Reads as read-shape-reads
-use Rattle.packing.proofs.pack.Reads as pack-reads
 
--- src/lib.rt:145:9
 check-requires : tie.Need-check-requires
-check-requires c κs = ?
+check-requires c κs = search needs
 
--- src/lib.rt:147:26
 enum-known-found : tie.Need-enum-known-found
-enum-known-found c = ?
+enum-known-found c = search needs
 
--- src/lib.rt:149:18
 enum-told : tie.Need-enum-told
-enum-told c = ?
+enum-told c = search needs
 
--- src/lib.rt:149:25
 read-shape-requires : tie.Need-read-shape-requires
-read-shape-requires c κs = ?
+unfolding verdictIn
+read-shape-requires c κs =
+    let T = c .before .before in
+    let F = T .before .before in
+    let img = F .before .before .before .args .image .now in
+    let ok = sym (F .check .ensures) ∙ ap verdictIn (T .enum-told .given .1) in
+    omega (arith, opened-facts img (check-open img ok) .size-low)
 
--- src/lib.rt:149:13
 pack-requires : tie.Need-pack-requires
-pack-requires c κs = ?
+unfolding verdictIn
+pack-requires c κs =
+    let T = c .before .before .before in
+    let F = T .before .before in
+    let K = F .before .before in
+    let img = K .before .args .image .now in
+    let ok = sym (F .check .ensures) ∙ ap verdictIn (T .enum-told .given .1) in
+    record {
+      opened = record { accepted = check-open img ok; shape = c .read-shape .ensures };
+      bytes = λ i. omega (arith, K .slice-known .given i);
+      checked = ok;
+    }
 
--- src/lib.rt:152:34
 enum-told-2 : tie.Need-enum-told-2
-enum-told-2 c = ?
+enum-told-2 c = search needs
 
--- src/lib.rt:153:32
 enum-told-3 : tie.Need-enum-told-3
-enum-told-3 c = ?
+enum-told-3 c = search needs
 
--- src/lib.rt:141:1
 same-length : tie.Need-same-length
-same-length c = ?
+same-length c = search needs
 
--- src/lib.rt:141:1
 returns : tie.Need-returns
-returns c = ?
+unfolding verdictIn
+returns c =
+    let F = c .before .before .before in
+    told-refused (F .before .before .before .args .image .now) _
+    (sym (ap verdictIn (c .before .found .given .1)) ∙ F .check .ensures)
 
--- src/lib.rt:141:1
 same-length-2 : tie.Need-same-length-2
-same-length-2 c = ?
+same-length-2 c = search needs
 
--- src/lib.rt:141:1
 returns-2 : tie.Need-returns-2
-returns-2 c = ?
+unfolding verdictIn
+returns-2 c =
+    let P = c .before .before in
+    let T = P .before .before .before .before in
+    let F = T .before .before in
+    let img = F .before .before .before .args .image .now in
+    let ok = sym (F .check .ensures) ∙ ap verdictIn (T .enum-told .given .1) in
+    (told-sound img ok .0, P .pack .ensures ∙ told-sound img ok .1)
 
--- src/lib.rt:141:1
 same-length-3 : tie.Need-same-length-3
-same-length-3 c = ?
+same-length-3 c = search needs
 
--- src/lib.rt:141:1
 returns-3 : tie.Need-returns-3
-returns-3 c = ?
+unfolding verdictIn
+returns-3 c =
+    let F = c .before .before in
+    told-slot (F .before .before .before .args .image .now) _
+    (sym (ap verdictIn (c .enum-told2 .given .1)) ∙ F .check .ensures)
 
--- src/lib.rt:141:1
 same-length-4 : tie.Need-same-length-4
-same-length-4 c = ?
+same-length-4 c = search needs
 
--- src/lib.rt:141:1
 returns-4 : tie.Need-returns-4
-returns-4 c = ?
+unfolding verdictIn
+returns-4 c =
+    let F = c .before .before in
+    told-count (F .before .before .before .args .image .now)
+    (sym (ap verdictIn (c .enum-told3 .given .1)) ∙ F .check .ensures)
 
 pub compact-spec : {M : Type 1} → statement M
 compact-spec =

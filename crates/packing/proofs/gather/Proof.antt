@@ -1,55 +1,48 @@
+-- `packing::gather` meets its contract: X is not below D. Assumes nothing.
+use native.Mathlib.Omega.{arith}
+use borrow.Author.Needs.{needs}
+use Rattle.bhtf.proofs.Opened.{opened-facts}
+use Rattle.layout.proofs.Shaped.{area-field}
 use Rattle.packing.proofs.gather.Statement.{statement}
 use Rattle.packing.proofs.gather.Tie as tie
-use Rattle.packing.proofs.gather.Reads as reads
-use Rattle.packing.proofs.gather.Lts as lts
-use Rattle.layout.proofs.places.Offset.at.Reads as at-reads
-use Rattle.packing.proofs.sweep_large.Reads as sweep-large-reads
-use Rattle.packing.proofs.sweep_small.Reads as sweep-small-reads
-use Rattle.words.proofs.fields.read_u32.Reads as read-u32-reads
 
--- src/lib.rt:103:9
 read-u32-requires : tie.Need-read-u32-requires
-read-u32-requires c κs = ?
+read-u32-requires c κs =
+    let S = c .before .before .before in
+    omega (arith, opened-facts (S .args .image .now) (S .pre .opened .accepted) .size-low)
 
--- src/lib.rt:103:9
 cast-if1 : tie.Need-cast-if1
-cast-if1 c = ?
+cast-if1 c = search needs
 
--- src/lib.rt:103:49
 at-requires : tie.Need-at-requires
-at-requires c κs = ?
+at-requires c κs = search needs
 
--- src/lib.rt:103:8
 sub-if1 : tie.Need-sub-if1
-sub-if1 c = ?
+sub-if1 c =
+    let S = c .before .before .before .before .before in
+    let o = opened-facts (S .args .image .now) (S .pre .opened .accepted) in
+    omega (arith, c .at .ensures, area-field (S .pre .opened), o .free-low, c .before .read-u32 .ensures)
 
--- src/lib.rt:103:62
 mul-if1 : tie.Need-mul-if1
-mul-if1 c = ?
+mul-if1 c = search needs
 
--- src/lib.rt:104:9
 sweep-small-requires : tie.Need-sweep-small-requires
-sweep-small-requires c κs = ?
+sweep-small-requires c κs = search needs
 
--- src/lib.rt:104:9
 same-length : tie.Need-same-length
-same-length c = ?
+same-length c = search needs
 
--- src/lib.rt:104:9
 returns : tie.Need-returns
-returns c = ?
+returns c = search needs
 
--- src/lib.rt:106:5
 sweep-large-requires : tie.Need-sweep-large-requires
-sweep-large-requires c κs = ?
+sweep-large-requires c κs = search needs
 
--- src/lib.rt:97:1
 same-length-2 : tie.Need-same-length-2
-same-length-2 c = ?
+same-length-2 c = search needs
 
--- src/lib.rt:97:1
 returns-2 : tie.Need-returns-2
-returns-2 c = ?
+returns-2 c = search needs
 
 pub gather-spec : {M : Type 1} → statement M
 gather-spec =

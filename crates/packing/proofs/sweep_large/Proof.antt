@@ -1,20 +1,16 @@
+-- `packing::sweep_large` meets its contract. Assumes nothing.
+use borrow.Author.Needs.{needs}
 use Rattle.packing.proofs.sweep_large.Statement.{statement}
 use Rattle.packing.proofs.sweep_large.Tie as tie
-use Rattle.packing.proofs.sweep_large.Reads as reads
-use Rattle.packing.proofs.sweep_large.Lts as lts
-use Rattle.packing.proofs.sweep_wide.Reads as sweep-wide-reads
 
--- src/lib.rt:93:5
 sweep-wide-requires : tie.Need-sweep-wide-requires
-sweep-wide-requires c κs = ?
+sweep-wide-requires c κs = search needs
 
--- src/lib.rt:87:1
 same-length : tie.Need-same-length
-same-length c = ?
+same-length c = search needs
 
--- src/lib.rt:87:1
 returns : tie.Need-returns
-returns c = ?
+returns c = search needs
 
 pub sweep-large-spec : {M : Type 1} → statement M
 sweep-large-spec = tie.close (tie.spec sweep-wide-requires same-length returns)

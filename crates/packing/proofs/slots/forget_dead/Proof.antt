@@ -33,7 +33,8 @@ forget-requires c κs =
     let img = S .args .image .now in
     let s = S .args .shape in
     let x = L .loop .image in
-    let l = omega (arith, I .loop-test .taken, layout-slots img s (S .pre .opened .shape)) in
+    let l : L .loop .i < layoutOf img .N =
+    omega (arith, I .loop-test .taken, layout-slots img s (S .pre .opened .shape)) in
     subst (λ (n : ℕ). Open x s × (n < s .slots) × (taken (layoutOf x) x n ≡ true → offsetIn x n < length x))
     (sym (c .new .ensures))
     (
