@@ -99,10 +99,10 @@ pub fn copy_down(s: &mut [u8], from: usize, to: usize, n: usize)
     requires { ⌜ (to ≤ from) × (from + n ≤ length (now s)) ⌝ }
     ensures { λ _. ⌜ now (s .exit) ≡ store (now (s .entry)) to (part (now (s .entry)) from n) ⌝ }
 {
-    let mut i = 0;
-    while i < n {
-        s[to + i] = s[from + i];
-        i += 1;
+    let mut k = 0;
+    while k < n {
+        s[to + k] = s[from + k];
+        k += 1;
     }
 }
 

@@ -1,4 +1,4 @@
--- `runs::copy_down` meets its contract: i bytes are written, and none that is still to be read, as it stands above.
+-- `runs::copy_down` meets its contract: k bytes are written, and none that is still to be read, as it stands above.
 -- Assumes nothing.
 use Prim.Native.Nat.{ℕ, _+_, _≤_, _-_}
 use native.Mathlib.Omega.{arith}
@@ -12,10 +12,10 @@ use Rattle.runs.proofs.copy_down.Statement.{statement}
 use Rattle.runs.proofs.copy_down.Tie as tie
 
 abbrev Inv-loop : tie.InvT-loop
-Inv-loop s₀ from to n i₀ s i = (s ≡ paste s₀ to (drop from s₀) i) × (i ≤ n) × (length s ≡ length s₀)
+Inv-loop s₀ from to n k₀ s k = (s ≡ paste s₀ to (drop from s₀) k) × (k ≤ n) × (length s ≡ length s₀)
 
 abbrev μ-loop : tie.MeasureT-loop
-μ-loop s₀ from to n i₀ s i = n - i
+μ-loop s₀ from to n k₀ s k = n - k
 
 loop-holds : tie.Need-loop-holds Inv-loop μ-loop
 loop-holds c = (paste-zero (c .args .s .now) (c .args .to) (drop (c .args .from) (c .args .s .now)), search needs, refl)
@@ -34,8 +34,8 @@ slice-write-s c =
     let L = c .before .before in
     omega (arith, L .before .pre .0, L .before .pre .1, L .loop .inv .2)
 
-add-i : tie.Need-add-i Inv-loop μ-loop
-add-i c = search needs
+add-k : tie.Need-add-k Inv-loop μ-loop
+add-k c = search needs
 
 loop-less : tie.Need-loop-less Inv-loop μ-loop
 loop-less c = search needs
@@ -44,12 +44,12 @@ loop-again : tie.Need-loop-again Inv-loop μ-loop
 loop-again c =
     let L = c .before .before in
     let A = L .before .args in
-    let i = L .loop .i in (
-      ap (λ (t : List ℕ). set t (A .to + i) (getD t (A .from + i) 0)) (L .loop .inv .0)
+    let k = L .loop .k in (
+      ap (λ (t : List ℕ). set t (A .to + k) (getD t (A .from + k) 0)) (L .loop .inv .0)
           ∙ copied-more-down (A .s .now) (A .from) (A .to) (A .n)
-          (L .before .pre .1) (omega (arith, L .before .pre)) (L .before .pre .0) i (omega arith),
+          (L .before .pre .1) (omega (arith, L .before .pre)) (L .before .pre .0) k (omega arith),
       omega arith,
-      length-set (L .loop .s) (A .to + i) (getD (L .loop .s) (A .from + i) 0) ∙ L .loop .inv .2,
+      length-set (L .loop .s) (A .to + k) (getD (L .loop .s) (A .from + k) 0) ∙ L .loop .inv .2,
     )
 
 same-length : tie.Need-same-length Inv-loop μ-loop
@@ -59,7 +59,7 @@ returns : tie.Need-returns Inv-loop μ-loop
 returns c =
     let L = c .before in
     let A = L .before .args in
-    let e : L .loop .i ≡ A .n = omega arith in
+    let e : L .loop .k ≡ A .n = omega arith in
     L .loop .inv .0
     ∙ ap (λ (k : ℕ). paste (A .s .now) (A .to) (drop (A .from) (A .s .now)) k) e
     ∙ copied-all-within (A .s .now) (A .from) (A .to) (A .n) (L .before .pre .1) (omega (arith, L .before .pre))
@@ -75,7 +75,7 @@ copy-down-spec =
     slice-read-s
     add-s-2
     slice-write-s
-    add-i
+    add-k
     loop-less
     loop-again
     same-length

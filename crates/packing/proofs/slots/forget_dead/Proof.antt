@@ -36,8 +36,7 @@ forget-requires c κs =
     let l : L .loop .i < layoutOf img .N =
     omega (arith, I .loop-test .taken, layout-slots img s (S .pre .opened .shape)) in
     subst (λ (n : ℕ). Open x s × (n < s .slots) × (taken (layoutOf x) x n ≡ true → offsetIn x n < length x))
-    (sym (c .new .ensures))
-    (
+    (sym (c .new .ensures)) (
       forgetting-open img s (S .pre) x (L .loop .i) l (L .loop .inv .1),
       I .loop-test .taken,
       forgetting-inside img s (S .pre) x (L .loop .i) l (L .loop .inv .1),
