@@ -64,6 +64,7 @@ extern "C" {
 #define BHTF_TOO_LONG 12u      /* message above BHTF_MESSAGE_MAX bytes */
 #define BHTF_NO_ROOM 13u       /* no space left in the image for the message */
 #define BHTF_ABSENT 14u        /* the key is not there */
+#define BHTF_UNSOUND 15u       /* compact: bhtf_check does not say sound */
 
 /* ---- verdicts of bhtf_check ---- */
 
@@ -159,10 +160,22 @@ uint32_t bhtf_walk(const uint8_t *image, size_t image_len, uint32_t from,
  * BHTF_COUNT_FAILS says that only the count is wrong. Refused with 1, 5 and 6.
  * Time: as long as the table and the messages are; but each key is searched, so
  * a damaged full table can take N * N slots.
- * Stack: up to 300 KiB (307,200 bytes), which a small thread may not have; the
- * other calls take little. */
+ * Stack: up to 300 KiB (307,200 bytes), which a small thread may not have;
+ * bhtf_compact takes more, the other calls take little. */
 uint32_t bhtf_check(const uint8_t *image, size_t image_len,
                     uint32_t *verdict, uint32_t *slot);
+
+/* Gives the space of dead messages back: moves all active messages down, in the
+ * order of their offsets, without gaps from the data offset on, lowers the next
+ * free offset, zeroes every byte from there to the image's end, and sets the
+ * offset of each withdrawn message to 0. Keys stay in their slots; offsets that
+ * bhtf_lookup gave before are void. Refused with 1, 5 and 6, and with 15 where
+ * bhtf_check does not say sound; then no byte changes.
+ * Time: a check, and for every MiB of the data area that is in use one pass
+ * over the slots.
+ * Stack: up to 1,088 KiB (1,114,112 bytes), which a small thread may not
+ * have. */
+uint32_t bhtf_compact(uint8_t *image, size_t image_len);
 
 /* What an answer means, in one sentence. Never NULL; not to be freed. */
 const char *bhtf_message(uint32_t number);
