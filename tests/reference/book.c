@@ -242,6 +242,6 @@ void book_compact(struct book *b)
         e->placed = e->noted;
         e->held = e->noted ? e->length : 0;
         if (e->noted)
-            b->used += 4 + (uint64_t)e->length;
+            b->used += 4 + (uint64_t)e->held;
     }
 }
