@@ -210,5 +210,7 @@ module _ (g : Layout) (img : Bytes) (b : Book) (r : Reflects g img b) where
   same-compact =
       record {
         answer = compact-answer g img (r .file);
-        after = subst (λ (i : Bytes). Reflects g i (compactedBook b)) (sym (compact-after g img (r .file))) reflects-compact;
+        after =
+            subst (λ (i : Bytes). Reflects g i (compactedBook b)) (sym (compact-after g img (r .file)))
+            reflects-compact;
       }

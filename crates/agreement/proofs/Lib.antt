@@ -31,5 +31,6 @@ pub mod Compacting  -- compaction keeps the relation
 pub mod Theorem  -- the theorem
 pub mod Reached  -- files that calls have reached
 pub mod Steps  -- what a call does to the book
+pub mod Numbers  -- which numbers a step of the book may answer
 pub mod Users  -- corollaries in the words of a user
 pub mod Area  -- the bytes below X that a call leaves as they were, of any image

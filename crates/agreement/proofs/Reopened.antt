@@ -33,7 +33,8 @@ module _ (g : Layout) (img : Bytes) where
   unfolding entriesFrom
   from-taken left i t = rw t refl
 
-  pub from-vacant : (left i : ℕ) → taken g img i ≡ false → entriesFrom g img (suc left) i ≡ entriesFrom g img left (suc i)
+  pub from-vacant : (left i : ℕ) → taken g img i ≡ false
+      → entriesFrom g img (suc left) i ≡ entriesFrom g img left (suc i)
   unfolding entriesFrom
   from-vacant left i t = rw t refl
 

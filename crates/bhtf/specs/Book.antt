@@ -148,9 +148,9 @@ bookLookup b name = guarded b (ask 7 (nameAllowed (b .terms .K) name) ∷ []) (l
 unfoldable pub bookCount : Book → Outcome Book
 bookCount b = record { after = b; answer = record { number = 0; amount = length (b .entries); text = none } }
 
--- Document 02, Job 2, of compaction: "In the book this step makes held the text's length and U the sum of 4 + length over
--- texts that are not empty", as Job 4 changes it: "after compaction an entry has an offset exactly when its text is not
--- none, and U sums 4 + length over those".
+-- Document 02, Job 2, of compaction: "In the book this step makes held the text's length and U the sum of 4 + length
+-- over texts that are not empty", as Job 4 changes it: "after compaction an entry has an offset exactly when its text
+-- is not none, and U sums 4 + length over those".
 unfoldable pub isNote : Option Bytes → Bool
 isNote none = false
 isNote (some t) = true

@@ -1,5 +1,5 @@
--- Document 02, Job 2: "A new call moves all active messages down, in the order of their offsets, without gaps from D on,
--- lowers X, zeroes every byte from X on, and sets the offset of each inactive message to 0."
+-- Document 02, Job 2: "A new call moves all active messages down, in the order of their offsets, without gaps from D
+-- on, lowers X, zeroes every byte from X on, and sets the offset of each inactive message to 0."
 --     packed g img         the active messages of taken slots, one behind the other in the order of their offsets
 --     packedOffset g img o where the message at offset o stands afterwards, 0 where it is not active
 --     compacted g img      the image that an accepted compaction leaves
