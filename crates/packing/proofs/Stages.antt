@@ -33,7 +33,8 @@ use Rattle.packing.specs.Charts.{OneEach}
 -- ---- the header
 
 -- the same bytes below the table
-module _ (img img′ : Bytes) (size : length img′ ≡ length img) (front : part img′ 0 tableStart ≡ part img 0 tableStart) where
+module _ (img img′ : Bytes) (size : length img′ ≡ length img)
+    (front : part img′ 0 tableStart ≡ part img 0 tableStart) where
   pub front-part : (q m : ℕ) → q + m ≤ tableStart → part img′ q m ≡ part img q m
   front-part q m h =
       let e : 0 + q ≡ q = omega arith in

@@ -115,7 +115,8 @@ module _ (g : Layout) (img : Bytes) (S : Stretches g img) where
     arrives =
         rw (v .is, v .active, lt-ltb o e hi)
         (ap (λ (b : Bytes). slotBytes (keyOf g (slot g img i)) (g .D + length b))
-        (below-none g img s o d lo (λ j w a b. absurd (omega (arith, ap (startAt g img) (only j w a (omega (arith, b, hi))), b)))))
+        (below-none g img s o d lo
+        (λ j w a b. absurd (omega (arith, ap (startAt g img) (only j w a (omega (arith, b, hi))), b)))))
 
     waits : slotNow g img s i ≡ slotBytes (keyOf g (slot g img i)) o
     unfolding slotNow offsetNow

@@ -29,7 +29,8 @@ pub fn set_offset(image: &mut [u8], shape: Shape, i: Slot, o: Offset)
 // Whether slot i has an inactive message.
 fn is_dead(image: &[u8], shape: Shape, i: Slot) -> bool
     requires { ⌜ Open (now image) shape × (i .0 < shape .slots)
-        × (taken (layoutOf (now image)) (now image) (i .0) ≡ true → offsetIn (now image) (i .0) < length (now image)) ⌝ }
+        × (taken (layoutOf (now image)) (now image) (i .0) ≡ true
+        → offsetIn (now image) (i .0) < length (now image)) ⌝ }
     ensures { λ r. ⌜ r ≡ deadIn (now (image .entry)) (i .0) ⌝ }
 {
     let o = offset_of(image, shape, i);
@@ -45,7 +46,8 @@ fn is_dead(image: &[u8], shape: Shape, i: Slot) -> bool
 // Sets the offset of slot i to 0 if its message is inactive.
 fn forget(image: &mut [u8], shape: Shape, i: Slot)
     requires { ⌜ Open (now image) shape × (i .0 < shape .slots)
-        × (taken (layoutOf (now image)) (now image) (i .0) ≡ true → offsetIn (now image) (i .0) < length (now image)) ⌝ }
+        × (taken (layoutOf (now image)) (now image) (i .0) ≡ true
+        → offsetIn (now image) (i .0) < length (now image)) ⌝ }
     ensures { λ _. ⌜ now (image .exit)
         ≡ cond (deadIn (now (image .entry)) (i .0)) (withOffset (now (image .entry)) (i .0) 0) (now (image .entry)) ⌝ }
 {

@@ -43,8 +43,8 @@ pub extern "C" fn bhtf_delete(image: &mut [u8], key: &[u8]) -> u32
     delete::delete(image, key)
 }
 
-// Moves all active messages down, lowers X, zeroes every byte from X on, and sets the offset of each inactive message to
-// 0; refused with 15 if the image isn't sound.
+// Moves all active messages down, lowers X, zeroes every byte from X on, and sets the offset of each inactive message
+// to 0; refused with 15 if the image isn't sound.
 #[no_mangle]
 pub extern "C" fn bhtf_compact(image: &mut [u8]) -> u32
     ensures { λ r. ⌜ (r ≡ compact (now (image .entry)) .answer .number)
