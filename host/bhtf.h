@@ -42,9 +42,10 @@ extern "C" {
 
 /* ---- modes of bhtf_add ---- */
 
-#define BHTF_NEW 1u      /* the key must be absent */
-#define BHTF_REPLACE 2u  /* new data in place of the old */
-#define BHTF_APPEND 3u   /* new data behind the old */
+#define BHTF_NEW 1u       /* the key must be absent */
+#define BHTF_REPLACE 2u   /* new data in place of the old */
+#define BHTF_APPEND 3u    /* new data behind the old */
+#define BHTF_WITHDRAW 4u  /* the message goes, the key stays */
 
 /* ---- answers ---- */
 
@@ -54,16 +55,18 @@ extern "C" {
 #define BHTF_BAD_KEY_SIZE 2u   /* create: key size not from 1 to 32 */
 #define BHTF_BAD_SLOTS 3u      /* create: more than BHTF_SLOTS_MAX slots */
 #define BHTF_TABLE_TOO_BIG 4u  /* create: the table does not fit */
-#define BHTF_BAD_VERSION 5u    /* no such file, or a version unknown here */
+#define BHTF_BAD_VERSION 5u    /* no such file, or a version above 1.0.2 */
 #define BHTF_BAD_HEADER 6u     /* the header's numbers do not fit */
 #define BHTF_BAD_KEY 7u        /* key not of the key size, or all zero */
-#define BHTF_BAD_MODE 8u       /* mode not 1, 2 or 3 */
+#define BHTF_BAD_MODE 8u       /* mode not from 1 to 4 */
 #define BHTF_PRESENT 9u        /* mode 1, and the key is there already */
 #define BHTF_TABLE_FULL 10u    /* no slot for another key */
-#define BHTF_DAMAGED 11u       /* the key's message, or the count, is damaged */
+#define BHTF_DAMAGED 11u       /* the key's message, or the count, is damaged;
+                                  a length of 0 is no damage */
 #define BHTF_TOO_LONG 12u      /* message above BHTF_MESSAGE_MAX bytes */
 #define BHTF_NO_ROOM 13u       /* no space left in the image for the message */
-#define BHTF_ABSENT 14u        /* the key is not there */
+#define BHTF_ABSENT 14u        /* the key is not there: lookup, delete, and add
+                                  in mode 4, where it is asked after 8 */
 #define BHTF_UNSOUND 15u       /* compact: bhtf_check does not say sound */
 
 /* ---- verdicts of bhtf_check ---- */
@@ -77,21 +80,33 @@ extern "C" {
 /* Makes an empty file of the whole image: all image_len bytes are written.
  * key_size: bytes in every key. slots: keys that the table can hold, 0 for
  * BHTF_SLOTS_DEFAULT. seed: start of the numbers that scatter keys over the
- * table; files of one seed, key size, slots and length are equal.
+ * table; files of one seed, key size, slots and length are equal. Their
+ * version is 1.0.2, which libraries before this one refuse: see bhtf_add.
  * Refused with 1 to 4. */
 uint32_t bhtf_create(uint8_t *image, size_t image_len, uint32_t key_size,
                      uint32_t slots, uint32_t seed);
 
-/* Stores data under a key. An absent key is entered, in every mode; data of
- * length 0 then gives a key without a message. Of a key that is there,
- *   BHTF_NEW      is refused with 9;
- *   BHTF_REPLACE  writes data in place of the message, over the old bytes
- *                 where it fits and into new space where not; data of length
- *                 0 withdraws the message and keeps the key;
- *   BHTF_APPEND   copies message and data into new space; data of length 0
- *                 changes nothing.
- * Space once taken is not handed out again, but for BHTF_REPLACE's.
- * Reads at most N slots of the table. Refused with 1 and 5 to 13. */
+/* Stores data under a key; data of length 0 is an empty message, which lookup
+ * tells from none. An absent key is entered, but by BHTF_WITHDRAW.
+ *   BHTF_NEW       is refused with 9 where the key is there;
+ *   BHTF_REPLACE   writes data in place of the message, over the old bytes
+ *                  where it fits and into new space where not; data of length
+ *                  0 fits wherever the key has, or had, a message;
+ *   BHTF_APPEND    copies message and data into new space; data of length 0
+ *                  changes nothing, and enters an absent key without a message;
+ *   BHTF_WITHDRAW  makes the message none and keeps the key, and the space for
+ *                  a later BHTF_REPLACE; ignores data; refused with 14 where
+ *                  the key is not there.
+ * An empty message in new space takes BHTF_MESSAGE_HEADER bytes, so that 13
+ * can refuse it. Space once taken is not handed out again, but for
+ * BHTF_REPLACE's.
+ * Versions: the first empty message stored makes a file of version 1.0.0 or
+ * 1.0.1 one of 1.0.2; no other call after create changes the version.
+ * Libraries before this one know no empty message and refuse a file of 1.0.2,
+ * with every call, with 5. So renew the stations' library first; until all
+ * have it, send them files that an earlier library created, and store no empty
+ * message in those.
+ * Reads at most N slots of the table. Refused with 1 and 5 to 14. */
 uint32_t bhtf_add(uint8_t *image, size_t image_len, const uint8_t *key,
                   size_t key_len, const uint8_t *data, size_t data_len,
                   uint32_t mode);
@@ -108,8 +123,9 @@ uint32_t bhtf_delete(uint8_t *image, size_t image_len, const uint8_t *key,
                      size_t key_len);
 
 /* Finds a key's message: *offset is the place of its first byte in the image,
- * *length its length. Both are 0 when the key has no message, and when
- * refused. Refused with 1, 5, 6, 7, 14 and 11. */
+ * *length its length. An empty message is an offset other than 0 with length
+ * 0. Both are 0 when the key has no message, and when refused. Refused with 1,
+ * 5, 6, 7, 14 and 11. */
 uint32_t bhtf_lookup(const uint8_t *image, size_t image_len,
                      const uint8_t *key, size_t key_len, uint32_t *offset,
                      uint32_t *length);

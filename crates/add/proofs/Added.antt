@@ -35,5 +35,7 @@ module _ (img key bytes : Bytes) (mode : ℕ) (known : Bool) (is-known : known �
       let g = layoutOf img in
       let number : n ≡ addNumber img key bytes mode =
       is ∙ ap (λ (q : Probe). firstNo (pointAsks g img q bytes mode)) e
-      ∙ sym (add-on img key bytes mode (sym asked ∙ a)) in
-      (number, h ∙ ap₂ (λ (m : ℕ) (q : Probe). settled m img (noted bytes mode (addedAt g img q key bytes mode))) number e)
+      ∙ sym (add-on img key bytes mode (sym asked ∙ a)) in (
+        number,
+        h ∙ ap₂ (λ (m : ℕ) (q : Probe). settled m img (noted bytes mode (addedAt g img q key bytes mode))) number e,
+      )

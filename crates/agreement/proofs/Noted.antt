@@ -1,4 +1,5 @@
--- The version written where an add stores an empty message: it concerns no point, and keeps the relation of file and book.
+-- The version written where an add stores an empty message: it concerns no point, and keeps the relation of file and
+-- book.
 --     noted-reflects      for any data and mode
 -- Assumes nothing.
 use mathlib.Core.Path.{_≡_, ap}

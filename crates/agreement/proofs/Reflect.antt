@@ -95,7 +95,8 @@ reflect-same g img img′ b r c x n =
       used = x ∙ r .used;
       number = r .number ∙ sym n;
       points =
-          λ name a. point-other g img img′ [] (r .file) c name a (λ q. not-allowed (r .file) (rw q at a)) ∙ r .points name a;
+          λ name a. point-other g img img′ [] (r .file) c name a (λ q. not-allowed (r .file) (rw q at a))
+          ∙ r .points name a;
       others = r .others;
       distinct = r .distinct;
     }

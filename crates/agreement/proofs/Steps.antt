@@ -62,7 +62,8 @@ module _ {name : Bytes} {text : Option Bytes} {b b′ : Book} (w : Given name te
 
   pub given-new : find name (b .entries) ≡ none → length (b′ .entries) ≡ suc (length (b .entries))
   unfolding entered
-  given-new h = rw (w .is) (length-withEntry-new new (b .entries) (ap (λ (k : Bytes). find k (b .entries)) (w .named) ∙ h))
+  given-new h =
+      rw (w .is) (length-withEntry-new new (b .entries) (ap (λ (k : Bytes). find k (b .entries)) (w .named) ∙ h))
 
   pub given-old : (e : Entry) → find name (b .entries) ≡ some e → length (b′ .entries) ≡ length (b .entries)
   unfolding entered

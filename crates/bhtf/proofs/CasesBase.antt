@@ -40,17 +40,17 @@ unfolding part store number digits zeros allZero same
     headSize letterAt lengthAt textAt isActive shown bytesOf shownLength held message setFree takeSpace retire overwrite
     freshText renewedText placedText enter inserted relocated renewed renewedAt addedAt noted added
     among moved closeFrom closed deletedAt deleted
-    ask firstNo sizeAllowed keyAllowed slotsAllowed tableFits versionKnown headerSound nameAllowed modeKnown metInMode4 newInMode1
-    slotToTake messageSound metMessageSound somePoint lengthAllowed spaceLeft createAsks opened named pointAsks addAsks
-    lookupAsks deleteAsks createNumber openNumber seekNumber addNumber deleteNumber lookupNumber
+    ask firstNo sizeAllowed keyAllowed slotsAllowed tableFits versionKnown headerSound nameAllowed modeKnown metInMode4
+    newInMode1 slotToTake messageSound metMessageSound somePoint lengthAllowed spaceLeft createAsks opened named
+    pointAsks addAsks lookupAsks deleteAsks createNumber openNumber seekNumber addNumber deleteNumber lookupNumber
     plain settled create add delete lookupOffset lookupStart lookupLength lookupText lookup countOf count
     soughtRead addRead deleteRead lookupRead perform answers stateAfter
 definitions = 0
 
 unfoldable pub book-definitions : ℕ
 unfolding definitions
-    newBook find without withEntry stepOf roomAsks entered noting bare placed addAbsent replace append withdrawn addPresent
-    addFound guarded
+    newBook find without withEntry stepOf roomAsks entered noting bare placed addAbsent replace append withdrawn
+    addPresent addFound guarded
     bookAdd deleteFound bookDelete lookupFound bookLookup bookCount bookStep
     fileText textOf bookText termsOf Agrees Agreement
 book-definitions = 0

@@ -13,8 +13,8 @@ use Rattle.bhtf.specs.Reopened.{bookOf, entriesFrom, entryAt}
 use Rattle.bhtf.proofs.CasesBase.{inspect-definitions, fresh, headed, after, told, one, two, point, done, refused, shows, shows-none, counts}
 use Rattle.bhtf.proofs.CasesBook.{filed, booked, Both, Find, fileTexts, bookTexts}
 
--- "adding empty data in mode 1 or 2 stores it, in new space of 4 bytes when the point has no offset"; "mode 3 with empty
--- data gives an absent name the text none and no offset". Then mode 2 gives byte 3 a note too.
+-- "adding empty data in mode 1 or 2 stores it, in new space of 4 bytes when the point has no offset"; "mode 3 with
+-- empty data gives an absent name the text none and no offset". Then mode 2 gives byte 3 a note too.
 pub notes-new : Both 8192 4
     (adding one [] 1 ∷ looking one ∷ adding two [] 2 ∷ looking two ∷ point 3 ∷ looking (3 ∷ []) ∷ counting
     ∷ adding (3 ∷ []) [] 2 ∷ looking (3 ∷ []) ∷ [])
@@ -53,7 +53,8 @@ notes-appended = (refl, refl)
 -- 13 for a point without an offset, 10 before it where the table is full, 9 before it in mode 1.
 pub notes-refused : Both 4096 1
     (adding one [] 4 ∷ adding one [] 1 ∷ adding one [] 2 ∷ point 1 ∷ adding two [] 4 ∷ adding two [] 1
-    ∷ adding one (80 ∷ 81 ∷ []) 4 ∷ looking one ∷ adding one [] 2 ∷ adding one [] 1 ∷ adding one [] 3 ∷ looking one ∷ [])
+    ∷ adding one (80 ∷ 81 ∷ []) 4 ∷ looking one ∷ adding one [] 2 ∷ adding one [] 1 ∷ adding one [] 3 ∷ looking one
+    ∷ [])
     (refused 14 ∷ refused 13 ∷ refused 13 ∷ done ∷ refused 14 ∷ refused 10 ∷ done ∷ shows-none ∷ refused 13 ∷ refused 9
     ∷ done ∷ shows-none ∷ [])
     0 []
@@ -107,7 +108,8 @@ unfolding after older
 version calls = part (after calls older) 5 3
 
 -- "at the first empty message stored": in new space, and in place; not by other calls, nor by a refused one
-pub version-noted : (version (adding two [] 1 ∷ []) ≡ 1 ∷ 0 ∷ 2 ∷ []) × (version (adding two [] 2 ∷ []) ≡ 1 ∷ 0 ∷ 2 ∷ [])
+pub version-noted : (version (adding two [] 1 ∷ []) ≡ 1 ∷ 0 ∷ 2 ∷ [])
+    × (version (adding two [] 2 ∷ []) ≡ 1 ∷ 0 ∷ 2 ∷ [])
     × (version (adding one [] 2 ∷ []) ≡ 1 ∷ 0 ∷ 2 ∷ [])
 unfolding version
 version-noted = (refl, refl, refl)

@@ -110,7 +110,10 @@ lookupBy img key n =
     let o : ℕ = offsetBy img key n in
     let m : ℕ = held (layoutOf img) img o in
     let start : ℕ = cond (eqb o 0) 0 (o + headSize (layoutOf img)) in
-    record { after = img; answer = record { number = n; amount = m; text = cond (eqb o 0) none (some (part img start m)) } }
+    record {
+      after = img;
+      answer = record { number = n; amount = m; text = cond (eqb o 0) none (some (part img start m)) };
+    }
 
 countBy : Bytes → ℕ → Outcome Bytes
 countBy img n =

@@ -77,9 +77,9 @@ unfoldable pub placed : Book → Bytes → Bytes → Book
 placed b name text = entered b (noting name text) (b .terms .head + length text)
 
 -- "Add of m bytes, name absent: 10 if there are N entries; then, for m above 0, 12 .. and 13 .. Otherwise the text is
--- the data, held = m, and U grows by 4 + m if m is above 0." 02: "where empty data takes new space the book puts 13 and U
--- grows by 4", "mode 3 with empty data gives an absent name the text none and no offset"; mode 4 "gives 14 for an absent
--- name".
+-- the data, held = m, and U grows by 4 + m if m is above 0." 02: "where empty data takes new space the book puts 13 and
+-- U grows by 4", "mode 3 with empty data gives an absent name the text none and no offset"; mode 4 "gives 14 for an
+-- absent name".
 unfoldable pub addAbsent : Book → Bytes → Bytes → ℕ → Outcome Book
 addAbsent b name data′ mode =
     cond (eqb mode 4) (stepOf b (ask 14 false ∷ []) b)
@@ -87,9 +87,9 @@ addAbsent b name data′ mode =
     (stepOf b (ask 10 (ltb (length (b .entries)) (b .terms .N)) ∷ []) (entered b (bare name) 0))
     (stepOf b (ask 10 (ltb (length (b .entries)) (b .terms .N)) ∷ roomAsks b (length data′)) (placed b name data′)))
 
--- "Mode 2 with m at most held sets the text and held = m. Mode 2 with larger m sets both after 12 and 13, and U grows by
--- 4 + m." 02: "stores it, in new space of 4 bytes when the point has no offset", "mode 2 with empty data sets held = 0
--- beside the empty text".
+-- "Mode 2 with m at most held sets the text and held = m. Mode 2 with larger m sets both after 12 and 13, and U grows
+-- by 4 + m." 02: "stores it, in new space of 4 bytes when the point has no offset", "mode 2 with empty data sets
+-- held = 0 beside the empty text".
 unfoldable pub replace : Book → Entry → Bytes → Outcome Book
 replace b e data′ =
     cond (e .offset? && leb (length data′) (e .held)) (stepOf b [] (entered b (noting (e .name) data′) 0))

@@ -177,7 +177,8 @@ module _ (img key : Bytes) where
   text-shown =
       by-eq (lookupOffset img key) 0
       (λ z. rw (eq-eqb (lookupOffset img key) 0 z) refl)
-      (λ z. rw (ne-eqb (lookupOffset img key) 0 z, ne-eqb (lookupOffset img key + (g .W + 1)) 0 (λ e. omega arith)) refl)
+      (λ z.
+      rw (ne-eqb (lookupOffset img key) 0 z, ne-eqb (lookupOffset img key + (g .W + 1)) 0 (λ e. omega arith)) refl)
 
   text-bytes : part img (lookupStart img key) (lookupLength img key) ≡ bytesOf (lookupText img key)
   unfolding lookupText bytesOf

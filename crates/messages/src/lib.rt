@@ -61,7 +61,8 @@ pub fn is_active(image: &[u8], o: Offset) -> bool
 // Whether there is an offset, and the length there is at least m.
 pub fn holds(image: &[u8], shape: Shape, o: Offset, m: usize) -> bool
     requires { ⌜ Open (now image) shape × (o .0 + shape .head ≤ length (now image)) ⌝ }
-    ensures { λ r. ⌜ r ≡ (not (eqb (o .0) 0) && leb m (held (layoutOf (now (image .entry))) (now (image .entry)) (o .0))) ⌝ }
+    ensures { λ r. ⌜ r
+        ≡ (not (eqb (o .0) 0) && leb m (held (layoutOf (now (image .entry))) (now (image .entry)) (o .0))) ⌝ }
 {
     if o.at() == 0 {
         return false;

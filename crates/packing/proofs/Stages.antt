@@ -13,7 +13,7 @@ use lib.ListN.{length}
 use lib.Dec.{ltb}
 use borrow.Author.Tests.{lt-ltb, le-ltb}
 use Rattle.bhtf.specs.Bytes.{Bytes, part, number, allZero}
-use Rattle.bhtf.specs.Limits.{word, tableStart, pointsField, freeField, serialField, multiplierField, startField, firstField, lastField, headerSize}
+use Rattle.bhtf.specs.Limits.{versionField, word, tableStart, pointsField, freeField, serialField, multiplierField, startField, firstField, lastField, headerSize}
 use Rattle.bhtf.specs.Image.{field, Layout, layoutOf, slotSize, slot, keyOf, offsetOf, slotBytes, vacant}
 use Rattle.bhtf.specs.Messages.{headSize, lengthAt, isActive}
 use Rattle.bhtf.specs.Inspect.{taken, stretchStart}
@@ -51,16 +51,19 @@ module _ (img img′ : Bytes) (size : length img′ ≡ length img)
   front-kept : Kept img img′
   front-kept =
       record {
-        size = size;
-        magic = front-part 0 5 (omega arith);
-        version = front-part 5 3 (omega arith);
-        front = front-part serialField (pointsField - serialField) (omega arith);
-        middle = front-part multiplierField middleSize (omega arith);
-        rest = front-part headerSize restSize (omega arith);
+        fixed =
+            record {
+              size = size;
+              magic = front-part 0 5 (omega arith);
+              front = front-part serialField (pointsField - serialField) (omega arith);
+              middle = front-part multiplierField middleSize (omega arith);
+              rest = front-part headerSize restSize (omega arith);
+            };
+        version = front-part versionField 3 (omega arith);
       }
 
   pub front-layout : Opened img → layoutOf img′ ≡ layoutOf img
-  front-layout o = kept-layout front-kept (o .last)
+  front-layout o = kept-layout (front-kept .fixed) (o .last)
 
   pub front-opened : Opened img → Opened img′
   front-opened o =
@@ -77,10 +80,10 @@ module _ (img img′ : Bytes) (size : length img′ ≡ length img)
         accepted = facts-opened img′ (front-opened f);
         shape = o .shape ∙ sym (rw (
           front-layout f,
-          kept-multiplier front-kept,
-          kept-start front-kept,
-          kept-first front-kept,
-          kept-last front-kept,
+          kept-multiplier (front-kept .fixed),
+          kept-start (front-kept .fixed),
+          kept-first (front-kept .fixed),
+          kept-last (front-kept .fixed),
         ) refl);
       }
 

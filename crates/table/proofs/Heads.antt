@@ -50,7 +50,12 @@ same-open h o = record { accepted = h .opened; shape = o .shape ∙ sym (h .shap
 -- an image whose header is accepted, with what no call changes
 pub head-opened : (img img′ : Bytes) → Opened img → Kept img img′ → Opened img′ → SameHead img img′
 head-opened img img′ o k o′ =
-    record { opened = facts-opened img′ o′; layout = kept-layout (k .fixed) (o .last); shape = kept-shape (k .fixed); size = k .fixed .size }
+    record {
+      opened = facts-opened img′ o′;
+      layout = kept-layout (k .fixed) (o .last);
+      shape = kept-shape (k .fixed);
+      size = k .fixed .size;
+    }
 
 pub head-kept : (img img′ : Bytes) → openNumber img ≡ 0 → Kept img img′ → field img′ pointsField ≡ field img pointsField
     → field img′ freeField ≡ field img freeField → SameHead img img′

@@ -140,7 +140,8 @@ retire-requires : tie.Need-retire-requires
 retire-requires c κs =
     let E = else2-at-then4 (c .before) in
     let S = start-at-else2 E in
-    omega (arith, head-width (S .pre .0), head-fits (S .pre .0) (E .before .before .before .offset-of .result .0) (sound E))
+    let o = E .before .before .before .offset-of .result .0 in
+    omega (arith, head-width (S .pre .0), head-fits (S .pre .0) o (sound E))
 
 same-length-3 : tie.Need-same-length-3
 same-length-3 c = search needs
