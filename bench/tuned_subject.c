@@ -3,6 +3,8 @@
 #include "../tests/reference/tuned.h"
 
 const struct calls subject = {
-    tuned_create, tuned_add,  tuned_delete, tuned_lookup,
-    tuned_count,  tuned_walk, tuned_check,
+    tuned_create,   tuned_add,         tuned_delete,
+    tuned_lookup,   tuned_count,       tuned_walk,
+    tuned_check,    tuned_add_slots,   tuned_delete_slots,
+    tuned_lookup_slots,
 };

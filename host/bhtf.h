@@ -113,6 +113,34 @@ uint32_t bhtf_lookup(const uint8_t *image, size_t image_len,
                      const uint8_t *key, size_t key_len, uint32_t *offset,
                      uint32_t *length);
 
+/* ---- how long a search was ----
+ *
+ * The three calls above, with the same numbers and bytes; and in *slots_read
+ * how many slots of the table the search for the key read, the one where it
+ * ended among them. It is 0 when the call was refused before the search, with
+ * 1, 5, 6, 7 or 8; refused behind it, with 9 to 14, the call tells it too.
+ * For a timing budget: the number is never above N, the slots of the table.
+ * In a sound file (see bhtf_check), and in every file that these calls made
+ * of one or of a created one, it is also at most C + 1, where C is what
+ * bhtf_count says before the call. So a search takes at most the smaller of
+ * the two times what a slot costs on the station. What delete does besides,
+ * to close the gap in the table, is not counted: its bound is above. */
+
+uint32_t bhtf_add_slots(uint8_t *image, size_t image_len, const uint8_t *key,
+                        size_t key_len, const uint8_t *data, size_t data_len,
+                        uint32_t mode, uint32_t *slots_read);
+
+uint32_t bhtf_delete_slots(uint8_t *image, size_t image_len,
+                           const uint8_t *key, size_t key_len,
+                           uint32_t *slots_read);
+
+uint32_t bhtf_lookup_slots(const uint8_t *image, size_t image_len,
+                           const uint8_t *key, size_t key_len,
+                           uint32_t *offset, uint32_t *length,
+                           uint32_t *slots_read);
+
+/* ---- the whole file ---- */
+
 /* *count is the number of keys held; 0 when refused with 1, 5 or 6. */
 uint32_t bhtf_count(const uint8_t *image, size_t image_len, uint32_t *count);
 

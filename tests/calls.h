@@ -1,4 +1,4 @@
-/* The seven calls as a table of function pointers, so that the tests run on
+/* The calls as a table of function pointers, so that the tests run on
  * the library, on the reference, or on a faulty copy of it. */
 #ifndef CALLS_H
 #define CALLS_H
@@ -23,6 +23,19 @@ struct calls {
                      uint32_t *slot, uint32_t *key_offset);
     uint32_t (*check)(const uint8_t *image, size_t image_len,
                       uint32_t *verdict, uint32_t *slot);
+
+    /* Three of them with the number of slots that the search read. */
+    uint32_t (*add_slots)(uint8_t *image, size_t image_len,
+                          const uint8_t *key, size_t key_len,
+                          const uint8_t *data, size_t data_len, uint32_t mode,
+                          uint32_t *slots_read);
+    uint32_t (*remove_slots)(uint8_t *image, size_t image_len,
+                             const uint8_t *key, size_t key_len,
+                             uint32_t *slots_read);
+    uint32_t (*lookup_slots)(const uint8_t *image, size_t image_len,
+                             const uint8_t *key, size_t key_len,
+                             uint32_t *offset, uint32_t *length,
+                             uint32_t *slots_read);
 };
 
 /* The code under test. */

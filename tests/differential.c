@@ -1,4 +1,4 @@
-/* Random differential test of the seven calls.
+/* Random differential test of the calls.
  *
  * (a) Lists of calls from create on: library, plain reference and control
  *     book. Every answer is compared, and every image byte after every call;
@@ -9,10 +9,13 @@
  *     plain reference, answers and bytes.
  * (d) The same on spliced images, in which points share bytes; the check's word
  *     is also held against its definition, pair by pair.
- * In all, a refused or reading call must leave every byte.
+ * In all, a refused or reading call must leave every byte. Three of four adds,
+ * deletes and lookups are made by the form that reports the slots read.
  *
- * Options: --seed N, --calls N, --seconds N, --quiet, --strict, --old-limits.
- * --old-limits keeps to images and tables within document 01's limits.
+ * Options: --seed N, --calls N, --seconds N, --quiet, --strict, --old-limits,
+ * --old-calls.
+ * --old-limits keeps to images and tables within document 01's limits,
+ * --old-calls to its calls.
  * --strict also compares outputs the document leaves open: walk's slot at the
  * end, check's slot without a failing slot, both when refused (plain: 0).
  *
@@ -34,7 +37,9 @@
 #include <time.h>
 #include <unistd.h>
 
-#define HANG_SECONDS 60
+#ifndef HANG_SECONDS
+#define HANG_SECONDS 60 /* of one list */
+#endif
 
 struct run run;
 uint64_t seen[KINDS][15];
@@ -57,6 +62,10 @@ static void read_options(int argc, char **argv)
         }
         if (strcmp(argv[i], "--old-limits") == 0) {
             run.old_limits = 1;
+            continue;
+        }
+        if (strcmp(argv[i], "--old-calls") == 0) {
+            run.old_calls = 1;
             continue;
         }
         if (strcmp(argv[i], "--seed") == 0)

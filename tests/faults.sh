@@ -11,10 +11,8 @@ CC=${CC:-gcc}
 CALLS=${CALLS:-2000000}
 OUT=${OUT:-build/faults}
 SEED=${1:-1}
-FLAGS="-std=c99 -O2 -Ireference"
-RENAME="-Dplain_create=bhtf_create -Dplain_add=bhtf_add
-    -Dplain_delete=bhtf_delete -Dplain_lookup=bhtf_lookup
-    -Dplain_count=bhtf_count -Dplain_walk=bhtf_walk -Dplain_check=bhtf_check"
+FLAGS="-std=c99 -O2 -Ireference -DHANG_SECONDS=15"
+RENAME=$(grep -oE -- '-Dplain_[a-z_]+=bhtf_[a-z_]+' as-library.mk)
 passed=0
 failed=0
 
@@ -184,7 +182,7 @@ fault "search does not wrap" \
     'f.slot = after(v, f.slot);' \
     'f.slot += f.slot + 1 < v->slots;'
 fault "search reads N - 1 slots" \
-    'read < v->slots; read++' 'read + 1 < v->slots; read++'
+    'while (f.read < v->slots) {' 'while (f.read + 1 < v->slots) {'
 fault "a slot is empty when its first key byte is" \
     'return !all_zero(key_in(v, slot), v->key_size);' \
     'return *key_in(v, slot) != 0;'
@@ -197,6 +195,48 @@ fault "scramble indexed by c" \
 fault "FNV-1a instead of FNV-1" \
     'uint32_t hash = v->start;' \
     'uint32_t hash = v->start ^ (v->first <= key[0] && key[0] <= v->last ? get32(scramble + 4 * (key[0] - v->first)) : 0);'
+
+# Slots read.
+fault "the slot where the key is met is not counted" \
+    'f.ending = MET;' 'f.ending = MET; f.read--;'
+fault "the empty slot is not counted" \
+    'f.ending = EMPTY;' 'f.ending = EMPTY; f.read--;'
+fault "an exhausted search reports 0" \
+    'f.slot = after(v, f.slot);' \
+    'f.slot = after(v, f.slot); if (f.read == v->slots) return f.read = 0, f;'
+fault "an exhausted search reports N + 1" \
+    'f.slot = after(v, f.slot);' \
+    'f.slot = after(v, f.slot); if (f.read == v->slots) return f.read++, f;'
+fault "add reports slots on 7" \
+    'if (!key_fits(&v, key, key_len))' \
+    'if (key_len == v.key_size) *slots_read = search(&v, key).read; if (!key_fits(&v, key, key_len))'
+fault "lookup and delete report slots on 7" \
+    'if (!key_fits(v, key, key_len))' \
+    'if (key_len == v->key_size) *slots_read = search(v, key).read; if (!key_fits(v, key, key_len))'
+fault "add reports slots on 8" \
+    'if (mode < MODE_NEW || mode > MODE_APPEND)' \
+    'f = search(&v, key); *slots_read = f.read; if (mode < MODE_NEW || mode > MODE_APPEND)'
+fault "9 reports 0" \
+    'if (f.ending == MET)' \
+    'if (f.ending == MET && mode == MODE_NEW) *slots_read = 0; if (f.ending == MET)'
+fault "add of an absent name reports 0" \
+    'return add_absent(image, &v, f, key, text);' \
+    '*slots_read = 0; return add_absent(image, &v, f, key, text);'
+fault "10, 12 and 13 report 0" \
+    'return add_absent(image, &v, f, key, text);' \
+    'uint32_t asked = add_absent(image, &v, f, key, text); if (asked != ACCEPTED) *slots_read = 0; return asked;'
+fault "14 reports 0" \
+    'return f.ending == MET ? ACCEPTED : 14;' \
+    'if (f.ending != MET) *slots_read = 0; return f.ending == MET ? ACCEPTED : 14;'
+fault "delete's 11 reports 0" \
+    'if (!read_message(&v, message_in(&v, slot), &old) || v.count < 1)' \
+    'uint32_t was = *slots_read; *slots_read = 0; if (!read_message(&v, message_in(&v, slot), &old) || v.count < 1) return 11; *slots_read = was; if (0)'
+fault "slots read are the distance from home, not wrapped" \
+    'return f.ending == MET ? ACCEPTED : 14;' \
+    'if (f.ending != EXHAUSTED) *slots_read = f.slot - home_of(v, key) + 1; return f.ending == MET ? ACCEPTED : 14;'
+fault "delete counts the slots of its walk" \
+    'close_hole(image, &v, slot);' \
+    '*slots_read += is_taken(&v, after(&v, slot)); close_hole(image, &v, slot);'
 
 # Create.
 fault "create leaves old bytes" \

@@ -24,13 +24,14 @@ built() {
     objcopy --redefine-syms=names --keep-global-symbols=shown whole.o before.o
 }
 
-# archive REVISION: the differential test with that revision's library in plain C's place
+# archive REVISION: the differential test with that revision's library in plain C's place; plain C has the calls that it did not have
 archive() {
   local room status
   room=$(mktemp -d) || return 1
-  (built "$1" "$room") &&
-    gcc build/differential.o build/differential/*.o build/subject.o build/book.o "$room/before.o" "$lib" -o "$room/program" &&
-    "$room/program" --old-limits --calls "$calls" --quiet
+  (built "$1" "$room") && objcopy --weaken build/plain.o "$room/plain.o" &&
+    gcc build/differential.o build/differential/*.o build/subject.o build/book.o "$room/before.o" "$room/plain.o" "$lib" \
+      -o "$room/program" &&
+    "$room/program" --old-limits --old-calls --calls "$calls" --quiet
   status=$?
   rm -rf "$room"
   return $status

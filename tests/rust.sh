@@ -20,7 +20,7 @@ links() {
 # plain NAME CODE: CODE, which is plain C, as an archive under the library's names
 plain() {
   local names
-  names=$(grep -oE -- '-Dplain_[a-z]+=bhtf_[a-z]+' tests/Makefile)
+  names=$(grep -oE -- '-Dplain_[a-z_]+=bhtf_[a-z_]+' tests/as-library.mk)
   # shellcheck disable=SC2086
   gcc -std=c99 -O2 -Itests/reference $names -c "$2" -o "$work/$1.o" && ar rcs "$work/$1.a" "$work/$1.o" &&
     links "$1" "$work/$1.a" tests/station.rs 0
@@ -62,6 +62,12 @@ test_that "plain C passes" "$work/right" --seed 1 --lists 100 >/dev/null
 edited tests/reference/plain.c 's/^    close_hole(image, &v, slot);$//' "$work/two.c"
 plain two "$work/two.c" || exit 2
 test_that "the fault of version two is found" finds two
+edited tests/reference/plain.c 's/^            f.ending = MET;$/& f.read--;/' "$work/met.c"
+plain met "$work/met.c" || exit 2
+test_that "plain C that does not count the slot where the key is met: found" finds met
+edited tests/reference/plain.c 's/^        return 7;$/        return *slots_read = 1, 7;/' "$work/refused.c"
+plain refused "$work/refused.c" || exit 2
+test_that "plain C that counts a slot on 7: found" finds refused
 wrong one-round 's/^    while (is_taken(v, slot)) {$/    for (uint32_t i = 1; i < v->slots \&\& is_taken(v, slot); i++) {/'
 wrong no-version-1.0.0 's/ image\[7\] <= 1;/ image[7] == 1;/'
 misread used-from-0 's/used: next - data/used: next/'

@@ -50,7 +50,7 @@ test_that "a wrong number is found" [ "$(cmp -l "$work/wrong.txt" "$work/numbers
 
 # A generator that is wrong for seed 0 alone: no image of seed 0 is right, any other is.
 sed 's/^    uint32_t state = seed;$/    uint32_t state = seed | (seed == 0);/' reference/plain.c >"$work/faulty.c"
-names=$(grep -oE -- '-Dplain_[a-z]+=bhtf_[a-z]+' Makefile)
+names=$(grep -oE -- '-Dplain_[a-z_]+=bhtf_[a-z_]+' as-library.mk)
 # shellcheck disable=SC2086
 gcc -std=c99 -O2 -I. -Ireference $names scramble.c subject.c "$work/faulty.c" -o "$work/faulty" || exit 2
 grep -v '^#' "$digests" | cut -d' ' -f1-3 >"$work/shapes"

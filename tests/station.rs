@@ -1,8 +1,9 @@
 //! The static library linked into Rust: random lists of calls on a file, beside a plain book written from document 01.
 //!   station [--seed S] [--lists N]
 //! N lists start from create, N from a sound image that no call made, with the book read off it.
-//! Compared after every call: the number, C, and the message's bytes; after every list: that the file finds the book's points with
-//! the book's texts, that the walk shows each of them once, and that the check calls the file sound.
+//! Compared after every call: the number, C, the message's bytes, and the slots read, which are counted here on the image before the
+//! call and may not be more than its points and one; after every list: that the file finds the book's points with the book's texts,
+//! that the walk shows each of them once, and that the check calls the file sound.
 //! Status 0 if every list agreed.
 use std::collections::{BTreeMap, BTreeSet};
 
@@ -14,6 +15,26 @@ extern "C" {
     fn bhtf_count(image: *const u8, len: usize, count: *mut u32) -> u32;
     fn bhtf_walk(image: *const u8, len: usize, from: u32, slot: *mut u32, place: *mut u32) -> u32;
     fn bhtf_check(image: *const u8, len: usize, verdict: *mut u32, slot: *mut u32) -> u32;
+    fn bhtf_add_slots(
+        image: *mut u8,
+        len: usize,
+        key: *const u8,
+        key_len: usize,
+        data: *const u8,
+        data_len: usize,
+        mode: u32,
+        slots_read: *mut u32,
+    ) -> u32;
+    fn bhtf_delete_slots(image: *mut u8, len: usize, key: *const u8, key_len: usize, slots_read: *mut u32) -> u32;
+    fn bhtf_lookup_slots(
+        image: *const u8,
+        len: usize,
+        key: *const u8,
+        key_len: usize,
+        offset: *mut u32,
+        length: *mut u32,
+        slots_read: *mut u32,
+    ) -> u32;
 }
 
 const HEADER: usize = 4;
@@ -42,6 +63,29 @@ impl File {
         let (mut at, mut length) = (!0, !0);
         let number = unsafe { bhtf_lookup(self.0.as_ptr(), self.0.len(), key.as_ptr(), key.len(), &mut at, &mut length) };
         (number, self.0[at as usize..(at + length) as usize].to_vec())
+    }
+
+    // The same with the slots read behind.
+
+    fn add_slots(&mut self, key: &[u8], data: &[u8], mode: u32) -> (u32, u32) {
+        let (image, mut read) = (&mut self.0, !0);
+        let (data, data_len) = (data.as_ptr(), data.len());
+        let number =
+            unsafe { bhtf_add_slots(image.as_mut_ptr(), image.len(), key.as_ptr(), key.len(), data, data_len, mode, &mut read) };
+        (number, read)
+    }
+
+    fn delete_slots(&mut self, key: &[u8]) -> (u32, u32) {
+        let (image, mut read) = (&mut self.0, !0);
+        let number = unsafe { bhtf_delete_slots(image.as_mut_ptr(), image.len(), key.as_ptr(), key.len(), &mut read) };
+        (number, read)
+    }
+
+    fn lookup_slots(&self, key: &[u8]) -> (u32, Vec<u8>, u32) {
+        let (image, mut at, mut length, mut read) = (&self.0, !0, !0, !0);
+        let number =
+            unsafe { bhtf_lookup_slots(image.as_ptr(), image.len(), key.as_ptr(), key.len(), &mut at, &mut length, &mut read) };
+        (number, image[at as usize..(at + length) as usize].to_vec(), read)
     }
 
     fn count(&self) -> (u32, u32) {
@@ -317,11 +361,21 @@ fn home(image: &[u8], key: &[u8]) -> usize {
     hash as usize % field(image, 16)
 }
 
+/// The slots in the order in which a search for the key reads them.
+fn probe(image: &[u8], key: &[u8]) -> impl Iterator<Item = usize> {
+    let (home, slots) = (home(image, key), field(image, 16));
+    (home..home + slots).map(move |i| i % slots)
+}
+
 /// The empty slot where a search for the key ends.
 fn empty_slot(image: &[u8], key: &[u8]) -> usize {
-    let (home, slots) = (home(image, key), field(image, 16));
-    let mut probe = (home..home + slots).map(|i| i % slots);
-    probe.find(|&slot| !is_taken(image, slot)).expect("an empty slot")
+    probe(image, key).find(|&slot| !is_taken(image, slot)).expect("an empty slot")
+}
+
+/// How many slots a search for the key reads, up to one that is empty or holds it.
+fn slots_read(image: &[u8], key: &[u8]) -> usize {
+    let ends = |slot| !is_taken(image, slot) || image[slot_at(image, slot)..].starts_with(key);
+    probe(image, key).position(ends).map_or(field(image, 16), |before| before + 1)
 }
 
 fn take_slot(image: &mut [u8], slot: usize, key: &[u8]) {
@@ -424,8 +478,8 @@ fn some_name(chance: &mut Chance, key_size: usize, known: &[Vec<u8>]) -> Vec<u8>
     }
 }
 
-/// What a call answers: its number, and the bytes of the text or of C.
-type Answer = (u32, Vec<u8>);
+/// What a call answers: its number, the bytes of the text or of C, and the slots read, where the form reports them.
+type Answer = (u32, Vec<u8>, Option<u32>);
 
 /// One call on the file and on the book: its name and both answers.
 fn call(
@@ -434,21 +488,43 @@ fn call(
     book: &mut Book,
     key: &[u8],
 ) -> (&'static str, Answer, Answer) {
-    let number = |n| (n, Vec::new());
+    let number = |n| (n, Vec::new(), None);
+    let with_read = |(n, read)| (n, Vec::new(), Some(read));
+    let counted = !chance.one_in(4);
+    // none where the call is refused before its search
+    let searches = if book.named(key) { slots_read(&file.0, key) as u32 } else { 0 };
+    let read = |n| counted.then_some(if n == 8 { 0 } else { searches });
     match chance.below(10) {
         0..=4 => {
             let size = [0, 1, 5, 40, book.room][chance.below(5)];
             let length = chance.below(size + 1);
             let data = chance.bytes(length);
             let mode = [1, 2, 2, 3, 3, 0, 4, !0][chance.below(8)];
-            ("add", number(file.add(key, &data, mode)), number(book.add(key, &data, mode)))
+            let want = book.add(key, &data, mode);
+            let got =
+                if counted { with_read(file.add_slots(key, &data, mode)) } else { number(file.add(key, &data, mode)) };
+            ("add", got, (want, Vec::new(), read(want)))
         }
-        5 | 6 => ("delete", number(file.delete(key)), number(book.delete(key))),
-        7 | 8 => ("lookup", file.lookup(key), book.lookup(key)),
+        5 | 6 => {
+            let want = book.delete(key);
+            let got = if counted { with_read(file.delete_slots(key)) } else { number(file.delete(key)) };
+            ("delete", got, (want, Vec::new(), read(want)))
+        }
+        7 | 8 => {
+            let (want, text) = book.lookup(key);
+            let got = if counted {
+                let (number, text, read) = file.lookup_slots(key);
+                (number, text, Some(read))
+            } else {
+                let (number, text) = file.lookup(key);
+                (number, text, None)
+            };
+            ("lookup", got, (want, text, read(want)))
+        }
         _ => {
             let (number, points) = file.count();
             let want = book.points.len() as u32;
-            ("count", (number, points.to_le_bytes().to_vec()), (0, want.to_le_bytes().to_vec()))
+            ("count", (number, points.to_le_bytes().to_vec(), None), (0, want.to_le_bytes().to_vec(), None))
         }
     }
 }
@@ -463,9 +539,13 @@ fn calls(
     let calls = 1 + chance.below(200);
     for i in 0..calls {
         let key = some_name(chance, book.key_size, known);
+        let points = book.points.len();
         let (what, got, want) = call(chance, file, book, &key);
         if got != want {
             return Err(format!("call {i}, {what} {key:?}: {got:?}, the book {want:?}"));
+        }
+        if got.2.is_some_and(|read| read as usize > points + 1) {
+            return Err(format!("call {i}, {what} {key:?}: {got:?}, with {points} points"));
         }
     }
     Ok(calls)

@@ -22,8 +22,20 @@ uint32_t bhtf_walk(const uint8_t *image, size_t image_len, uint32_t from,
                    uint32_t *slot, uint32_t *key_offset);
 uint32_t bhtf_check(const uint8_t *image, size_t image_len,
                     uint32_t *verdict, uint32_t *slot);
+uint32_t bhtf_add_slots(uint8_t *image, size_t image_len, const uint8_t *key,
+                        size_t key_len, const uint8_t *data, size_t data_len,
+                        uint32_t mode, uint32_t *slots_read);
+uint32_t bhtf_delete_slots(uint8_t *image, size_t image_len,
+                           const uint8_t *key, size_t key_len,
+                           uint32_t *slots_read);
+uint32_t bhtf_lookup_slots(const uint8_t *image, size_t image_len,
+                           const uint8_t *key, size_t key_len,
+                           uint32_t *offset, uint32_t *length,
+                           uint32_t *slots_read);
 
 const struct calls subject = {
-    bhtf_create, bhtf_add,  bhtf_delete, bhtf_lookup,
-    bhtf_count,  bhtf_walk, bhtf_check,
+    bhtf_create,    bhtf_add,          bhtf_delete,
+    bhtf_lookup,    bhtf_count,        bhtf_walk,
+    bhtf_check,     bhtf_add_slots,    bhtf_delete_slots,
+    bhtf_lookup_slots,
 };

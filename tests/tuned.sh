@@ -46,6 +46,10 @@ test_that "found: an entry stays one slot too far" \
     finds 'if (from_hole - 1 < far)' 'if (from_hole - 1 <= far)'
 test_that "found: a slot's last word not moved" \
     finds 'memcpy(to + length - 8, &word, 8);' '(void)word;'
+test_that "found: slots read not counted round the table's end" \
+    finds '(slot < f.home ? v->slots : 0) + slot - f.home' 'slot - f.home'
+test_that "found: slots read of an exhausted search" \
+    finds 'if (f.ending == EXHAUSTED)' 'if (f.ending == EMPTY)'
 test_that "found: a message of length 0 is sound" \
     finds 'return m->length - 1 < v->next - offset - MESSAGE_HEADER;' \
     'return m->length <= v->next - offset - MESSAGE_HEADER;'

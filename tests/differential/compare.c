@@ -11,8 +11,10 @@
 #define UNSET 0xA5A5A5A5u
 
 static const struct calls plain = {
-    plain_create, plain_add,  plain_delete, plain_lookup,
-    plain_count,  plain_walk, plain_check,
+    plain_create,   plain_add,         plain_delete,
+    plain_lookup,   plain_count,       plain_walk,
+    plain_check,    plain_add_slots,   plain_delete_slots,
+    plain_lookup_slots,
 };
 
 /* A longer slice than the image starts in the bytes before it. */
@@ -21,13 +23,33 @@ static uint8_t *slice(uint8_t *image, size_t length)
     return length > lent.length ? image + lent.length - length : image;
 }
 
+/* A call by the form that reports the slots read. */
+static void perform_counted(const struct calls *f, uint8_t *s,
+                            const struct call *c, struct answer *a)
+{
+    size_t n = c->image_len;
+
+    if (c->kind == ADD)
+        a->number = f->add_slots(s, n, c->key, c->key_len, c->data,
+                                 c->data_len, c->mode, &a->read);
+    else if (c->kind == DELETE)
+        a->number = f->remove_slots(s, n, c->key, c->key_len, &a->read);
+    else
+        a->number = f->lookup_slots(s, n, c->key, c->key_len, &a->first,
+                                    &a->second, &a->read);
+}
+
 static struct answer perform(const struct calls *f, uint8_t *image,
                              const struct call *c)
 {
-    struct answer a = { 0, UNSET, UNSET };
+    struct answer a = { 0, UNSET, UNSET, UNSET };
     uint8_t *s = slice(image, c->image_len);
     size_t n = c->image_len;
 
+    if (c->counted) {
+        perform_counted(f, s, c, &a);
+        return a;
+    }
     switch (c->kind) {
     case CREATE:
         a.number = f->create(s, n, c->key_size, c->slots, c->seed);
@@ -61,10 +83,28 @@ static void same(const char *what, uint32_t library, uint32_t reference)
         fail_number(what, "library", library, "plain", reference);
 }
 
+/* Slots read: as plain C counts them; none where the call was refused before
+ * its search, else from 1 to N, and in a sound file at most one more than the
+ * points before the call. */
+static void compare_read(const struct answer *a, const struct answer *b)
+{
+    int searched = a->number == 0 || a->number > 8;
+
+    same("slots read", a->read, b->read);
+    if (!searched && a->read != 0)
+        fail("slots are read before the search");
+    if (searched && (a->read < 1 || a->read > get32(lent.before + 16)))
+        fail("slots read are not from 1 to N");
+    if (searched && list.with_book && a->read > get32(lent.before + 20) + 1)
+        fail("slots read in a sound file are more than C + 1");
+}
+
 static void compare_answers(const struct call *c, const struct answer *a,
                             const struct answer *b)
 {
     same("answer", a->number, b->number);
+    if (c->counted)
+        compare_read(a, b);
     if (c->kind == LOOKUP) {
         same("message offset", a->first, b->first);
         same("message length", a->second, b->second);
@@ -155,4 +195,6 @@ void new_call(enum kind kind)
     memset(&list.now, 0, sizeof list.now);
     list.now.kind = kind;
     list.now.image_len = lent.length;
+    list.now.counted = kind >= ADD && kind <= LOOKUP && !run.old_calls &&
+                       !one_in(4);
 }

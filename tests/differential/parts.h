@@ -32,6 +32,7 @@ struct call {
     uint32_t slots;
     uint32_t seed;
     uint32_t from; /* walk */
+    int counted;   /* add, delete, lookup: by the form with slots read */
 };
 
 /* first and second: the call's outputs in the order of its arguments. */
@@ -39,6 +40,7 @@ struct answer {
     uint32_t number;
     uint32_t first;
     uint32_t second;
+    uint32_t read; /* slots, of a counted call */
 };
 
 /* ---- the state of a run (differential.c) ---- */
@@ -51,6 +53,7 @@ struct run {
     int quiet;
     int strict;
     int old_limits; /* images and tables within document 01's limits alone */
+    int old_calls;  /* document 01's calls alone */
 };
 extern struct run run;
 

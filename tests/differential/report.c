@@ -30,6 +30,8 @@ static void print_call(const struct call *c)
         printf(", data of %zu bytes, mode %u", c->data_len, c->mode);
     if (c->kind == WALK)
         printf(", from slot %u", c->from);
+    if (c->counted)
+        printf(", with slots read");
     printf("\n");
 }
 

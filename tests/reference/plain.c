@@ -64,6 +64,7 @@ enum ending { MET, EMPTY, EXHAUSTED };
 struct found {
     enum ending ending;
     uint32_t slot;
+    uint32_t read; /* slots */
 };
 
 /* Offset 0 and length 0: no message. */
@@ -289,9 +290,10 @@ static int same_key(const struct view *v, uint32_t slot, const uint8_t *key)
 
 static struct found search(const struct view *v, const uint8_t *key)
 {
-    struct found f = { EXHAUSTED, home_of(v, key) };
+    struct found f = { EXHAUSTED, home_of(v, key), 0 };
 
-    for (uint32_t read = 0; read < v->slots; read++) {
+    while (f.read < v->slots) {
+        f.read++;
         if (same_key(v, f.slot, key)) {
             f.ending = MET;
             return f;
@@ -480,15 +482,16 @@ static uint32_t add_present(uint8_t *image, const struct view *v,
     return append(image, v, slot, &old, text);
 }
 
-uint32_t plain_add(uint8_t *image, size_t image_len, const uint8_t *key,
-                   size_t key_len, const uint8_t *data, size_t data_len,
-                   uint32_t mode)
+uint32_t plain_add_slots(uint8_t *image, size_t image_len, const uint8_t *key,
+                         size_t key_len, const uint8_t *data, size_t data_len,
+                         uint32_t mode, uint32_t *slots_read)
 {
     const struct text text = { data, data_len };
     struct view v;
     struct found f;
     uint32_t answer = open_image(&v, image, image_len);
 
+    *slots_read = 0;
     if (answer != ACCEPTED)
         return answer;
     if (!key_fits(&v, key, key_len))
@@ -496,9 +499,20 @@ uint32_t plain_add(uint8_t *image, size_t image_len, const uint8_t *key,
     if (mode < MODE_NEW || mode > MODE_APPEND)
         return 8;
     f = search(&v, key);
+    *slots_read = f.read;
     if (f.ending == MET)
         return add_present(image, &v, f.slot, text, mode);
     return add_absent(image, &v, f, key, text);
+}
+
+uint32_t plain_add(uint8_t *image, size_t image_len, const uint8_t *key,
+                   size_t key_len, const uint8_t *data, size_t data_len,
+                   uint32_t mode)
+{
+    uint32_t unasked;
+
+    return plain_add_slots(image, image_len, key, key_len, data, data_len,
+                           mode, &unasked);
 }
 
 /* ---- delete ---- */
@@ -546,7 +560,8 @@ static void close_hole(uint8_t *image, const struct view *v, uint32_t hole)
 
 /* Questions 7 and 14, for lookup and delete. */
 static uint32_t ask_present(const struct view *v, const uint8_t *key,
-                            size_t key_len, uint32_t *slot)
+                            size_t key_len, uint32_t *slot,
+                            uint32_t *slots_read)
 {
     struct found f;
 
@@ -554,19 +569,22 @@ static uint32_t ask_present(const struct view *v, const uint8_t *key,
         return 7;
     f = search(v, key);
     *slot = f.slot;
+    *slots_read = f.read;
     return f.ending == MET ? ACCEPTED : 14;
 }
 
-uint32_t plain_delete(uint8_t *image, size_t image_len, const uint8_t *key,
-                      size_t key_len)
+uint32_t plain_delete_slots(uint8_t *image, size_t image_len,
+                            const uint8_t *key, size_t key_len,
+                            uint32_t *slots_read)
 {
     struct view v;
     struct message old;
     uint32_t slot;
     uint32_t answer = open_image(&v, image, image_len);
 
+    *slots_read = 0;
     if (answer == ACCEPTED)
-        answer = ask_present(&v, key, key_len, &slot);
+        answer = ask_present(&v, key, key_len, &slot, slots_read);
     if (answer != ACCEPTED)
         return answer;
     if (!read_message(&v, message_in(&v, slot), &old) || v.count < 1)
@@ -578,11 +596,20 @@ uint32_t plain_delete(uint8_t *image, size_t image_len, const uint8_t *key,
     return ACCEPTED;
 }
 
+uint32_t plain_delete(uint8_t *image, size_t image_len, const uint8_t *key,
+                      size_t key_len)
+{
+    uint32_t unasked;
+
+    return plain_delete_slots(image, image_len, key, key_len, &unasked);
+}
+
 /* ---- lookup, count, walk, check ---- */
 
-uint32_t plain_lookup(const uint8_t *image, size_t image_len,
-                      const uint8_t *key, size_t key_len, uint32_t *offset,
-                      uint32_t *length)
+uint32_t plain_lookup_slots(const uint8_t *image, size_t image_len,
+                            const uint8_t *key, size_t key_len,
+                            uint32_t *offset, uint32_t *length,
+                            uint32_t *slots_read)
 {
     struct view v;
     struct message m;
@@ -591,8 +618,9 @@ uint32_t plain_lookup(const uint8_t *image, size_t image_len,
 
     *offset = 0;
     *length = 0;
+    *slots_read = 0;
     if (answer == ACCEPTED)
-        answer = ask_present(&v, key, key_len, &slot);
+        answer = ask_present(&v, key, key_len, &slot, slots_read);
     if (answer != ACCEPTED)
         return answer;
     if (!read_message(&v, message_in(&v, slot), &m))
@@ -602,6 +630,16 @@ uint32_t plain_lookup(const uint8_t *image, size_t image_len,
         *length = m.length;
     }
     return ACCEPTED;
+}
+
+uint32_t plain_lookup(const uint8_t *image, size_t image_len,
+                      const uint8_t *key, size_t key_len, uint32_t *offset,
+                      uint32_t *length)
+{
+    uint32_t unasked;
+
+    return plain_lookup_slots(image, image_len, key, key_len, offset, length,
+                              &unasked);
 }
 
 uint32_t plain_count(const uint8_t *image, size_t image_len, uint32_t *count)

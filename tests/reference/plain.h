@@ -22,6 +22,19 @@ uint32_t plain_lookup(const uint8_t *image, size_t image_len,
                       const uint8_t *key, size_t key_len, uint32_t *offset,
                       uint32_t *length);
 
+/* The same calls, which also say how many slots the search read: 0 when
+ * refused before it. */
+uint32_t plain_add_slots(uint8_t *image, size_t image_len, const uint8_t *key,
+                         size_t key_len, const uint8_t *data, size_t data_len,
+                         uint32_t mode, uint32_t *slots_read);
+uint32_t plain_delete_slots(uint8_t *image, size_t image_len,
+                            const uint8_t *key, size_t key_len,
+                            uint32_t *slots_read);
+uint32_t plain_lookup_slots(const uint8_t *image, size_t image_len,
+                            const uint8_t *key, size_t key_len,
+                            uint32_t *offset, uint32_t *length,
+                            uint32_t *slots_read);
+
 /* 0 when refused. */
 uint32_t plain_count(const uint8_t *image, size_t image_len, uint32_t *count);
 

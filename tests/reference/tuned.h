@@ -19,6 +19,20 @@ uint32_t tuned_lookup(const uint8_t *image, size_t image_len,
                       const uint8_t *key, size_t key_len, uint32_t *offset,
                       uint32_t *length);
 
+/* The same calls with the slots that the search read. */
+uint32_t tuned_add_slots(uint8_t *image, size_t image_len, const uint8_t *key,
+                         size_t key_len, const uint8_t *data, size_t data_len,
+                         uint32_t mode, uint32_t *slots_read);
+
+uint32_t tuned_delete_slots(uint8_t *image, size_t image_len,
+                            const uint8_t *key, size_t key_len,
+                            uint32_t *slots_read);
+
+uint32_t tuned_lookup_slots(const uint8_t *image, size_t image_len,
+                            const uint8_t *key, size_t key_len,
+                            uint32_t *offset, uint32_t *length,
+                            uint32_t *slots_read);
+
 uint32_t tuned_count(const uint8_t *image, size_t image_len, uint32_t *count);
 
 uint32_t tuned_walk(const uint8_t *image, size_t image_len, uint32_t from,

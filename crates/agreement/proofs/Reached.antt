@@ -5,26 +5,23 @@
 --     reached-after       more calls reach on
 --     no-point-twice      no point stands in two slots
 --     reached-sound       the check says sound
---     reached-read        a search reads at most N slots, and at most C + 1
+--     reached-read        a search reads at most N slots, and at most C + 1; so does that of each call:
+--     reached-add, reached-delete, reached-lookup
 -- Assumes nothing.
 use mathlib.Core.Path.{_≡_, refl, sym, ap, _∙_, subst}
-use Prim.Native.Nat.{ℕ, _+_, _≤_, _<_}
-use native.Mathlib.Omega.{arith}
+use Prim.Native.Nat.{ℕ, _<_}
 use mathlib.Core.List.{List, [], _∷_, _++_}
 use mathlib.Core.Logic.{inr}
 use Rattle.bhtf.specs.Bytes.{Bytes}
-use Rattle.bhtf.specs.Limits.{pointsField}
-use Rattle.bhtf.specs.Image.{field, Layout, layoutOf}
+use Rattle.bhtf.specs.Image.{Layout, layoutOf}
 use Rattle.bhtf.specs.Search.{slotsRead}
-use Rattle.bhtf.specs.Calls.{Outcome, perform, Call, stateAfter}
+use Rattle.bhtf.specs.Calls.{Outcome, addRead, deleteRead, lookupRead, perform, Call, stateAfter}
 use Rattle.bhtf.specs.Book.{Book, bookStep}
 use Rattle.bhtf.specs.Reopened.{bookOf, Starts}
 use Rattle.bhtf.specs.Inspect.{check, sound}
 use Rattle.bhtf.proofs.Bytes.{AreBytes}
-use Rattle.bhtf.proofs.Opened.{opened-facts}
 use Rattle.bhtf.proofs.Table.{Taken, keyAt}
-use Rattle.bhtf.proofs.SlotsRead.{read-all, read-few}
-use Rattle.bhtf.proofs.Verdict.{check-open, check-count}
+use Rattle.bhtf.proofs.CallsRead.{Few, sound-read, sound-add, sound-delete, sound-lookup}
 use Rattle.agreement.proofs.File.{File}
 use Rattle.agreement.proofs.Reflect.{Reflected}
 use Rattle.agreement.proofs.Checked.{file-check}
@@ -93,13 +90,16 @@ reached-sound img b r =
 
 -- ---- how many slots a search reads: at most all, and at most one more than C
 
-pub reached-read : (img : Bytes) (b : Book) → Reached img b → (key : Bytes)
-    → (slotsRead (layoutOf img) img key ≤ layoutOf img .N)
-    × (slotsRead (layoutOf img) img key ≤ field img pointsField + 1)
-unfolding layoutOf
-reached-read img b r key =
-    let ok = reached-sound img b r in
-    let pos : 0 < layoutOf img .N = omega (arith, opened-facts img (check-open img ok) .slots-low) in (
-      read-all (layoutOf img) img key pos,
-      omega (arith, read-few (layoutOf img) img key pos, check-count img ok),
-    )
+module _ (img : Bytes) (b : Book) (r : Reached img b) (key : Bytes) where
+  pub reached-read : Few img (slotsRead (layoutOf img) img key)
+  reached-read = sound-read img (reached-sound img b r) key
+
+  -- what the call on a reached file reports, C being that before the call
+  pub reached-add : (mode : ℕ) → Few img (addRead img key mode)
+  reached-add = sound-add img (reached-sound img b r) key
+
+  pub reached-delete : Few img (deleteRead img key)
+  reached-delete = sound-delete img (reached-sound img b r) key
+
+  pub reached-lookup : Few img (lookupRead img key)
+  reached-lookup = sound-lookup img (reached-sound img b r) key

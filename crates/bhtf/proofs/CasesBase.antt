@@ -1,6 +1,7 @@
 -- What the cases compute with and look at. The cases stand in `Cases` (01's proved table), `CasesHeader` (create, hash
--- and header), `CasesFile` (opened images and messages), `CasesBook` (file and book side by side), `CasesInspect`
--- (walk and check), `CasesStretches` (two points on one message) and `CasesReopened` (books read off images).
+-- and header), `CasesFile` (opened images and messages), `CasesRead` (slots read), `CasesBook` (file and book side by
+-- side), `CasesInspect` (walk and check), `CasesStretches` (two points on one message) and `CasesReopened` (books read
+-- off images).
 --     definitions        unfolding it unfolds all of `specs` that a file's calls compute with; book-definitions the
 --                        book's too, inspect-definitions those of walk and check too
 --     fresh L N          the image that create leaves of L bytes: K = 1, seed 0
@@ -15,11 +16,11 @@ use Rattle.bhtf.specs.Limits.{tableStart}
 use Rattle.bhtf.specs.Bytes.{Bytes, part, store, number, digits, zeros, allZero, same}
 use Rattle.bhtf.specs.Image.{field, setField, roundUp, dataStart, lastPage, hashStep, hashFrom, scramble, hash, layoutOf, home, slotSize, slotStart, slot, putSlot, keyOf, offsetOf, slotBytes, blank, vacant}
 use Rattle.bhtf.specs.Create.{step, state, drawn, drawnBytes, slotsAsked, freshHeader, freshImage}
-use Rattle.bhtf.specs.Search.{next, dist, probe, search, isMet, isEmpty, slotOf}
+use Rattle.bhtf.specs.Search.{next, dist, probe, search, readFrom, slotsRead, isMet, isEmpty, slotOf}
 use Rattle.bhtf.specs.Messages.{headSize, letterAt, lengthAt, textAt, isActive, shown, shownLength, held, message, setFree, takeSpace, retire, overwrite, freshText, renewedText, placedText, enter, inserted, relocated, renewed, renewedAt, addedAt, added}
 use Rattle.bhtf.specs.Delete.{among, moved, closeFrom, closed, deletedAt, deleted}
 use Rattle.bhtf.specs.Questions.{ask, firstNo, sizeAllowed, keyAllowed, slotsAllowed, tableFits, versionKnown, headerSound, nameAllowed, modeKnown, newInMode1, slotToTake, messageSound, metMessageSound, somePoint, lengthAllowed, spaceLeft, createAsks, opened, named, pointAsks, addAsks, lookupAsks, deleteAsks, createNumber, openNumber, seekNumber, addNumber, deleteNumber, lookupNumber}
-use Rattle.bhtf.specs.Calls.{Call, adding, Answer, plain, settled, create, add, delete, lookupOffset, lookupStart, lookupLength, lookup, countOf, count, perform, answers, stateAfter}
+use Rattle.bhtf.specs.Calls.{Call, adding, Answer, plain, settled, create, add, delete, lookupOffset, lookupStart, lookupLength, lookup, countOf, count, soughtRead, addRead, deleteRead, lookupRead, perform, answers, stateAfter}
 use Rattle.bhtf.specs.Inspect.{lowest, taken, takenFrom, nextTaken, stopAt, keyWalk, stopNumber, keyStart, keyLength, keyShown, endsAt, entrySound, stretchStart, endAt, stretchEnd, meets, someBelow, meetsLower, slotSound, slotFails, countSound, verdictOf, check, verdictNumber}
 use Rattle.bhtf.specs.Book.{newBook, find, without, withEntry, stepOf, roomAsks, entered, placed, addAbsent, replace, append, addPresent, addFound, guarded, bookAdd, deleteFound, bookDelete, lookupFound, bookLookup, bookCount, bookStep}
 use Rattle.bhtf.specs.Demand.{fileText, textOf, bookText, termsOf, Agrees, Agreement}
@@ -30,15 +31,15 @@ unfolding part store number digits zeros allZero same
     field setField roundUp dataStart lastPage hashStep hashFrom scramble hash layoutOf home slotSize slotStart slot
     putSlot keyOf offsetOf slotBytes blank vacant
     step state drawn drawnBytes slotsAsked freshHeader freshImage
-    next dist probe search isMet isEmpty slotOf
+    next dist probe search readFrom slotsRead isMet isEmpty slotOf
     headSize letterAt lengthAt textAt isActive shown shownLength held message setFree takeSpace retire overwrite
     freshText renewedText placedText enter inserted relocated renewed renewedAt addedAt added
     among moved closeFrom closed deletedAt deleted
     ask firstNo sizeAllowed keyAllowed slotsAllowed tableFits versionKnown headerSound nameAllowed modeKnown newInMode1
     slotToTake messageSound metMessageSound somePoint lengthAllowed spaceLeft createAsks opened named pointAsks addAsks
     lookupAsks deleteAsks createNumber openNumber seekNumber addNumber deleteNumber lookupNumber
-    plain settled create add delete lookupOffset lookupStart lookupLength lookup countOf count perform answers
-    stateAfter
+    plain settled create add delete lookupOffset lookupStart lookupLength lookup countOf count
+    soughtRead addRead deleteRead lookupRead perform answers stateAfter
 definitions = 0
 
 unfoldable pub book-definitions : ℕ

@@ -30,6 +30,7 @@ pub mod Meeting  -- stretches of slots, and whether they meet
 pub mod Texts  -- the text that each mode of add places
 pub mod Effects  -- the effects of a call, one by one
 pub mod Sought  -- the questions that every call on a name puts first
+pub mod CallsRead  -- how many slots a call's search read
 pub mod Outcomes  -- each call's number, case by case, and the image that it leaves
 -- ---- document 02
 pub mod OldLimits  -- an image within the old limits keeps every byte
@@ -38,6 +39,7 @@ pub mod CasesBase  -- what they compute with and look at
 pub mod Cases  -- document 01's proved table
 pub mod CasesHeader  -- create, the hash, the header
 pub mod CasesFile  -- messages, the table, images that no create left
+pub mod CasesRead  -- how many slots a call's search read
 pub mod CasesBook  -- the book, and file and book side by side
 pub mod CasesInspect  -- walk and check
 pub mod CasesStretches  -- two points on one message

@@ -1,4 +1,5 @@
 -- How many slots a search reads.
+--     from-met, from-empty, from-on      one slot read
 --     read-met, read-empty, read-exhausted      the distance from home and one more; all of them where none ended it
 --     read-all      at most N
 --     read-few      at most one more than the taken slots, on any image
@@ -20,15 +21,16 @@ use Rattle.bhtf.proofs.Probe.{home-lt, turn-met, turn-empty, turn-on, P
 -- ---- one slot read
 
 module _ (g : Layout) (img key : Bytes) (left i : ℕ) where
-  from-met : same (keyAt g img i) key ≡ true → readFrom g img key (suc left) i ≡ 1
+  pub from-met : same (keyAt g img i) key ≡ true → readFrom g img key (suc left) i ≡ 1
   unfolding readFrom
   from-met e = rw (e, readFrom)
 
-  from-empty : same (keyAt g img i) key ≡ false → vacant g (slot g img i) ≡ true → readFrom g img key (suc left) i ≡ 1
+  pub from-empty : same (keyAt g img i) key ≡ false → vacant g (slot g img i) ≡ true
+      → readFrom g img key (suc left) i ≡ 1
   unfolding readFrom
   from-empty e v = rw (e, readFrom, v)
 
-  from-on : same (keyAt g img i) key ≡ false → vacant g (slot g img i) ≡ false
+  pub from-on : same (keyAt g img i) key ≡ false → vacant g (slot g img i) ≡ false
       → readFrom g img key (suc left) i ≡ suc (readFrom g img key left (next (g .N) i))
   unfolding readFrom
   from-on e v = rw (e, readFrom, v)

@@ -2,10 +2,11 @@
 --     Answer        what a call answers: its number; count's C or lookup's length; lookup's bytes
 --     Outcome S     the state afterwards (a file's: the image), and the answer
 --     create, add, delete, lookup, count     for any bytes, names, data and modes
+--     addRead, deleteRead, lookupRead        how many slots a call's search read
 --     answers, stateAfter     of a list of calls, each on the state that the last one left
 -- Assumes nothing.
 use Prim.Native.Nat.{ℕ, _+_}
-use mathlib.Core.Bool.{cond, _&&_}
+use mathlib.Core.Bool.{Bool, true, cond, _&&_}
 use mathlib.Core.List.{List, [], _∷_}
 use lib.ListN.{length}
 use lib.Dec.{eqb}
@@ -13,10 +14,10 @@ use Rattle.bhtf.specs.Bytes.{Bytes, part}
 use Rattle.bhtf.specs.Limits.{pointsField}
 use Rattle.bhtf.specs.Image.{field, Layout, layoutOf, slot, offsetOf}
 use Rattle.bhtf.specs.Create.{slotsAsked, freshImage}
-use Rattle.bhtf.specs.Search.{search, slotOf}
+use Rattle.bhtf.specs.Search.{search, slotsRead, slotOf}
 use Rattle.bhtf.specs.Messages.{headSize, isActive, held, added}
 use Rattle.bhtf.specs.Delete.{deleted}
-use Rattle.bhtf.specs.Questions.{createNumber, openNumber, addNumber, deleteNumber, lookupNumber}
+use Rattle.bhtf.specs.Questions.{modeKnown, createNumber, openNumber, seekNumber, addNumber, deleteNumber, lookupNumber}
 
 pub record Answer : Type 0 where
   pub number : ℕ
@@ -79,6 +80,23 @@ countOf img = cond (eqb (openNumber img) 0) (field img pointsField) 0
 
 unfoldable pub count : Bytes → Outcome Bytes
 count img = record { after = img; answer = record { number = openNumber img; amount = countOf img; text = [] } }
+
+-- ---- how long a search was
+
+-- Document 02, Job 7: "The search, and lookup, add and delete above it, report the number of slots that the search
+-- read, or 0 when refused before it": with 1, 5, 6 or 7, or add's 8. Refused behind it, with 9 to 14, a call reports
+-- too. "Demand 3 doesn't compare this number, since the book has no slots": it is beside the `Answer` and not in it.
+unfoldable pub soughtRead : Bytes → Bytes → Bool → ℕ
+soughtRead img key known = cond (eqb (seekNumber img key known) 0) (slotsRead (layoutOf img) img key) 0
+
+unfoldable pub addRead : Bytes → Bytes → ℕ → ℕ
+addRead img key mode = soughtRead img key (modeKnown mode)
+
+unfoldable pub deleteRead : Bytes → Bytes → ℕ
+deleteRead img key = soughtRead img key true
+
+unfoldable pub lookupRead : Bytes → Bytes → ℕ
+lookupRead img key = soughtRead img key true
 
 -- ---- lists of calls
 

@@ -5,6 +5,7 @@ use layout::places::Slot;
 use layout::shape::Shape;
 use messages::message_sound;
 use seek::Sought;
+use seek::Told;
 use seek::seek;
 use storing::retire;
 use table::Found;
@@ -16,7 +17,7 @@ ghost use mathlib.Core.Path.{_≡_};
 ghost use mathlib.Core.Bool.{true};
 ghost use Prim.Native.Nat.{_≤_, _<_};
 ghost use Rattle.bhtf.specs.Limits.{pointsField};
-ghost use Rattle.bhtf.specs.Calls.{settled, delete};
+ghost use Rattle.bhtf.specs.Calls.{settled, delete, deleteRead};
 ghost use Rattle.bhtf.specs.Image.{field, layoutOf, slot, offsetOf};
 ghost use Rattle.bhtf.specs.Delete.{deletedAt, deleted};
 ghost use Rattle.bhtf.specs.Questions.{messageSound, firstNo, removedAsks};
@@ -61,14 +62,27 @@ fn delete_found(image: &mut [u8], shape: Shape, found: Found) -> u32
     0
 }
 
+// Deletes the key's point, and answers how many slots its search read too. The walk that closes the gap is not counted.
+pub fn delete_slots(image: &mut [u8], key: &[u8]) -> Told
+    ensures { λ r. ⌜ (r .number ≡ delete (now (image .entry)) (now (key .entry)) .answer .number)
+        × (now (image .exit) ≡ delete (now (image .entry)) (now (key .entry)) .after)
+        × (r .read ≡ deleteRead (now (image .entry)) (now (key .entry))) ⌝ }
+{
+    let sought = seek(image, key, true);
+    match sought {
+        Sought::Refused(number) => Told { number, read: 0 },
+        Sought::At(shape, found, read) => {
+            let number = delete_found(image, shape, found);
+            Told { number, read }
+        }
+    }
+}
+
 // Deletes the key's point. Answers 0; or the number of the first question answered no, and then changes no byte.
 pub fn delete(image: &mut [u8], key: &[u8]) -> u32
     ensures { λ r. ⌜ (r ≡ delete (now (image .entry)) (now (key .entry)) .answer .number)
         × (now (image .exit) ≡ delete (now (image .entry)) (now (key .entry)) .after) ⌝ }
 {
-    let sought = seek(image, key, true);
-    match sought {
-        Sought::Refused(number) => number,
-        Sought::At(shape, found) => delete_found(image, shape, found),
-    }
+    let told = delete_slots(image, key);
+    told.number
 }

@@ -34,7 +34,9 @@ fn entry_sound(image: &[u8], shape: Shape, i: Slot) -> bool
     requires { ⌜ Open (now image) shape × (i .0 < shape .slots) ⌝ }
     ensures { λ r. ⌜ r ≡ entrySound (layoutOf (now (image .entry))) (now (image .entry)) (i .0) ⌝ }
 {
-    let Found::Met(j) = search(image, shape, key_of(image, shape, i)) else {
+    let probed = search(image, shape, key_of(image, shape, i));
+    let found = probed.found;
+    let Found::Met(j) = found else {
         return false;
     };
     if j.number() != i.number() {

@@ -1,6 +1,6 @@
 // Lookup and count.
 //     count    the number of points held
-//     locate   where a point's active message stands, as numbers
+//     locate   where a point's active message stands, as numbers; locate_slots, with how many slots the search read
 //     lookup   the message as a part of the lent image
 use layout::places::Offset;
 use layout::shape::Shape;
@@ -17,7 +17,7 @@ use words::fields::read_u32;
 use words::limits::POINTS_FIELD;
 ghost use mathlib.Core.Path.{_≡_};
 ghost use lib.ListN.{length};
-ghost use Rattle.bhtf.specs.Calls.{lookup, lookupStart, lookupLength, count};
+ghost use Rattle.bhtf.specs.Calls.{lookup, lookupStart, lookupLength, lookupRead, count};
 ghost use Rattle.bhtf.specs.Image.{layoutOf};
 ghost use Rattle.bhtf.specs.Questions.{lookupNumber};
 ghost use Rattle.layout.specs.Shapes.{Open};
@@ -35,6 +35,12 @@ pub struct Located {
     pub number: u32,
     pub start: Offset,
     pub length: usize,
+}
+
+// The same, and how many slots the search read, 0 where a question before it was answered no.
+pub struct Looked {
+    pub located: Located,
+    pub read: usize,
 }
 
 // The number of points held; 0 beside the number when refused.
@@ -87,17 +93,34 @@ fn locate_found(image: &[u8], shape: Shape, found: Found) -> Located
     }
 }
 
+// Where the active message of the key's point stands, and how many slots its search read.
+pub fn locate_slots(image: &[u8], key: &[u8]) -> Looked
+    ensures { λ r. ⌜ (r .located .number ≡ lookupNumber (now (image .entry)) (now (key .entry)))
+        × (r .located .start .0 ≡ lookupStart (now (image .entry)) (now (key .entry)))
+        × (r .located .length ≡ lookupLength (now (image .entry)) (now (key .entry)))
+        × (r .read ≡ lookupRead (now (image .entry)) (now (key .entry))) ⌝ }
+{
+    let sought = seek(image, key, true);
+    match sought {
+        Sought::Refused(number) => {
+            let located = nothing(number);
+            Looked { located, read: 0 }
+        }
+        Sought::At(shape, found, read) => {
+            let located = locate_found(image, shape, found);
+            Looked { located, read }
+        }
+    }
+}
+
 // Where the active message of the key's point stands.
 pub fn locate(image: &[u8], key: &[u8]) -> Located
     ensures { λ r. ⌜ (r .number ≡ lookupNumber (now (image .entry)) (now (key .entry)))
         × (r .start .0 ≡ lookupStart (now (image .entry)) (now (key .entry)))
         × (r .length ≡ lookupLength (now (image .entry)) (now (key .entry))) ⌝ }
 {
-    let sought = seek(image, key, true);
-    match sought {
-        Sought::Refused(number) => nothing(number),
-        Sought::At(shape, found) => locate_found(image, shape, found),
-    }
+    let looked = locate_slots(image, key);
+    looked.located
 }
 
 // The active message of the key's point, as a part of the image: its first 0 bytes where there is none or when refused.

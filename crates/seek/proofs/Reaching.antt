@@ -2,6 +2,7 @@
 --     refused-is, refused-some      the number of the first no, which is not 0
 --     reached-is                    the shape, and how the search ended
 --     reached-key                   the key is as long as the file's keys
+--     refused-read, reached-read    how many slots the search read
 -- Assumes nothing.
 use mathlib.Core.Path.{_≡_, sym, _∙_, subst}
 use Prim.Native.Nat.{ℕ}
@@ -12,8 +13,10 @@ use borrow.Author.Tests.{eqb-true}
 use Rattle.bhtf.specs.Bytes.{Bytes, allZero}
 use Rattle.bhtf.specs.Image.{layoutOf}
 use Rattle.bhtf.specs.Questions.{nameAllowed, seekNumber}
+use Rattle.bhtf.specs.Calls.{soughtRead}
 use Rattle.bhtf.proofs.Tests.{and-left}
 use Rattle.bhtf.proofs.Sought.{seek-allowed}
+use Rattle.bhtf.proofs.CallsRead.{sought-none, sought-some}
 use Rattle.layout.specs.declared.shape.Shape.{Shape}
 use Rattle.table.specs.declared.Found.{Found}
 use Rattle.table.proofs.Headers.{layout-key}
@@ -26,11 +29,17 @@ module _ (img key : Bytes) (known : Bool) {r : Sought} (is : SoughtIs img key kn
   unfolding SoughtIs
   refused-is e = subst (SoughtIs img key known) e is
 
-  pub reached-is : {s : Shape} {f : Found} → r ≡ At s f → Reached img key known s f
+  pub reached-is : {s : Shape} {f : Found} {n : ℕ} → r ≡ At s f n → Reached img key known s f n
   unfolding SoughtIs
   reached-is e = subst (SoughtIs img key known) e is
 
-pub reached-key : {img key : Bytes} {known : Bool} {s : Shape} {f : Found} → Reached img key known s f
+  pub refused-read : {n : ℕ} → r ≡ Refused n → 0 ≡ soughtRead img key known
+  refused-read e = let w = refused-is e in sym (sought-none img key known (λ z. w .1 (w .0 ∙ z)))
+
+  pub reached-read : {s : Shape} {f : Found} {n : ℕ} → r ≡ At s f n → n ≡ soughtRead img key known
+  reached-read e = let w = reached-is e in w .counted ∙ sym (sought-some img key known (w .asked))
+
+pub reached-key : {img key : Bytes} {known : Bool} {s : Shape} {f : Found} {n : ℕ} → Reached img key known s f n
     → length key ≡ s .keylen
 unfolding nameAllowed
 reached-key {img} {key} {known} {s} r =

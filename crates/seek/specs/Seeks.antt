@@ -1,12 +1,13 @@
 -- What `seek` answers, of any image and key.
 --     SoughtIs img key known r      r is a refusal with the first no's number; or the header is accepted, and r tells
---                                   its shape and how the search ended
+--                                   its shape, how the search ended and how many slots it read
 -- Assumes nothing.
 use mathlib.Core.Path.{_≡_}
+use Prim.Native.Nat.{ℕ}
 use mathlib.Core.Bool.{Bool}
 use Rattle.bhtf.specs.Bytes.{Bytes}
 use Rattle.bhtf.specs.Image.{layoutOf}
-use Rattle.bhtf.specs.Search.{search}
+use Rattle.bhtf.specs.Search.{search, slotsRead}
 use Rattle.bhtf.specs.Questions.{seekNumber}
 use Rattle.layout.specs.Shapes.{Open}
 use Rattle.layout.specs.declared.shape.Shape.{Shape}
@@ -15,12 +16,13 @@ use Rattle.table.specs.Probes.{probeOf, Within}
 use Rattle.seek.specs.declared.Sought.{Sought}
 use Rattle.seek.specs.declared.Sought.the-variants.{Refused, At}
 
-pub record Reached (img key : Bytes) (known : Bool) (s : Shape) (f : Found) : Type 0 where
+pub record Reached (img key : Bytes) (known : Bool) (s : Shape) (f : Found) (n : ℕ) : Type 0 where
   pub asked : seekNumber img key known ≡ 0
   pub opened : Open img s
   pub ended : probeOf f ≡ search (layoutOf img) img key
   pub within : Within (s .slots) (probeOf f)
+  pub counted : n ≡ slotsRead (layoutOf img) img key
 
 unfoldable pub SoughtIs : Bytes → Bytes → Bool → Sought → Type 0
 SoughtIs img key known (Refused n) = (n ≡ seekNumber img key known) × (n ≡ 0 → ⊥)
-SoughtIs img key known (At s f) = Reached img key known s f
+SoughtIs img key known (At s f n) = Reached img key known s f n

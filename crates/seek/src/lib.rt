@@ -7,10 +7,17 @@ use table::Found;
 use table::search;
 ghost use Rattle.seek.specs.Seeks.{SoughtIs};
 
-// Refused with the number of the first no; or the image's shape, and how the search ended.
+// Refused with the number of the first no; or the image's shape, how the search ended, and how many slots it read.
 pub enum Sought {
     Refused(u32),
-    At(Shape, Found),
+    At(Shape, Found, usize),
+}
+
+// What a call on a name answers: the number of the first no, 0 where there is none; and how many slots its search read,
+// 0 where a question before it was answered no.
+pub struct Told {
+    pub number: u32,
+    pub read: usize,
 }
 
 // Asks, then searches; `known` is the answer to question 8, yes where the call has no mode.
@@ -28,6 +35,7 @@ pub fn seek(image: &[u8], key: &[u8], known: bool) -> Sought
     if !known {
         return Sought::Refused(8);
     }
-    let found = search(image, shape, key);
-    Sought::At(shape, found)
+    let probed = search(image, shape, key);
+    let found = probed.found;
+    Sought::At(shape, found, probed.read)
 }

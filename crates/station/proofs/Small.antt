@@ -1,14 +1,18 @@
--- What lookup answers fits 32 bits: an accepted image is short, and a refusal answers 0.
+-- What calls answer fits 32 bits: an accepted image is short and has few slots, and a refusal answers 0.
+--     lookup-small      where a message is shown
+--     add-few, delete-few, lookup-few      the slots that a call's search read
 -- Assumes nothing.
 use mathlib.Core.Path.{_≡_, sym, _∙_}
-use Prim.Native.Nat.{_+_, _≤_}
+use Prim.Native.Nat.{ℕ, _+_, _≤_}
 use native.Mathlib.Omega.{arith}
+use mathlib.Core.Bool.{true}
 use Rattle.bhtf.specs.Bytes.{Bytes}
-use Rattle.bhtf.specs.Limits.{mostImage}
-use Rattle.bhtf.specs.Questions.{openNumber, lookupNumber}
-use Rattle.bhtf.specs.Calls.{lookupStart, lookupLength}
+use Rattle.bhtf.specs.Limits.{mostImage, mostSlots}
+use Rattle.bhtf.specs.Questions.{modeKnown, openNumber, lookupNumber}
+use Rattle.bhtf.specs.Calls.{lookupStart, lookupLength, addRead, deleteRead, lookupRead}
 use Rattle.bhtf.proofs.Tests.{by-eq}
 use Rattle.bhtf.proofs.Opened.{opened-facts}
+use Rattle.bhtf.proofs.CallsRead.{sought-most}
 use Rattle.bhtf.proofs.Outcomes.{lookup-closed, offset-refused}
 use Rattle.lookup.proofs.Answers.{start-none, length-none, inside}
 
@@ -21,3 +25,18 @@ lookup-small img key =
     by-eq (lookupNumber img key) 0
     (λ z. omega (arith, inside img key, opened-facts img (open-accepted img key z) .size-high))
     (λ z. let none′ = offset-refused img key z in omega (arith, start-none img key none′, length-none img key none′))
+
+-- ---- the slots that a search read
+
+module _ (img key : Bytes) where
+  pub add-few : (mode : ℕ) → addRead img key mode ≤ mostSlots
+  unfolding addRead
+  add-few mode = sought-most img key (modeKnown mode)
+
+  pub delete-few : deleteRead img key ≤ mostSlots
+  unfolding deleteRead
+  delete-few = sought-most img key true
+
+  pub lookup-few : lookupRead img key ≤ mostSlots
+  unfolding lookupRead
+  lookup-few = sought-most img key true

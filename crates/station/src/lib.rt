@@ -4,6 +4,7 @@ use inspect::Verdict;
 use inspect::check;
 use lookup::count;
 use lookup::locate;
+use lookup::locate_slots;
 use walk::Stop;
 use walk::next_taken;
 use words::fields::read_u32;
@@ -12,7 +13,7 @@ ghost use mathlib.Core.Path.{_≡_};
 ghost use Rattle.bhtf.specs.Inspect.{keyWalk, stopNumber, keyStart, check, verdictNumber};
 ghost use Rattle.walk.specs.Stops.{stopSlot};
 ghost use Rattle.station.specs.Codes.{verdictCode, verdictSlot};
-ghost use Rattle.bhtf.specs.Calls.{create, add, delete, lookup, lookupStart, lookupLength, count};
+ghost use Rattle.bhtf.specs.Calls.{create, add, delete, lookup, lookupStart, lookupLength, count, addRead, deleteRead, lookupRead};
 
 // Makes the slice an empty file: keys of `size` bytes, `slots` slots (0 for 5,507), the scramble of the seed.
 #[no_mangle]
@@ -53,6 +54,60 @@ pub extern "C" fn bhtf_lookup(image: &[u8], key: &[u8], offset: &mut u32, length
     let start = found.start;
     *offset = start.at() as u32;
     *length = found.length as u32;
+    found.number
+}
+
+// Stores as `bhtf_add` does; and how many slots the search for the key read, 0 when refused with 1 or 5 to 8.
+#[no_mangle]
+pub extern "C" fn bhtf_add_slots(
+    image: &mut [u8],
+    key: &[u8],
+    bytes: &[u8],
+    mode: u32,
+    read: &mut u32,
+) -> u32
+    ensures { λ r. ⌜ (r ≡ add (now (image .entry)) (now (key .entry)) (now (bytes .entry)) mode .answer .number)
+        × (now (image .exit) ≡ add (now (image .entry)) (now (key .entry)) (now (bytes .entry)) mode .after)
+        × (now (read .exit) ≡ addRead (now (image .entry)) (now (key .entry)) mode) ⌝ }
+{
+    let told = add::add_slots(image, key, bytes, mode);
+    *read = told.read as u32;
+    told.number
+}
+
+// Deletes as `bhtf_delete` does; and how many slots the search read, 0 when refused with 1 or 5 to 7.
+#[no_mangle]
+pub extern "C" fn bhtf_delete_slots(image: &mut [u8], key: &[u8], read: &mut u32) -> u32
+    ensures { λ r. ⌜ (r ≡ delete (now (image .entry)) (now (key .entry)) .answer .number)
+        × (now (image .exit) ≡ delete (now (image .entry)) (now (key .entry)) .after)
+        × (now (read .exit) ≡ deleteRead (now (image .entry)) (now (key .entry))) ⌝ }
+{
+    let told = delete::delete_slots(image, key);
+    *read = told.read as u32;
+    told.number
+}
+
+// Looks up as `bhtf_lookup` does; and how many slots the search read, 0 when refused with 1 or 5 to 7.
+#[no_mangle]
+pub extern "C" fn bhtf_lookup_slots(
+    image: &[u8],
+    key: &[u8],
+    offset: &mut u32,
+    length: &mut u32,
+    read: &mut u32,
+) -> u32
+    ensures { λ r. ⌜ (r ≡ lookup (now (image .entry)) (now (key .entry)) .answer .number)
+        × (now (offset .exit) ≡ lookupStart (now (image .entry)) (now (key .entry)))
+        × (now (length .exit) ≡ lookupLength (now (image .entry)) (now (key .entry)))
+        × (now (image .exit) ≡ lookup (now (image .entry)) (now (key .entry)) .after)
+        × (now (read .exit) ≡ lookupRead (now (image .entry)) (now (key .entry))) ⌝ }
+{
+    let looked = locate_slots(image, key);
+    let found = looked.located;
+    let start = found.start;
+    *offset = start.at() as u32;
+    *length = found.length as u32;
+    *read = looked.read as u32;
     found.number
 }
 

@@ -1,9 +1,14 @@
 -- The search's answer in code, as the specification's.
 --     probeOf f        how the search ended
 --     Within n s       the slot where it ended, if it ended at one, is one of n
+--     GoesOn g img key most i left j     a search with `most` slots left at slot i goes on with `left` at slot j: it
+--                      ends as from there, and the slots between are read
 -- Assumes nothing.
-use Prim.Native.Nat.{ℕ, _<_}
-use Rattle.bhtf.specs.Search.{Probe, met, empty, exhausted}
+use mathlib.Core.Path.{_≡_}
+use Prim.Native.Nat.{ℕ, _+_, _≤_, _<_}
+use Rattle.bhtf.specs.Bytes.{Bytes}
+use Rattle.bhtf.specs.Image.{Layout}
+use Rattle.bhtf.specs.Search.{Probe, met, empty, exhausted, probe, readFrom}
 use Rattle.table.specs.declared.Found.{Found}
 use Rattle.table.specs.declared.Found.the-variants.{Met, Empty, Exhausted}
 
@@ -16,3 +21,8 @@ unfoldable pub Within : ℕ → Probe → Type 0
 Within n (met i) = i < n
 Within n (empty i) = i < n
 Within n exhausted = Unit {0}
+
+pub record GoesOn (g : Layout) (img key : Bytes) (most i left j : ℕ) : Type 0 where
+  pub fewer : left ≤ most
+  pub ended : probe g img key most i ≡ probe g img key left j
+  pub reads : readFrom g img key most i + left ≡ readFrom g img key left j + most

@@ -11,12 +11,12 @@ use words::fields::read_u32;
 use words::fields::write_u32;
 use words::limits::SCRAMBLE_START;
 ghost use mathlib.Core.Path.{_≡_};
-ghost use Prim.Native.Nat.{_+_, _^_, _≤_, _<_};
+ghost use Prim.Native.Nat.{_+_, _^_, _<_};
 ghost use lib.ListN.{length};
 ghost use Rattle.bhtf.specs.Image.{layoutOf, home, slotBytes, putSlot};
-ghost use Rattle.bhtf.specs.Search.{probe, search};
+ghost use Rattle.bhtf.specs.Search.{search, slotsRead};
 ghost use Rattle.layout.specs.Shapes.{Open};
-ghost use Rattle.table.specs.Probes.{probeOf};
+ghost use Rattle.table.specs.Probes.{probeOf, GoesOn};
 ghost use Rattle.table.specs.Slots.{keyIn, offsetIn, Placed, vacantIn};
 
 // How a search ended: the key was met, an empty slot was met, or all slots were read.
@@ -24,6 +24,12 @@ pub enum Found {
     Met(Slot),
     Empty(Slot),
     Exhausted,
+}
+
+// What a search answers: how it ended, and how many slots it read.
+pub struct Probed {
+    pub found: Found,
+    pub read: usize,
 }
 
 // The key's home slot: its hash modulo the number of slots.
@@ -85,9 +91,8 @@ struct Turn {
 fn pass_over(image: &[u8], shape: Shape, key: &[u8], from: Slot, most: usize) -> Turn
     requires { ⌜ Open (now image) shape × (from .0 < shape .slots) ⌝ }
     ensures { λ r. ⌜ (r .slot .0 < shape .slots)
-        × (r .left ≤ most)
-        × (probe (layoutOf (now (image .entry))) (now (image .entry)) (now (key .entry)) most (from .0)
-        ≡ probe (layoutOf (now (image .entry))) (now (image .entry)) (now (key .entry)) (r .left) (r .slot .0)) ⌝ }
+        × GoesOn (layoutOf (now (image .entry))) (now (image .entry)) (now (key .entry))
+        most (from .0) (r .left) (r .slot .0) ⌝ }
 {
     let size = shape.keylen;
     let slots = shape.slots;
@@ -112,9 +117,11 @@ fn pass_over(image: &[u8], shape: Shape, key: &[u8], from: Slot, most: usize) ->
 }
 
 // From home upwards, wrapping, until the key is met, an empty slot is met, or all slots were read.
-pub fn search(image: &[u8], shape: Shape, key: &[u8]) -> Found
+pub fn search(image: &[u8], shape: Shape, key: &[u8]) -> Probed
     requires { ⌜ Open (now image) shape ⌝ }
-    ensures { λ r. ⌜ probeOf r ≡ search (layoutOf (now (image .entry))) (now (image .entry)) (now (key .entry)) ⌝ }
+    ensures { λ r. ⌜ (probeOf (r .found)
+        ≡ search (layoutOf (now (image .entry))) (now (image .entry)) (now (key .entry)))
+        × (r .read ≡ slotsRead (layoutOf (now (image .entry))) (now (image .entry)) (now (key .entry))) ⌝ }
 {
     let slots = shape.slots;
     let mut i = home(image, shape, key);
@@ -122,20 +129,33 @@ pub fn search(image: &[u8], shape: Shape, key: &[u8]) -> Found
     while 0 < left {
         let turn = pass_over(image, shape, key, i, left);
         if turn.left == 0 {
-            return Found::Exhausted;
+            return Probed {
+                found: Found::Exhausted,
+                read: slots,
+            };
         }
+        let read = slots - turn.left + 1;
         let slot = turn.slot;
         let stored = key_of(image, shape, slot);
         if same_bytes(stored, key) {
-            return Found::Met(slot);
+            return Probed {
+                found: Found::Met(slot),
+                read,
+            };
         }
         if all_zero(stored) {
-            return Found::Empty(slot);
+            return Probed {
+                found: Found::Empty(slot),
+                read,
+            };
         }
         i = slot.next(slots);
         left = turn.left - 1;
     }
-    Found::Exhausted
+    Probed {
+        found: Found::Exhausted,
+        read: slots,
+    }
 }
 
 // Writes an entry over a slot's bytes.

@@ -17,25 +17,25 @@ key-of-requires c κs = search needs
 search-requires : tie.Need-search-requires
 search-requires c κs = search needs
 
-enum-known-j : tie.Need-enum-known-j
-enum-known-j c = search needs
+enum-known-found : tie.Need-enum-known-found
+enum-known-found c = search needs
 
 -- a search that does not end at the slot
 ends-elsewhere : (c : tie.After-search)
     → let img : Bytes = c .before .before .before .args .image .now in
     let i : ℕ = c .before .before .before .args .i .0 in
-    endsAt (probeOf (c .search .result)) i ≡ false → false ≡ entrySound (layoutOf img) img i
+    endsAt (probeOf (c .search .result .found)) i ≡ false → false ≡ entrySound (layoutOf img) img i
 ends-elsewhere c n =
     let A = c .before .before .before .args in
     let img = A .image .now in
     let K = c .before .key-of in
     let f = c .search in
-    ends-false (layoutOf img) img (A .i .0) (K .result .now) (K .ensures) (f .result) (f .ensures) n
+    ends-false (layoutOf img) img (A .i .0) (K .result .now) (K .ensures) (f .result .found) (f .ensures .0) n
 
 returns : tie.Need-returns
 returns c =
     let F = c .before in
-    ends-elsewhere F (not-met (F .search .result) (c .match .keys2) (F .before .before .before .args .i .0))
+    ends-elsewhere F (not-met (F .search .result .found) (c .match .keys2) (F .before .before .before .args .i .0))
 
 number-requires : tie.Need-number-requires
 number-requires c κs = search needs
@@ -49,7 +49,7 @@ returns-2 c =
     let J = N .before .before in
     let F = J .before .before in
     ends-elsewhere F
-    (met-other (F .search .result) (J .j .given .1) (F .before .before .before .args .i .0)
+    (met-other (F .search .result .found) (J .found .given .1) (F .before .before .before .args .i .0)
     (λ q. c .if1 .taken (N .number .ensures ∙ q ∙ sym (c .before .number2 .ensures))))
 
 offset-of-requires : tie.Need-offset-of-requires
@@ -70,8 +70,8 @@ returns-3 c =
     let img = A .image .now in
     let f = F .search in
     let m = c .message-sound in
-    ends-true (layoutOf img) img (A .i .0) (K .result .now) (K .ensures) (f .result) (f .ensures)
-    (met-here (f .result) (J .j .given .1) (A .i .0)
+    ends-true (layoutOf img) img (A .i .0) (K .result .now) (K .ensures) (f .result .found) (f .ensures .0)
+    (met-here (f .result .found) (J .found .given .1) (A .i .0)
     (sym (N .number .ensures) ∙ E .if1 .left ∙ E .before .number2 .ensures))
     (m .result) (o .result .0) (o .ensures) (m .ensures)
 
@@ -81,7 +81,7 @@ entry-sound-spec =
     (tie.spec
     key-of-requires
     search-requires
-    enum-known-j
+    enum-known-found
     returns
     number-requires
     number-requires-2

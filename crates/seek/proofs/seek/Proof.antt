@@ -112,11 +112,12 @@ returns-4 c =
           seek-0 (A .image .now) (A .key .now) (A .known) o (named (c .before .before))
           (not-false (A .known) (c .before .if3 .left));
       opened = record { accepted = o; shape = (read-shape-at-search c) .read-shape .ensures };
-      ended = c .search .ensures;
+      ended = c .search .ensures .0;
       within =
-          subst (Within _) (sym (c .search .ensures))
+          subst (Within _) (sym (c .search .ensures .0))
           (search-within (A .image .now) (A .key .now) _
           (record { accepted = o; shape = (read-shape-at-search c) .read-shape .ensures }));
+      counted = c .search .ensures .1;
     }
 
 pub seek-spec : {M : Type 1} → statement M

@@ -1,36 +1,34 @@
 -- `table::pass_over` meets its contract: each slot passed over is one turn of the search. Assumes nothing.
-use Prim.Native.Nat.{ℕ, _-_, _≤_, _<_}
-use native.Mathlib.Nat.{le-refl}
+use Prim.Native.Nat.{ℕ, _<_}
 use native.Mathlib.Omega.{arith}
-use mathlib.Core.Path.{_≡_, refl, sym, ap, _∙_}
+use mathlib.Core.Path.{sym, ap, _∙_}
 use Rattle.bhtf.specs.Image.{layoutOf}
-use Rattle.bhtf.specs.Search.{next, probe}
+use Rattle.bhtf.specs.Search.{next}
 use Rattle.bhtf.proofs.Cyclic.{next-lt}
+use Rattle.table.specs.Probes.{GoesOn}
 use Rattle.table.proofs.Headers.{layout-slots}
-use Rattle.table.proofs.Turns.{read-on, stored-length, other-tail}
+use Rattle.table.proofs.Turns.{goes-same, goes-over, read-on, stored-length, other-tail}
 use Rattle.table.proofs.pass_over.Statement.{statement}
 use Rattle.table.proofs.pass_over.Tie as tie
 
 abbrev Inv-loop : tie.InvT-loop
 Inv-loop image shape key most size slots i₀ left₀ wanted i left =
-    (i .0 < slots)
-    × (left ≤ most)
-    × (probe (layoutOf image) image key most (i₀ .0) ≡ probe (layoutOf image) image key left (i .0))
+    (i .0 < slots) × GoesOn (layoutOf image) image key most (i₀ .0) left (i .0)
 
 abbrev μ-loop : tie.MeasureT-loop
 μ-loop image shape key most size slots i₀ left₀ wanted i left = left
 
 returns : tie.Need-returns Inv-loop μ-loop
-returns c = (c .before .before .before .pre .1, le-refl _, refl)
+returns c = (c .before .before .before .pre .1, goes-same _ _ _ _ _)
 
 returns-2 : tie.Need-returns-2 Inv-loop μ-loop
-returns-2 c = (c .before .before .before .before .pre .1, le-refl _, refl)
+returns-2 c = (c .before .before .before .before .pre .1, goes-same _ _ _ _ _)
 
 tail-requires : tie.Need-tail-requires Inv-loop μ-loop
 tail-requires c κs = omega arith
 
 loop-holds : tie.Need-loop-holds Inv-loop μ-loop
-loop-holds c = (c .before .before .before .before .before .pre .1, le-refl _, refl)
+loop-holds c = (c .before .before .before .before .before .pre .1, goes-same _ _ _ _ _)
 
 key-of-requires : tie.Need-key-of-requires Inv-loop μ-loop
 key-of-requires c κs =
@@ -77,12 +75,10 @@ loop-again c =
     (c .before .before .tail2 .ensures) (L .before .tail .ensures) (c .before .if3 .left)
     in (
       omega (arith, next-lt (s .slots) (L .loop .i .0) (L .loop .inv .0), c .next .ensures),
-      omega (arith, L .loop .inv .1),
-      L .loop .inv .2
-          ∙ read-on (layoutOf img) img key (L .loop .left) (L .loop .i .0) some′
+      goes-over (layoutOf img) img key (L .loop .inv .1)
+          (read-on (layoutOf img) img key (L .loop .left) (L .loop .i .0) some′
           (K .result .now) (K .ensures) (other .0) (other .1)
-          ∙ ap (λ (i : ℕ). probe (layoutOf img) img key (L .loop .left - 1) i)
-          (ap (λ (m : ℕ). next m (L .loop .i .0)) n ∙ sym (c .next .ensures)),
+          (c .next .ensures ∙ ap (λ (m : ℕ). next m (L .loop .i .0)) (sym n))),
     )
 
 returns-4 : tie.Need-returns-4 Inv-loop μ-loop

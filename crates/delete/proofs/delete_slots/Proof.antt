@@ -1,10 +1,11 @@
 -- A refusal leaves the image, else the search's end tells what is done. Assumes nothing.
 use mathlib.Core.Bool.{true}
 use borrow.Author.Needs.{needs}
-use Rattle.seek.proofs.Reaching.{refused-is, reached-is}
+use Rattle.bhtf.specs.Calls.{deleteRead}
+use Rattle.seek.proofs.Reaching.{refused-is, reached-is, refused-read, reached-read}
 use Rattle.delete.proofs.Removed.{refused-answer, found-answer}
-use Rattle.delete.proofs.delete.Statement.{statement}
-use Rattle.delete.proofs.delete.Tie as tie
+use Rattle.delete.proofs.delete_slots.Statement.{statement}
+use Rattle.delete.proofs.delete_slots.Tie as tie
 
 seek-requires : tie.Need-seek-requires
 seek-requires c κs = search needs
@@ -39,12 +40,14 @@ abbrev start-at-known-told : tie.After-known-told → tie.Start
 start-at-known-told c = c .before .before .before .before .before .before .before
 
 returns : tie.Need-returns
+unfolding deleteRead
 returns c =
     let A = (start-at-known-told c) .args in
-    let r =
-    refused-is (A .image .now) (A .key .now) true (c .before .before .before .seek .ensures)
-    (c .before .sought .given .1) in
-    refused-answer (A .image .now) (A .key .now) _ (r .0) (r .1)
+    let is = c .before .before .before .seek .ensures in
+    let e = c .before .sought .given .1 in
+    let r = refused-is (A .image .now) (A .key .now) true is e in
+    let a = refused-answer (A .image .now) (A .key .now) _ (r .0) (r .1) in
+    (a .0, a .1, refused-read (A .image .now) (A .key .now) true is e)
 
 same-length-2 : tie.Need-same-length-2
 same-length-2 c = search needs
@@ -62,17 +65,20 @@ abbrev sought2-at-slice-known2 : tie.After-slice-known2 → tie.After-sought2
 sought2-at-slice-known2 c = c .before .before .before .before .before
 
 returns-2 : tie.Need-returns-2
+unfolding deleteRead
 returns-2 c =
     let A = (start-at-slice-known2 c) .args in
-    let r =
-    reached-is (A .image .now) (A .key .now) true ((seek-at-slice-known2 c) .seek .ensures)
-    ((sought2-at-slice-known2 c) .sought2 .given .1) in
+    let is = (seek-at-slice-known2 c) .seek .ensures in
+    let e = (sought2-at-slice-known2 c) .sought2 .given .1 in
+    let r = reached-is (A .image .now) (A .key .now) true is e in
     let d = c .before .before .delete-found in
+    let a =
     found-answer (A .image .now) (A .key .now) (r .asked) (d .result) (d .last .0) _ (r .ended) (d .ensures .0)
-    (d .ensures .1)
+    (d .ensures .1) in
+    (a .0, a .1, reached-read (A .image .now) (A .key .now) true is e)
 
-pub delete-spec : {M : Type 1} → statement M
-delete-spec =
+pub delete-slots-spec : {M : Type 1} → statement M
+delete-slots-spec =
     tie.close
     (tie.spec
     seek-requires

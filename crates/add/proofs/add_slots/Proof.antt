@@ -1,11 +1,12 @@
--- `add::add` meets its contract: a refusal leaves the image, else the search's end tells what is done. Assumes nothing.
-use mathlib.Core.Path.{sym, _∙_}
+-- A refusal leaves the image, else the search's end tells what is done. Assumes nothing.
+use mathlib.Core.Path.{sym, ap, _∙_}
 use borrow.Author.Needs.{needs}
-use Rattle.seek.proofs.Reaching.{refused-is, reached-is, reached-key}
+use Rattle.bhtf.specs.Calls.{soughtRead, addRead}
+use Rattle.seek.proofs.Reaching.{refused-is, reached-is, reached-key, refused-read, reached-read}
 use Rattle.bhtf.proofs.Sought.{seek-known}
 use Rattle.add.proofs.Added.{refused-answer, found-answer}
-use Rattle.add.proofs.add.Statement.{statement}
-use Rattle.add.proofs.add.Tie as tie
+use Rattle.add.proofs.add_slots.Statement.{statement}
+use Rattle.add.proofs.add_slots.Tie as tie
 
 mode-known-requires : tie.Need-mode-known-requires
 mode-known-requires c κs = search needs
@@ -57,13 +58,20 @@ abbrev mode-known-at-known-told : tie.After-known-told → tie.After-mode-known
 mode-known-at-known-told c = c .before .before .before .before
 
 returns : tie.Need-returns
+unfolding addRead
 returns c =
     let A = (start-at-known-told c) .args in
     let k = (mode-known-at-known-told c) .mode-known in
-    let r =
-    refused-is (A .image .now) (A .key .now) (k .result) (c .before .before .before .seek .ensures)
-    (c .before .sought .given .1) in
-    refused-answer (A .image .now) (A .key .now) (A .bytes .now) (A .mode) (k .result) (k .ensures) _ (r .0) (r .1)
+    let is = c .before .before .before .seek .ensures in
+    let e = c .before .sought .given .1 in
+    let r = refused-is (A .image .now) (A .key .now) (k .result) is e in
+    let a =
+    refused-answer (A .image .now) (A .key .now) (A .bytes .now) (A .mode) (k .result) (k .ensures) _ (r .0) (r .1) in (
+      a .0,
+      a .1,
+      refused-read (A .image .now) (A .key .now) (k .result) is e
+          ∙ ap (soughtRead (A .image .now) (A .key .now)) (k .ensures),
+    )
 
 same-length-2 : tie.Need-same-length-2
 same-length-2 c = search needs
@@ -84,19 +92,25 @@ abbrev sought2-at-slice-known2 : tie.After-slice-known2 → tie.After-sought2
 sought2-at-slice-known2 c = c .before .before .before .before .before
 
 returns-2 : tie.Need-returns-2
+unfolding addRead
 returns-2 c =
     let A = (start-at-slice-known2 c) .args in
     let k = (mode-known-at-slice-known2 c) .mode-known in
-    let r =
-    reached-is (A .image .now) (A .key .now) (k .result) ((seek-at-slice-known2 c) .seek .ensures)
-    ((sought2-at-slice-known2 c) .sought2 .given .1) in
+    let is = (seek-at-slice-known2 c) .seek .ensures in
+    let e = (sought2-at-slice-known2 c) .sought2 .given .1 in
+    let r = reached-is (A .image .now) (A .key .now) (k .result) is e in
     let d = c .before .before .add-found in
+    let a =
     found-answer (A .image .now) (A .key .now) (A .bytes .now) (A .mode) (k .result) (k .ensures) (r .asked) (d .result)
-    (d .last .0) _
-    (r .ended) (d .ensures .0) (d .ensures .1)
+    (d .last .0) _ (r .ended) (d .ensures .0) (d .ensures .1) in (
+      a .0,
+      a .1,
+      reached-read (A .image .now) (A .key .now) (k .result) is e
+          ∙ ap (soughtRead (A .image .now) (A .key .now)) (k .ensures),
+    )
 
-pub add-spec : {M : Type 1} → statement M
-add-spec =
+pub add-slots-spec : {M : Type 1} → statement M
+add-slots-spec =
     tie.close
     (tie.spec
     mode-known-requires

@@ -2,10 +2,11 @@
 use mathlib.Core.Path.{sym, _∙_}
 use mathlib.Core.Bool.{true}
 use borrow.Author.Needs.{needs}
-use Rattle.seek.proofs.Reaching.{refused-is, reached-is}
+use Rattle.bhtf.specs.Calls.{lookupRead}
+use Rattle.seek.proofs.Reaching.{refused-is, reached-is, refused-read, reached-read}
 use Rattle.lookup.proofs.Answers.{located-refused, located-found}
-use Rattle.lookup.proofs.locate.Statement.{statement}
-use Rattle.lookup.proofs.locate.Tie as tie
+use Rattle.lookup.proofs.locate_slots.Statement.{statement}
+use Rattle.lookup.proofs.locate_slots.Tie as tie
 
 seek-requires : tie.Need-seek-requires
 seek-requires c κs = search needs
@@ -36,13 +37,16 @@ abbrev seek-at-nothing : tie.After-nothing → tie.After-seek
 seek-at-nothing c = c .before .before .before .before
 
 returns : tie.Need-returns
+unfolding lookupRead
 returns c =
     let A = (start-at-nothing c) .args in
-    let r =
-    refused-is ((start-at-nothing c) .args .image .now) ((start-at-nothing c) .args .key .now) true
-    ((seek-at-nothing c) .seek .ensures) (c .before .before .sought .given .1) in
+    let is = (seek-at-nothing c) .seek .ensures in
+    let e = c .before .before .sought .given .1 in
+    let r = refused-is (A .image .now) (A .key .now) true is e in
     let n = c .nothing .ensures in
-    located-refused (A .image .now) (A .key .now) _ _ _ (n .0 ∙ r .0) (λ z. r .1 (sym (n .0) ∙ z)) (n .1) (n .2)
+    let a =
+    located-refused (A .image .now) (A .key .now) _ _ _ (n .0 ∙ r .0) (λ z. r .1 (sym (n .0) ∙ z)) (n .1) (n .2) in
+    (a .0, a .1, a .2, refused-read (A .image .now) (A .key .now) true is e)
 
 abbrev start-at-locate-found : tie.After-locate-found → tie.Start
 start-at-locate-found c = c .before .before .before .before .before .before .before
@@ -51,15 +55,17 @@ abbrev seek-at-locate-found : tie.After-locate-found → tie.After-seek
 seek-at-locate-found c = c .before .before .before .before
 
 returns-2 : tie.Need-returns-2
+unfolding lookupRead
 returns-2 c =
     let A = (start-at-locate-found c) .args in
-    let r =
-    reached-is ((start-at-locate-found c) .args .image .now) ((start-at-locate-found c) .args .key .now) true
-    ((seek-at-locate-found c) .seek .ensures) (c .before .before .sought2 .given .1) in
-    located-found (A .image .now) (A .key .now) (r .asked) _ _ _ _ (r .ended) (c .locate-found .ensures)
+    let is = (seek-at-locate-found c) .seek .ensures in
+    let e = c .before .before .sought2 .given .1 in
+    let r = reached-is (A .image .now) (A .key .now) true is e in
+    let a = located-found (A .image .now) (A .key .now) (r .asked) _ _ _ _ (r .ended) (c .locate-found .ensures) in
+    (a .0, a .1, a .2, reached-read (A .image .now) (A .key .now) true is e)
 
-pub locate-spec : {M : Type 1} → statement M
-locate-spec =
+pub locate-slots-spec : {M : Type 1} → statement M
+locate-slots-spec =
     tie.close
     (tie.spec
     seek-requires

@@ -1,0 +1,7 @@
+# The reference under the library's names; with plain_ made another name, other C. Scripts take the words from here too.
+AS_LIBRARY = -Dplain_create=bhtf_create -Dplain_add=bhtf_add \
+	-Dplain_delete=bhtf_delete -Dplain_lookup=bhtf_lookup \
+	-Dplain_count=bhtf_count -Dplain_walk=bhtf_walk \
+	-Dplain_check=bhtf_check -Dplain_add_slots=bhtf_add_slots \
+	-Dplain_delete_slots=bhtf_delete_slots \
+	-Dplain_lookup_slots=bhtf_lookup_slots
