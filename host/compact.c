@@ -4,42 +4,44 @@
 #include "bhtf.h"
 #include "header.h"
 
-/* Bytes of the data that are used. */
-static uint32_t used_in(const uint8_t *image)
-{
-    const struct header h = header_read(image);
+/* Bytes of the data: all of it, and what of it is used. */
+struct spaces {
+    size_t room;
+    uint32_t before;
+    uint32_t after;
+};
 
-    return h.next - h.data;
+/* One call on an accepted image: the library's number. */
+static uint32_t compact(uint8_t *image, size_t length, struct spaces *s)
+{
+    const struct header before = header_read(image);
+    uint32_t number = bhtf_compact(image, length);
+
+    s->room = length - before.data;
+    s->before = before.next - before.data;
+    s->after = header_read(image).next - before.data;
+    return number;
 }
 
-static int report(const struct options *o, const struct buffer *image,
-                  uint32_t before)
+static int report(const struct options *o, const struct spaces *s)
 {
-    size_t room = image->length - header_read(image->bytes).data;
-    uint32_t after = used_in(image->bytes);
-
     if (o->quiet)
         return DONE;
     printf("before: %lu bytes of data used, %lu free\n",
-           (unsigned long)before, (unsigned long)(room - before));
+           (unsigned long)s->before, (unsigned long)(s->room - s->before));
     printf("%s: %lu bytes of data used, %lu free, %lu more than before\n",
            o->given & OPTION_DRY_RUN ? "would be" : "after",
-           (unsigned long)after, (unsigned long)(room - after),
-           (unsigned long)(before - after));
+           (unsigned long)s->after, (unsigned long)(s->room - s->after),
+           (unsigned long)(s->before - s->after));
     return finish_output(DONE);
 }
 
-/* One call on an accepted image. It refuses what is not sound; why, is said in
- * the words of check. */
-static int compact(const struct options *o, const struct buffer *image)
+/* A file that is not sound: why, is said in the words of check. */
+static int refuse_unsound(const struct options *o, const struct buffer *copy,
+                          uint32_t number)
 {
-    uint32_t before = used_in(image->bytes);
-    uint32_t number = bhtf_compact(image->bytes, image->length);
-
-    if (number == BHTF_ACCEPTED)
-        return report(o, image, before);
     refuse(o->word[0], number);
-    say_unsound(stderr, image, o->quiet);
+    say_unsound(stderr, copy, o->quiet);
     return REFUSED;
 }
 
@@ -47,30 +49,47 @@ static int compact(const struct options *o, const struct buffer *image)
 static int try_compact(const struct options *o)
 {
     struct buffer copy = { NULL, 0, 0 };
+    struct spaces s;
+    uint32_t key_size;
+    int status = copy_accepted(&copy, o, &key_size);
+
+    if (status == DONE) {
+        uint32_t number = compact(copy.bytes, copy.length, &s);
+
+        status = number == BHTF_ACCEPTED ? report(o, &s)
+                                         : refuse_unsound(o, &copy, number);
+    }
+    buffer_free(&copy);
+    return status;
+}
+
+/* Looks at the file again, now that its lock is given back. */
+static int explain(const struct options *o, uint32_t number)
+{
+    struct buffer copy = { NULL, 0, 0 };
     uint32_t key_size;
     int status = copy_accepted(&copy, o, &key_size);
 
     if (status == DONE)
-        status = compact(o, &copy);
+        status = refuse_unsound(o, &copy, number);
     buffer_free(&copy);
     return status;
 }
 
 int run_compact(const struct options *o)
 {
-    struct buffer view = { NULL, 0, 0 };
+    struct spaces s;
     struct image i;
     uint32_t number, key_size;
-    int status;
 
     if (o->given & OPTION_DRY_RUN)
         return try_compact(o);
     if (image_open(&i, o->word[0], 1, (unsigned)o->wait) != 0)
         return TROUBLE;
-    view.bytes = i.bytes;
-    view.length = i.length;
     number = ask_header(i.bytes, i.length, &key_size);
-    status = number == BHTF_ACCEPTED ? compact(o, &view)
-                                     : refuse(o->word[0], number);
-    return image_close(&i) == 0 ? status : TROUBLE;
+    if (number == BHTF_ACCEPTED)
+        number = compact(i.bytes, i.length, &s);
+    if (image_close(&i) != 0)
+        return TROUBLE;
+    return number == BHTF_ACCEPTED ? report(o, &s) : explain(o, number);
 }
