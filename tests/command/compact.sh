@@ -48,7 +48,7 @@ unsound() { # NAME WORDS FILE: refused with 15 and those words, by both forms, a
 }
 unsound "two points on one text" "$both bytes 4096 to 4104 of the file" joined
 unsound "a name that stands twice" "slot ${high%:*} \\(${low#*:}\\) is not found by its name" twice
-cp worksite count2
+cp before2 count2
 at count2 23 '\011'
 gives "a header that is refused before" 1 'refused \(6\)' bhtf compact count2
 at count2 23 '\005'
