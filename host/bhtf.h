@@ -189,7 +189,7 @@ uint32_t bhtf_check(const uint8_t *image, size_t image_len,
  * bhtf_check does not say sound; then no byte changes.
  * Time: a check, and for every MiB of the data area that is in use one pass
  * over the slots.
- * Stack: up to 1,088 KiB (1,114,112 bytes), which a small thread may not
+ * Stack: up to 1,344 KiB (1,376,256 bytes), which a small thread may not
  * have. */
 uint32_t bhtf_compact(uint8_t *image, size_t image_len);
 
