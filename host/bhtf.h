@@ -67,6 +67,7 @@ extern "C" {
 #define BHTF_NO_ROOM 13u       /* no space left in the image for the message */
 #define BHTF_ABSENT 14u        /* the key is not there: lookup, delete, and add
                                   in mode 4, where it is asked after 8 */
+#define BHTF_UNSOUND 15u       /* compact: bhtf_check does not say sound */
 
 /* ---- verdicts of bhtf_check ---- */
 
@@ -98,7 +99,7 @@ uint32_t bhtf_create(uint8_t *image, size_t image_len, uint32_t key_size,
  *                  the key is not there.
  * An empty message in new space takes BHTF_MESSAGE_HEADER bytes, so that 13
  * can refuse it. Space once taken is not handed out again, but for
- * BHTF_REPLACE's.
+ * BHTF_REPLACE's, before bhtf_compact.
  * Versions: the first empty message stored makes a file of version 1.0.0 or
  * 1.0.1 one of 1.0.2; no other call after create changes the version.
  * Libraries before this one know no empty message and refuse a file of 1.0.2,
@@ -175,10 +176,22 @@ uint32_t bhtf_walk(const uint8_t *image, size_t image_len, uint32_t from,
  * BHTF_COUNT_FAILS says that only the count is wrong. Refused with 1, 5 and 6.
  * Time: as long as the table and the messages are; but each key is searched, so
  * a damaged full table can take N * N slots.
- * Stack: up to 300 KiB (307,200 bytes), which a small thread may not have; the
- * other calls take little. */
+ * Stack: up to 300 KiB (307,200 bytes), which a small thread may not have;
+ * bhtf_compact takes more, the other calls take little. */
 uint32_t bhtf_check(const uint8_t *image, size_t image_len,
                     uint32_t *verdict, uint32_t *slot);
+
+/* Gives the space of dead messages back: moves all active messages down, in the
+ * order of their offsets, without gaps from the data offset on, lowers the next
+ * free offset, zeroes every byte from there to the image's end, and sets the
+ * offset of each withdrawn message to 0. Keys stay in their slots; offsets that
+ * bhtf_lookup gave before are void. Refused with 1, 5 and 6, and with 15 where
+ * bhtf_check does not say sound; then no byte changes.
+ * Time: a check, and for every MiB of the data area that is in use one pass
+ * over the slots.
+ * Stack: up to 1,344 KiB (1,376,256 bytes), which a small thread may not
+ * have. */
+uint32_t bhtf_compact(uint8_t *image, size_t image_len);
 
 /* What an answer means, in one sentence. Never NULL; not to be freed. */
 const char *bhtf_message(uint32_t number);

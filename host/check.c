@@ -5,16 +5,16 @@
 #include "space.h"
 
 /* Prints "slot 5 (name)": 0, or -1 for no memory. */
-static int print_slot(const struct buffer *copy, const struct header *h,
-                      uint32_t slot)
+static int print_slot(FILE *to, const struct buffer *copy,
+                      const struct header *h, uint32_t slot)
 {
     struct buffer shown = { NULL, 0, 0 };
     int done = name_show(&shown, copy->bytes + slot_offset(h, slot),
                          h->key_size) | buffer_put_byte(&shown, '\0');
 
     if (done == 0)
-        printf("slot %lu (%s)", (unsigned long)slot,
-               (const char *)shown.bytes);
+        fprintf(to, "slot %lu (%s)", (unsigned long)slot,
+                (const char *)shown.bytes);
     buffer_free(&shown);
     return done;
 }
@@ -38,8 +38,8 @@ static uint32_t other_slot(const struct buffer *copy, const struct header *h,
 }
 
 /* Both slots, and the bytes that their messages share. */
-static int print_shared(const struct buffer *copy, const struct header *h,
-                        uint32_t slot, uint32_t other)
+static int print_shared(FILE *to, const struct buffer *copy,
+                        const struct header *h, uint32_t slot, uint32_t other)
 {
     struct stretch s, lower;
     uint32_t first, last;
@@ -48,76 +48,86 @@ static int print_shared(const struct buffer *copy, const struct header *h,
     slot_stretch(copy->bytes, h, other, &lower);
     first = s.start > lower.start ? s.start : lower.start;
     last = (s.end < lower.end ? s.end : lower.end) - 1;
-    if (print_slot(copy, h, slot) != 0)
+    if (print_slot(to, copy, h, slot) != 0)
         return -1;
-    printf(" and ");
-    if (print_slot(copy, h, other) != 0)
+    fputs(" and ", to);
+    if (print_slot(to, copy, h, other) != 0)
         return -1;
     if (first == last)
-        printf(" share byte %lu of the file\n", (unsigned long)first);
+        fprintf(to, " share byte %lu of the file\n", (unsigned long)first);
     else
-        printf(" share bytes %lu to %lu of the file\n", (unsigned long)first,
-               (unsigned long)last);
+        fprintf(to, " share bytes %lu to %lu of the file\n",
+                (unsigned long)first, (unsigned long)last);
     return 0;
 }
 
-static void advise(void)
+static void advise(FILE *to)
 {
-    puts("A change of one of them changes the other: change nothing in this "
-         "file. Take an\n"
-         "older copy that is sound; or give each point bytes of its own,\n"
-         "    bhtf dump FILE | bhtf load NEW\n"
-         "and compare both texts with what they should be.");
+    fputs("A change of one of them changes the other: change nothing in this "
+          "file. Take an\n"
+          "older copy that is sound; or give each point bytes of its own,\n"
+          "    bhtf dump FILE | bhtf load NEW\n"
+          "and compare both texts with what they should be.\n", to);
 }
 
-/* Which of the three reasons: damaged, sharing bytes, or else not found. */
-static int print_failing(const struct buffer *copy, const struct header *h,
-                         uint32_t slot, const struct options *o)
+/* Which of the three reasons: damaged, sharing bytes, or else not found. 0, or
+ * -1 for no memory. */
+static int print_failing(FILE *to, const struct buffer *copy,
+                         const struct header *h, uint32_t slot, int quiet)
 {
     struct stretch s;
     int whole = slot_stretch(copy->bytes, h, slot, &s);
     uint32_t other = whole ? other_slot(copy, h, slot, &s) : slot;
     int done;
 
-    printf("unsound: ");
+    fputs("unsound: ", to);
     if (other != slot) {
-        done = print_shared(copy, h, slot, other);
-        if (done == 0 && !o->quiet)
-            advise();
+        done = print_shared(to, copy, h, slot, other);
+        if (done == 0 && !quiet)
+            advise(to);
     } else {
-        done = print_slot(copy, h, slot);
-        puts(whole ? " is not found by its name" : ": its message is damaged");
+        done = print_slot(to, copy, h, slot);
+        fputs(whole ? " is not found by its name\n"
+                    : ": its message is damaged\n", to);
     }
-    return done == 0 ? finish_output(REFUSED) : out_of_memory();
+    return done;
 }
 
-static void print_sound(const struct buffer *copy, const struct header *h)
-{
-    uint32_t used = h->next - h->data;
-
-    printf("sound: %lu %s\n", (unsigned long)h->count,
-           h->count == 1 ? "point" : "points");
-    printf("version %u.%u.%u, %lu bytes of data used, %lu of them dead\n",
-           h->version[0], h->version[1], h->version[2], (unsigned long)used,
-           (unsigned long)(used - space_measure(copy, h).active));
-}
-
-static int print_verdict(const struct buffer *copy, const struct options *o)
+int say_unsound(FILE *to, const struct buffer *copy, int quiet)
 {
     const struct header h = header_read(copy->bytes);
     uint32_t verdict, slot;
 
     bhtf_check(copy->bytes, copy->length, &verdict, &slot);
-    if (verdict == BHTF_SLOT_FAILS)
-        return print_failing(copy, &h, slot, o);
-    if (verdict == BHTF_COUNT_FAILS) {
-        printf("unsound: the header's count of %lu points is wrong\n",
-               (unsigned long)h.count);
-        return finish_output(REFUSED);
-    }
-    if (!o->quiet)
-        print_sound(copy, &h);
-    return finish_output(DONE);
+    if (verdict == BHTF_SOUND)
+        return DONE;
+    if (verdict == BHTF_COUNT_FAILS)
+        fprintf(to, "unsound: the header's count of %lu points is wrong\n",
+                (unsigned long)h.count);
+    else if (print_failing(to, copy, &h, slot, quiet) != 0)
+        return out_of_memory();
+    return REFUSED;
+}
+
+static void print_sound(const struct buffer *copy)
+{
+    const struct header h = header_read(copy->bytes);
+
+    printf("sound: %lu %s\n", (unsigned long)h.count,
+           h.count == 1 ? "point" : "points");
+    printf("version %u.%u.%u, %lu bytes of data used, %lu of them dead\n",
+           h.version[0], h.version[1], h.version[2],
+           (unsigned long)(h.next - h.data),
+           (unsigned long)space_measure(copy, &h).dead);
+}
+
+static int print_verdict(const struct buffer *copy, const struct options *o)
+{
+    int status = say_unsound(stdout, copy, o->quiet);
+
+    if (status == DONE && !o->quiet)
+        print_sound(copy);
+    return finish_output(status);
 }
 
 int run_check(const struct options *o)

@@ -31,9 +31,13 @@ static const char *advice(uint32_t number)
 }
 
 int refuse_point(const char *file, const char *name, uint32_t number,
-                 uint32_t key_size)
+                 uint32_t key_size, uint64_t freed)
 {
-    if (number == BHTF_BAD_KEY)
+    if (number == BHTF_NO_ROOM && freed > 0)
+        complain("%s: %s: refused (13): %s (bhtf compact frees %lu bytes, "
+                 "which is enough)", file, name, bhtf_message(number),
+                 (unsigned long)freed);
+    else if (number == BHTF_BAD_KEY)
         complain("%s: %s: refused (7): A name in this file has 1 to %lu "
                  "bytes, not all of them zero.", file, name,
                  (unsigned long)key_size);
@@ -135,6 +139,7 @@ static int open_for_point(struct image *i, struct buffer *key,
 struct answer {
     uint32_t number;
     uint32_t slots_read;
+    uint64_t freed;      /* by compaction, if that made room; else 0 */
 };
 
 /* Ends a call for a point: closes the file and says what was refused. */
@@ -144,7 +149,8 @@ static int close_point(struct image *i, const struct options *o,
     int status = image_close(i) == 0 ? DONE : TROUBLE;
 
     if (a->number != BHTF_ACCEPTED)
-        status = refuse_point(o->word[0], o->word[1], a->number, key_size);
+        status = refuse_point(o->word[0], o->word[1], a->number, key_size,
+                              a->freed);
     say_slots(o, o->word[1], a->slots_read);
     return status;
 }
@@ -267,9 +273,11 @@ static int change_text(const struct options *o, const struct piece *text,
     if (status == DONE) {
         const struct target to = { i.bytes, i.length };
         uint8_t before = header_read(i.bytes).version[2], now;
-        struct answer a;
+        struct answer a = { 0, 0, 0 };
 
         a.number = store(to, &key, text, mode, &a.slots_read);
+        if (a.number == BHTF_NO_ROOM)
+            a.freed = room_by_compaction(to, &key, text, mode);
         now = header_read(i.bytes).version[2];
         status = close_point(&i, o, &a, key_size);
         say_version(o->word[0], before, now);
@@ -320,7 +328,7 @@ int run_delete(const struct options *o)
     int status = open_for_point(&i, &key, o, 1, &key_size);
 
     if (status == DONE) {
-        struct answer a;
+        struct answer a = { 0, 0, 0 };
 
         a.number = bhtf_delete_slots(i.bytes, i.length, key.bytes, key.length,
                                      &a.slots_read);
@@ -352,7 +360,7 @@ int run_get(const struct options *o)
     struct buffer key = { NULL, 0, 0 };
     struct buffer text = { NULL, 0, 0 };
     struct image i;
-    struct answer a;
+    struct answer a = { 0, 0, 0 };
     uint32_t key_size, offset, length;
     int status;
 

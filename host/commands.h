@@ -104,6 +104,7 @@ int run_get(const struct options *o);
 int run_count(const struct options *o);
 int run_list(const struct options *o);
 int run_check(const struct options *o);
+int run_compact(const struct options *o);
 int run_book(const struct options *o);
 int run_stat(const struct options *o);
 int run_import(const struct options *o);
@@ -120,9 +121,14 @@ int run_scramble(const struct options *o);
 /* Says why `file` was refused; answers REFUSED. */
 int refuse(const char *file, uint32_t number);
 
-/* The same for a point; the name is as it was typed. */
+/* The same for a point; the name is as it was typed. `freed` are bytes that
+ * compaction would free if that made room for its text, else 0. */
 int refuse_point(const char *file, const char *name, uint32_t number,
-                 uint32_t key_size);
+                 uint32_t key_size, uint64_t freed);
+
+/* Says what is wrong with an accepted image that is not sound, as check does;
+ * answers REFUSED, TROUBLE for no memory, or DONE if it is sound. */
+int say_unsound(FILE *to, const struct buffer *copy, int quiet);
 
 /* With --slots: how many slots the search for a point read. */
 void say_slots(const struct options *o, const char *name, uint32_t slots_read);

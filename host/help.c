@@ -111,6 +111,15 @@ static const struct command commands[] = {
       "where,\n"
       "which two points share bytes, and what to do about that.\n"
       QUIET WAITING },
+    { "compact", OPTION_DRY_RUN, 1, 1, run_compact,
+      "bhtf compact FILE [--dry-run]\n"
+      "Gives the bytes of texts that were replaced, withdrawn or deleted back, "
+      "and\n"
+      "says how much is used before and after. A file that is not sound is left "
+      "as\n"
+      "it is, with the words of check and status 1.\n"
+      "  -n, --dry-run      change nothing; say what would be\n"
+      QUIET WAITING },
     { "book", 0, 1, 1, run_book,
       "bhtf book FILE\n"
       "Prints the book that calls on a sound file start from: its terms, and "
@@ -123,7 +132,9 @@ static const struct command commands[] = {
       "bhtf stat FILE\n"
       "Prints how full the file is, how many slots are read to find its points "
       "and\n"
-      "where a name is not there, and how many bytes of its data are dead.\n"
+      "where a name is not there, how many bytes of its data are dead, and how "
+      "many\n"
+      "bhtf compact would free.\n"
       WAITING },
     { "import", OPTION_REPLACE | OPTION_COLUMNS | OPTION_DELIMITER |
                 OPTION_DECIMAL | OPTION_SKIP | OPTION_ANY_TEXT |
@@ -281,6 +292,7 @@ void help_print(FILE *to)
           "  bhtf count FILE             print the number of points\n"
           "  bhtf list FILE              print the names\n"
           "  bhtf check FILE             say whether the file is sound\n"
+          "  bhtf compact FILE           give the space of dead texts back\n"
           "  bhtf book FILE              print the book that a file starts from\n"
           "  bhtf stat FILE              load, searches and dead bytes\n"
           "  bhtf import FILE CSV        store points from a CSV file\n"

@@ -414,22 +414,6 @@ static int read_batch(struct import *m)
 
 /* ---- storing ---- */
 
-static int refuse_line(struct import *m, const struct point *p,
-                       uint32_t number)
-{
-    const uint8_t *name = m->batch.bytes.bytes + p->name;
-    struct buffer words = { NULL, 0, 0 };
-
-    if (buffer_put(&words, name, p->text - p->name) != 0 ||
-        buffer_put_byte(&words, '\0') != 0)
-        out_of_memory();
-    else if (is_told(m))
-        refuse_point(place(m, p->line), (const char *)words.bytes, number,
-                     m->key_size);
-    buffer_free(&words);
-    return REFUSED;
-}
-
 /* The image that points are put into. */
 static struct target target(const struct import *m)
 {
@@ -440,14 +424,39 @@ static struct target target(const struct import *m)
     return to;
 }
 
+static struct piece text_of(const struct import *m, const struct point *p)
+{
+    struct piece text;
+
+    text.bytes = m->batch.bytes.bytes + p->text;
+    text.length = p->text_end - p->text;
+    return text;
+}
+
+static int refuse_line(struct import *m, const struct point *p,
+                       uint32_t number)
+{
+    const uint8_t *name = m->batch.bytes.bytes + p->name;
+    const struct piece text = text_of(m, p);
+    struct buffer words = { NULL, 0, 0 };
+
+    if (buffer_put(&words, name, p->text - p->name) != 0 ||
+        buffer_put_byte(&words, '\0') != 0)
+        out_of_memory();
+    else if (is_told(m))
+        refuse_point(place(m, p->line), (const char *)words.bytes, number,
+                     m->key_size, number == BHTF_NO_ROOM
+                         ? room_by_compaction(target(m), &m->key, &text,
+                                              mode_of(m->o)) : 0);
+    buffer_free(&words);
+    return REFUSED;
+}
+
 static void note_stored(struct import *m, const struct point *p, int present)
 {
-    const struct piece text = { m->batch.bytes.bytes + p->text,
-                                p->text_end - p->text };
-
     m->stored++;
     m->replaced += present != 0;
-    if (!looks_swapped(&m->neighbours, &m->apart, text))
+    if (!looks_swapped(&m->neighbours, &m->apart, text_of(m, p)))
         return;
     if (m->swapped++ == 0)
         m->swapped_line = p->line;
@@ -455,13 +464,12 @@ static void note_stored(struct import *m, const struct point *p, int present)
 
 static int store_point(struct import *m, const struct point *p)
 {
-    const uint8_t *bytes = m->batch.bytes.bytes;
-    const struct piece text = { bytes + p->text, p->text_end - p->text };
+    const struct piece text = text_of(m, p);
     const struct target to = target(m);
     uint32_t number, offset, size, read;
     int present = 0;
 
-    if (key_from(&m->key, bytes + p->name, p->text - p->name,
+    if (key_from(&m->key, m->batch.bytes.bytes + p->name, p->text - p->name,
                  m->key_size) != 0)
         return out_of_memory();
     if (mode_of(m->o) == BHTF_REPLACE)

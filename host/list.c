@@ -114,7 +114,7 @@ static int get_row(struct rows *r, const struct options *o,
     for (whole = key.length; whole > 0 && key.bytes[whole - 1] == 0;)
         whole--;
     if (number != BHTF_ACCEPTED)
-        status = refuse_point(o->word[0], typed, number, s->key_size);
+        status = refuse_point(o->word[0], typed, number, s->key_size, 0);
     else if (offset == 0 && r->form == ROW_TEXT)
         status = no_text(o, typed);
     else

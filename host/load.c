@@ -173,7 +173,7 @@ static int refuse_line(struct load *l, uint32_t number)
         out_of_memory();
     else
         refuse_point((const char *)place.bytes, (const char *)shown.bytes,
-                     number, (uint32_t)l->terms.key_size);
+                     number, (uint32_t)l->terms.key_size, 0);
     buffer_free(&place);
     buffer_free(&shown);
     return REFUSED;

@@ -17,7 +17,8 @@ static const char *const sentences[] = {
     "The point's message or the file's count of points is damaged.",
     "The message would be longer than 16,777,215 bytes.",
     "There is no room left in the file for the message.",
-    "There is no point of that name."
+    "There is no point of that name.",
+    "The file is not sound."
 };
 
 const char *bhtf_message(uint32_t number)

@@ -33,5 +33,6 @@ struct space space_measure(const struct buffer *copy, const struct header *h)
         note_message(&s, copy->bytes, h, slot);
         bhtf_walk(copy->bytes, copy->length, slot + 1, &slot, &place);
     }
+    s.dead = h->next - h->data - s.active;
     return s;
 }

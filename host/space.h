@@ -8,14 +8,15 @@
 struct space {
     uint64_t active;     /* bytes of active messages and their headers */
     uint64_t withdrawn;  /* bytes of inactive ones that a point keeps */
+    uint64_t dead;       /* used bytes that are not active, of a file whose
+                            slots are sound: what compaction frees */
     uint32_t texts;      /* points with a text */
     uint32_t empty;      /* of these: an empty one */
     uint32_t bare;       /* points without one */
     uint32_t bad;        /* points whose message is damaged */
 };
 
-/* Of an accepted file. If its slots are sound, what is used and not active is
- * dead. */
+/* Of an accepted file. */
 struct space space_measure(const struct buffer *copy, const struct header *h);
 
 #endif

@@ -161,12 +161,15 @@ static void print_space(const struct figures *f, const struct header *h,
     printf("data: %lu bytes, %lu used, %lu free\n",
            (unsigned long)(length - h->data), (unsigned long)used,
            (unsigned long)(length - h->next));
-    if (f->verdict == BHTF_SLOT_FAILS)
+    if (f->verdict == BHTF_SLOT_FAILS) {
         printf("dead: unknown, since the file is not sound\n");
-    else
-        printf("dead: %lu bytes, of which %lu are kept by points without a "
-               "text\n", (unsigned long)(used - f->space.active),
-               (unsigned long)f->space.withdrawn);
+        return;
+    }
+    printf("dead: %lu bytes, of which %lu are kept by points without a text\n",
+           (unsigned long)f->space.dead, (unsigned long)f->space.withdrawn);
+    if (f->verdict == BHTF_SOUND && f->space.dead > 0)
+        printf("bhtf compact would free %lu bytes\n",
+               (unsigned long)f->space.dead);
 }
 
 static int print_figures(const struct buffer *copy)

@@ -5,6 +5,7 @@
 #include "storing.h"
 
 #include "bhtf.h"
+#include "space.h"
 
 static uint32_t put(struct target to, const struct buffer *key,
                     const struct piece *text, uint32_t mode,
@@ -42,6 +43,37 @@ uint32_t store(struct target to, const struct buffer *key,
         number = ask_new(to, key, slots_read);
     return number == BHTF_ABSENT
         ? put(to, key, NULL, BHTF_APPEND, slots_read) : number;
+}
+
+/* The bytes of new space that the text asks for. */
+static uint64_t space_for(struct target to, const struct buffer *key,
+                          const struct piece *text, uint32_t mode)
+{
+    uint32_t offset = 0, kept = 0;
+
+    if (mode == BHTF_APPEND)
+        bhtf_lookup(to.image, to.length, key->bytes, key->length, &offset,
+                    &kept);
+    return BHTF_MESSAGE_HEADER + (uint64_t)kept +
+           (text == NULL ? 0 : text->length);
+}
+
+uint64_t room_by_compaction(struct target to, const struct buffer *key,
+                            const struct piece *text, uint32_t mode)
+{
+    const struct header h = header_read(to.image);
+    struct buffer view = { NULL, 0, 0 };
+    uint32_t verdict, slot;
+    uint64_t dead;
+
+    view.bytes = to.image;
+    view.length = to.length;
+    bhtf_check(to.image, to.length, &verdict, &slot);
+    if (verdict != BHTF_SOUND)
+        return 0;
+    dead = space_measure(&view, &h).dead;
+    return to.length - h.next + dead >= space_for(to, key, text, mode)
+        ? dead : 0;
 }
 
 void say_version(const char *file, uint8_t before, uint8_t now)

@@ -16,6 +16,11 @@ struct target {
 uint32_t store(struct target to, const struct buffer *key,
                const struct piece *text, uint32_t mode, uint32_t *slots_read);
 
+/* The bytes that compaction would free, if the text that found no room then
+ * had some; else 0. */
+uint64_t room_by_compaction(struct target to, const struct buffer *key,
+                            const struct piece *text, uint32_t mode);
+
 /* Says that an empty text took a file to another version than it had, if one
  * did: those who do not know that one refuse the file. Of both, the last
  * number. */

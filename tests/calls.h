@@ -36,6 +36,7 @@ struct calls {
                              const uint8_t *key, size_t key_len,
                              uint32_t *offset, uint32_t *length,
                              uint32_t *slots_read);
+    uint32_t (*compact)(uint8_t *image, size_t image_len);
 };
 
 /* The code under test. */

@@ -156,7 +156,7 @@ gives "--help" 0 'bhtf create FILE' bhtf --help
 gives "--version" 0 '^bhtf [0-9.]+, file format 1\.0\.2$' bhtf --version
 gives "no command" 2 'bhtf create FILE' bhtf
 gives "unknown command" 2 'no command frob' bhtf frob
-for command in create add withdraw delete get count list check book stat import export dump load; do
+for command in create add withdraw delete get count list check compact book stat import export dump load; do
   gives "$command --help" 0 "^bhtf $command FILE" bhtf $command --help
   gives "$command without arguments" 2 'too few arguments' bhtf $command
   gives "$command with an unknown option" 2 'unknown option --frob' bhtf $command x --frob
@@ -354,7 +354,7 @@ printf '\001\000\003' | dd of=version bs=1 seek=5 conv=notrunc status=none
 cp a header
 printf '\377' | dd of=header bs=1 seek=16 conv=notrunc status=none
 while read -r number file; do
-  for words in 'count' 'list' 'check' 'stat' 'export' 'dump' 'get:n' 'withdraw:n' 'delete:n' 'add:n:t' 'import:out1'; do
+  for words in 'count' 'list' 'check' 'compact' 'stat' 'export' 'dump' 'get:n' 'withdraw:n' 'delete:n' 'add:n:t' 'import:out1'; do
     IFS=: read -r command one two <<<"$words"
     cp "$file" before
     gives "$file: $command refused $number" 1 "refused \\($number\\)" \
@@ -473,8 +473,8 @@ damage() {
       printf '%b' "\\x$(printf %02x $((RANDOM % 256)))" |
         dd of=hurt bs=1 seek=$place conv=notrunc status=none
     done
-    for words in 'count' 'list:--long' 'check' 'book' 'stat' 'export' 'dump' 'get:CP-101' 'add:CP-102:more:--append' \
-      'add:CP-104:0:--replace' 'add:new:text' 'withdraw:CP-106' 'add:CP-103::--replace' 'delete:CP-105' 'delete:BM-1' 'import:'"$root/host/site.csv"':--replace'; do
+    for words in 'count' 'list:--long' 'check' 'compact:--dry-run' 'book' 'stat' 'export' 'dump' 'get:CP-101' 'add:CP-102:more:--append' \
+      'add:CP-104:0:--replace' 'add:new:text' 'withdraw:CP-106' 'add:CP-103::--replace' 'delete:CP-105' 'compact' 'delete:BM-1' 'import:'"$root/host/site.csv"':--replace'; do
       IFS=: read -r command one two three <<<"$words"
       clean_status "$command" hurt ${one:+"$one"} ${two:+"$two"} ${three:+"$three"} || return 1
     done
@@ -497,7 +497,7 @@ holds "import and export under the sanitizers" csv_cleanly
 
 # ---- parts in files of their own ----
 
-for part in slots notes import roundtrip habits completion; do
+for part in slots notes compact import roundtrip habits completion; do
   # shellcheck source=/dev/null
   . "$root/tests/command/$part.sh"
 done
@@ -520,6 +520,7 @@ lock a write
 gives "a reader waits for another program's lock, and says so" 2 \
   "still locked by process $locker \\(writing\\) after 1 s" bhtf count a --wait 1
 gives "so does a writer" 2 'still locked by process' bhtf add a locked x --wait 0
+gives "and one that compacts" 2 'still locked by process' bhtf compact a --wait 0
 cp a before
 gives "with standard error closed too" 2 '' sh -c 'bhtf add a locked x --wait 0 2>&-'
 holds "the locked file is as it was" cmp before a
@@ -534,6 +535,8 @@ same "a waiting reader goes on when the lock is given back" "5
 lock a read
 gives "readers read side by side" 0 '^5$' bhtf count a --wait 0
 gives "a writer waits for readers" 2 '\(reading\)' bhtf add a locked x --wait 0
+gives "so does one that compacts" 2 '\(reading\)' bhtf compact a --wait 0
+gives "its dry run is a reader" 0 'would be' bhtf compact a --dry-run --wait 0
 unlock
 
 # A file that is replaced while a writer waits for its lock.
@@ -595,6 +598,7 @@ writer() {
     bhtf add busy "W$i" "$i" || return 1
     bhtf add busy both "$a_text" --replace || return 1
     [ $((i % 10)) -ne 0 ] || bhtf delete busy "W$((i - 5))" || return 1
+    [ $((i % 4)) -ne 0 ] || bhtf compact busy --quiet || return 1
   done
   seq 3000 | sed 's/.*/I&,&,&,&,/' | bhtf import busy - --quiet -c PENZD
 }
@@ -718,8 +722,10 @@ gives "a new file's name is put on the disk" 0 'fsync of a directory' put_on_dis
 mkdir deeper
 gives "in another directory as well" 0 'fsync of a directory' put_on_disk bhtf create deeper/durable
 gives "a change is put on the disk" 0 'fsync of a file' put_on_disk bhtf add durable n x
+gives "and a compaction" 0 'fsync of a file' put_on_disk bhtf compact durable
 export FSYNC_FAILS=yes
 gives "a disk that fails at add" 2 'written to the disk: Input/output error' put_on_disk bhtf add durable m x
+gives "a disk that fails at compact" 2 'written to the disk: Input/output error' put_on_disk bhtf compact durable
 gives "a disk that fails at create" 2 'written to the disk: Input/output error' put_on_disk bhtf create lost
 unset FSYNC_FAILS
 holds "leaves no new file" test ! -e lost
@@ -748,6 +754,8 @@ gives "a read-only file can be read" 0 '^5$' as_other bhtf count readonly
 gives "and listed" 0 '^CP-1$' as_other bhtf list readonly
 gives "but not written to" 2 'cannot open: Permission denied' as_other bhtf add readonly x y
 gives "nor deleted from" 2 'Permission denied' as_other bhtf delete readonly CP-1
+gives "nor compacted" 2 'Permission denied' as_other bhtf compact readonly
+gives "but a dry run can tell" 0 'would be' as_other bhtf compact readonly -n
 holds "it is as it was" cmp a readonly
 
 # ---- a full disk ----

@@ -27,7 +27,8 @@
  * The parts stand in differential/: memory.c has what is lent; choose.c,
  * images.c, reopened.c, damage.c and splice.c make arguments and images,
  * steps.c and lists.c calls of them; compare.c and book.c hold the answers
- * against each other, and report.c says what differs. */
+ * against each other, packed.c a compaction against its definition, and
+ * report.c says what differs. */
 #define _DEFAULT_SOURCE
 
 #include "differential/parts.h"
@@ -43,7 +44,7 @@
 #endif
 
 struct run run;
-uint64_t seen[KINDS][15];
+uint64_t seen[KINDS][NUMBERS];
 struct list list;
 
 static void read_options(int argc, char **argv)
@@ -96,12 +97,12 @@ static int is_over(time_t start)
 static void print_seen(void)
 {
     printf("answers seen:\n%-8s", "");
-    for (int n = 0; n < 15; n++)
+    for (int n = 0; n < NUMBERS; n++)
         printf(" %9d", n);
     printf("\n");
     for (int k = 0; k < KINDS; k++) {
         printf("%-8s", kind_name[k]);
-        for (int n = 0; n < 15; n++)
+        for (int n = 0; n < NUMBERS; n++)
             printf(" %9llu", (unsigned long long)seen[k][n]);
         printf("\n");
     }

@@ -474,6 +474,77 @@ misbook "the book: nothing appended is a note" \
 misbook "the book read off: an empty message is none" \
     "if (at[0] == 'a')" "if (at[0] == 'a' && e->held > 0)"
 
+# Compaction.
+fault "15 not asked" \
+    'if (verdict != 0)' 'if (0)'
+fault "15 of a slot only" \
+    'if (verdict != 0)' 'if (verdict == 1)'
+fault "15 writes behind X" \
+    'if (verdict != 0)' \
+    'if (verdict != 0 && open_image(&v, image, image_len) == ACCEPTED) memset(image + v.next, 0, v.length - v.next); if (verdict != 0)'
+fault "a dead message comes back" \
+    'if (old.active)' 'if (old.offset != 0)'
+fault "an inactive message keeps its offset" \
+    'write_offset(image, v, slot, 0);' '(void)image;'
+fault "an inactive message keeps its offset where nothing moves" \
+    'write_offset(image, v, slot, 0);' \
+    'if (v->next - v->data > 40) write_offset(image, v, slot, 0);'
+fault "offsets of empty slots are zeroed" \
+    'if (!is_taken(v, slot) || message_in(v, slot) == 0)' 'if (0)'
+fault "messages are moved in the order of slots" \
+    'qsort(s, active, sizeof *s, by_start);' ';'
+fault "the last message is not moved" \
+    'for (uint32_t i = 0; i < active; i++) {' \
+    'for (uint32_t i = 0; i + 1 < active || (i == 0 && active == 1); i++) {'
+fault "a message is moved in front of D" \
+    'uint32_t to = v->data;' 'uint32_t to = v->data - (active > 0);'
+fault "messages stay one byte apart" \
+    'to += size;' 'to += size + (to + size < s[i].start);'
+fault "the first gap stays" \
+    'uint32_t to = v->data;' \
+    'if (active > 0) qsort(s, active, sizeof *s, by_start); uint32_t to = active > 0 ? s[0].start : v->data;'
+fault "the text is moved without its last byte" \
+    'memmove(image + to, image + s[i].start, size);' \
+    'memmove(image + to, image + s[i].start, size - 1);'
+fault "the copy begins at the end" \
+    'memmove(image + to, image + s[i].start, size);' \
+    'for (uint32_t k = size; k > 0; k--) image[to + k - 1] = image[s[i].start + k - 1];'
+fault "a slot is not rewritten" \
+    'write_offset(image, v, s[i].slot, to);' \
+    'if (i != 1) write_offset(image, v, s[i].slot, to);'
+fault "an empty note is dropped" \
+    'if (old.active)' 'if (old.active && old.length > 0)'
+fault "zeros up to the old X only" \
+    'memset(image + end, 0, v.length - end);' \
+    'memset(image + end, 0, v.next - end);'
+fault "no zeros" \
+    'memset(image + end, 0, v.length - end);' ''
+fault "no zeros where X stays" \
+    'memset(image + end, 0, v.length - end);' \
+    'if (end != v.next) memset(image + end, 0, v.length - end);'
+fault "X stays" \
+    'put32(image + AT_NEXT, end);' ''
+fault "M stays" \
+    'put32(image + AT_LAST_PAGE, last_page(v.data, end));' ''
+fault "M is written though X stays" \
+    'if (end != v.next) {' 'if (1) {'
+fault "compaction sets the version" \
+    'memset(image + end, 0, v.length - end);' \
+    'memset(image + end, 0, v.length - end); image[AT_LAST_VERSION] = NOTES_VERSION;'
+fault "compaction counts points anew" \
+    'memset(image + end, 0, v.length - end);' \
+    'memset(image + end, 0, v.length - end); if (end == v.data) put32(image + AT_COUNT, 0);'
+misbook "the book: compaction keeps held" \
+    'e->held = e->noted ? e->length : 0;' ''
+misbook "the book: compaction keeps U" \
+    'b->used = 0;' ''
+misbook "the book: compaction keeps offsets" \
+    'e->placed = e->noted;' ''
+misbook "the book: U does not count an empty text" \
+    'if (e->noted)' 'if (e->length > 0)'
+misbook "the book: U counts a header for no text" \
+    'if (e->noted)' 'if (1)'
+
 # Two points on one message.
 fault "check does not ask whether messages share bytes" \
     'return first_meeting(s, noted, slot);' \

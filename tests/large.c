@@ -1,5 +1,6 @@
 /* Images and tables at the limits: 1 GiB, 1,048,576 slots, and messages of
- * 16,777,215 bytes, which only images beyond the old limit can hold.
+ * 16,777,215 bytes, which only images beyond the old limit can hold; their
+ * compaction.
  * Ends with "N passed, M failed". Takes some 1.2 GiB of memory. */
 #define _DEFAULT_SOURCE
 
@@ -226,6 +227,31 @@ static const char *name_of(uint32_t i)
     return name;
 }
 
+/* Every third of the longest messages goes; then they are moved down. */
+static void pack_full_image(uint32_t whole)
+{
+    const uint32_t space = HEAD + MESSAGE_MAX, data = PAGE;
+    uint32_t kept = 0;
+
+    for (uint32_t i = 1; i < whole; i += 3)
+        subject.remove(image, GIB, (const uint8_t *)name_of(i), 4);
+    expect("compact 1 GiB", subject.compact(image, GIB), 0);
+    for (uint32_t i = 0; i < whole; i++)
+        if (i % 3 != 1)
+            expect_text("  a text", GIB, name_of(i), data + kept++ * space,
+                        texts + i, MESSAGE_MAX);
+    expect("  X", field(52), data + kept * space);
+    expect("  M", field(56), (kept * space - 1) / PAGE);
+    expect("  zeros behind it",
+           are_zero(image + data + kept * space, GIB - data - kept * space),
+           1);
+    expect("  count", count(GIB), kept + 1);
+    expect_sound("  sound", GIB);
+    expect("  its space again", add(GIB, "last", texts, MESSAGE_MAX, 1), 0);
+    expect_text("  its bytes", GIB, "last", data + kept * space, texts,
+                MESSAGE_MAX);
+}
+
 static void test_full_image(void)
 {
     const uint32_t space = HEAD + MESSAGE_MAX, whole = 63;
@@ -271,6 +297,7 @@ static void test_full_image(void)
     expect("delete", subject.remove(image, GIB, (const uint8_t *)"last", 4), 0);
     expect("  the letter", image[last], 'd');
     expect("  count", count(GIB), whole + 1);
+    pack_full_image(whole);
     madvise(image, GIB, MADV_DONTNEED);
 }
 
@@ -334,6 +361,49 @@ static void test_full_table(void)
     munmap(plain, length);
 }
 
+/* ---- compaction of some 500,000 messages, beside plain C ---- */
+
+/* The same call on both; is it accepted by both? */
+static int both_add(uint8_t *plain, size_t length, const uint8_t *name,
+                    uint32_t size, uint32_t mode)
+{
+    return subject.add(image, length, name, 5, texts + name[0], size, mode) +
+               plain_add(plain, length, name, 5, texts + name[0], size,
+                         mode) == 0;
+}
+
+static void test_many_messages(void)
+{
+    const uint32_t points = 700000;
+    const size_t length = 8192 * (size_t)PAGE;
+    uint8_t *plain = map(length);
+    uint32_t done = 0;
+    uint8_t name[5];
+
+    subject.create(image, length, 5, SLOTS_MAX, 1);
+    plain_create(plain, length, 5, SLOTS_MAX, 1);
+    for (uint32_t i = 0; i < points; i++) {
+        spell(i, name);
+        done += both_add(plain, length, name, i % 9, 1);
+    }
+    for (uint32_t i = 0; i < points; i += 3) {
+        spell(i, name);
+        done += both_add(plain, length, name, i % 7, i % 2 == 0 ? 2 : 4);
+    }
+    for (uint32_t i = 0; i < points; i += 10) {
+        spell(i, name);
+        done += subject.remove(image, length, name, 5) +
+                    plain_delete(plain, length, name, 5) == 0;
+    }
+    expect("calls accepted", done, points + (points + 2) / 3 + points / 10);
+    expect("as plain C", memcmp(plain, image, length) == 0, 1);
+    expect("compact", subject.compact(image, length), 0);
+    expect("compact, plain C", plain_compact(plain, length), 0);
+    expect("as plain C", memcmp(plain, image, length) == 0, 1);
+    expect_sound("sound", length);
+    munmap(plain, length);
+}
+
 int main(void)
 {
     image = map((size_t)GIB + PAGE);
@@ -344,6 +414,7 @@ int main(void)
     test_longest_message();
     test_full_image();
     test_full_table();
+    test_many_messages();
     printf("%u passed, %u failed\n", passed, failed);
     return failed == 0 ? 0 : 1;
 }

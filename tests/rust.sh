@@ -65,6 +65,15 @@ test_that "the fault of version two is found" finds two
 edited tests/reference/plain.c 's/^    if (m.active) {$/    if (m.active \&\& m.length > 0) {/' "$work/none.c"
 plain none "$work/none.c" || exit 2
 test_that "plain C that looks an empty note up as none: found" finds none
+edited tests/reference/plain.c 's/^        put32(image + AT_NEXT, end);$/        ;/' "$work/kept.c"
+plain kept "$work/kept.c" || exit 2
+test_that "plain C whose compaction leaves X: found" finds kept
+edited tests/reference/plain.c 's/^        if (old.active)$/        if (old.length > 0)/' "$work/back.c"
+plain back "$work/back.c" || exit 2
+test_that "plain C whose compaction brings back what was withdrawn, and drops notes: found" finds back
+edited tests/reference/plain.c 's/^        return 15;$/        return memset(image + 2048, 0, 4), 15;/' "$work/wrote.c"
+plain wrote "$work/wrote.c" || exit 2
+test_that "plain C whose refused compaction writes: found" finds wrote
 edited tests/reference/plain.c 's/^            f.ending = MET;$/& f.read--;/' "$work/met.c"
 plain met "$work/met.c" || exit 2
 test_that "plain C that does not count the slot where the key is met: found" finds met

@@ -1,6 +1,6 @@
-/* How much stack the check takes: it runs on a thread whose stack is little
- * larger than the header (host/bhtf.h) says, with an unreadable page at its
- * end, and the bytes that it wrote there are counted.
+/* How much stack the check and the compaction take: each runs on a thread whose
+ * stack is little larger than the header (host/bhtf.h) says, with an unreadable
+ * page at its end, and the bytes that it wrote there are counted.
  * Ends with "N passed, 0 failed". */
 #define _DEFAULT_SOURCE
 
@@ -12,11 +12,11 @@
 #include <sys/mman.h>
 
 /* What the header says, and what the thread itself may take besides. */
-enum { SAID = 307200, BESIDES = 20480, STACK = SAID + BESIDES };
+enum { CHECK_SAID = 307200, COMPACT_SAID = 1376256, BESIDES = 20480 };
 enum { PAGE = 4096, PAINT = 0xA7, KEY = 4, TEXT = 200 };
 
 struct asked {
-    const uint8_t *image;
+    uint8_t *image;
     size_t length;
     uint32_t number;
     uint32_t verdict;
@@ -52,15 +52,24 @@ static void *run_check(void *given)
     return NULL;
 }
 
+static void *run_compact(void *given)
+{
+    struct asked *a = given;
+
+    a->number = subject.compact(a->image, a->length);
+    return NULL;
+}
+
 static void *run_nothing(void *given)
 {
     return given;
 }
 
 /* Runs it on such a stack; answers how many bytes were written to, or 0. */
-static size_t stack_of(void *(*run)(void *), struct asked *a)
+static size_t stack_of(void *(*run)(void *), size_t said, struct asked *a)
 {
-    uint8_t *wall = map(PAGE + STACK);
+    size_t size = said + BESIDES;
+    uint8_t *wall = map(PAGE + size);
     uint8_t *stack = wall + PAGE;
     pthread_attr_t with;
     pthread_t thread;
@@ -68,20 +77,21 @@ static size_t stack_of(void *(*run)(void *), struct asked *a)
 
     if (wall == NULL || mprotect(wall, PAGE, PROT_NONE) != 0)
         return 0;
-    memset(stack, PAINT, STACK);
+    memset(stack, PAINT, size);
     if (pthread_attr_init(&with) != 0 ||
-        pthread_attr_setstack(&with, stack, STACK) != 0 ||
+        pthread_attr_setstack(&with, stack, size) != 0 ||
         pthread_create(&thread, &with, run, a) != 0)
         return 0;
     pthread_join(thread, NULL);
     pthread_attr_destroy(&with);
-    while (free_bytes < STACK && stack[free_bytes] == PAINT)
+    while (free_bytes < size && stack[free_bytes] == PAINT)
         free_bytes++;
-    munmap(wall, PAGE + STACK);
-    return STACK - free_bytes;
+    munmap(wall, PAGE + size);
+    return size - free_bytes;
 }
 
-/* So many slots half full, in an image of that length. */
+/* So many slots half full, in an image of that length; every third message is
+ * withdrawn. */
 static void fill(uint8_t *image, size_t length, uint32_t slots)
 {
     uint8_t text[TEXT];
@@ -94,6 +104,8 @@ static void fill(uint8_t *image, size_t length, uint32_t slots)
         key[2] = (uint8_t)(i >> 8);
         key[3] = (uint8_t)i;
         subject.add(image, length, key, KEY, text, sizeof text, 1);
+        if (i % 3 == 0)
+            subject.add(image, length, key, KEY, NULL, 0, 4);
     }
 }
 
@@ -101,21 +113,26 @@ static void try(const char *what, size_t length, uint32_t slots)
 {
     uint8_t *image = map(length);
     struct asked a = { image, length, 77, 77, 77 };
-    size_t thread, taken;
+    size_t thread, taken, packing;
 
     if (image == NULL) {
         failed++;
         return;
     }
     fill(image, length, slots);
-    thread = stack_of(run_nothing, &a);
-    taken = stack_of(run_check, &a);
-    expect("the thread ran", thread > 0 && taken > 0, 1);
+    thread = stack_of(run_nothing, CHECK_SAID, &a);
+    taken = stack_of(run_check, CHECK_SAID, &a);
     expect("answer", a.number, 0);
     expect("verdict", a.verdict, 0);
-    expect("the check takes what the header says", taken <= SAID + thread, 1);
-    printf("%s: %zu bytes of stack, %zu of them the thread's own\n", what,
-           taken, thread);
+    packing = stack_of(run_compact, COMPACT_SAID, &a);
+    expect("answer", a.number, 0);
+    expect("the threads ran", thread > 0 && taken > 0 && packing > 0, 1);
+    expect("the check takes what the header says",
+           taken <= CHECK_SAID + thread, 1);
+    expect("compaction takes what the header says",
+           packing <= COMPACT_SAID + thread, 1);
+    printf("%s: check %zu bytes of stack, compaction %zu, %zu of them the "
+           "thread's own\n", what, taken, packing, thread);
     munmap(image, length);
 }
 

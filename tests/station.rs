@@ -35,6 +35,7 @@ extern "C" {
         length: *mut u32,
         slots_read: *mut u32,
     ) -> u32;
+    fn bhtf_compact(image: *mut u8, len: usize) -> u32;
 }
 
 const HEADER: usize = 4;
@@ -95,6 +96,10 @@ impl File {
         let number =
             unsafe { bhtf_lookup_slots(image.as_ptr(), image.len(), key.as_ptr(), key.len(), &mut at, &mut length, &mut read) };
         (number, self.shown(at, length), read)
+    }
+
+    fn compact(&mut self) -> u32 {
+        unsafe { bhtf_compact(self.0.as_mut_ptr(), self.0.len()) }
     }
 
     fn count(&self) -> (u32, u32) {
@@ -241,6 +246,16 @@ impl Book {
                 self.place(key, text)
             }
         }
+    }
+
+    /// Only texts take space now, and as much as they are long.
+    fn compact(&mut self) -> u32 {
+        for point in self.points.values_mut() {
+            point.placed = point.text.is_some();
+            point.held = point.text.as_ref().map_or(0, Vec::len);
+        }
+        self.used = self.points.values().filter(|p| p.placed).map(|p| HEADER + p.held).sum();
+        0
     }
 
     fn delete(&mut self, key: &[u8]) -> u32 {
@@ -447,6 +462,19 @@ fn fill_table(image: &mut [u8], names: &[Vec<u8>]) {
     }
 }
 
+/// An image that is not sound answers 15 and stays as it is.
+fn refuses_unsound(file: &File) -> Result<(), String> {
+    let mut other = File(file.0.clone());
+    let points = field(&other.0, 20);
+    put(&mut other.0, 20, if points == 0 { 1 } else { points - 1 });
+    let before = other.0.clone();
+    match other.compact() {
+        15 if other.0 == before => Ok(()),
+        15 => Err("a refused compaction wrote".into()),
+        number => Err(format!("compaction of a wrong count answered {number}")),
+    }
+}
+
 /// A sound image, and names to call: those it holds, and in a table with empty slots some more.
 fn sound_image(chance: &mut Chance) -> (Vec<u8>, Vec<Vec<u8>>) {
     let (key_size, wanted) = shape(chance);
@@ -505,8 +533,8 @@ fn call(
     // none where the call is refused before its search
     let searches = if book.named(key) { slots_read(&file.0, key) as u32 } else { 0 };
     let read = |n| counted.then_some(if n == 8 { 0 } else { searches });
-    match chance.below(10) {
-        0..=4 => {
+    match chance.below(21) {
+        0..=9 => {
             let size = [0, 1, 5, 40, book.room][chance.below(5)];
             let length = chance.below(size + 1);
             let data = chance.bytes(length);
@@ -516,12 +544,12 @@ fn call(
                 if counted { with_read(file.add_slots(key, &data, mode)) } else { number(file.add(key, &data, mode)) };
             ("add", got, (want, None, read(want)))
         }
-        5 | 6 => {
+        10..=13 => {
             let want = book.delete(key);
             let got = if counted { with_read(file.delete_slots(key)) } else { number(file.delete(key)) };
             ("delete", got, (want, None, read(want)))
         }
-        7 | 8 => {
+        14..=17 => {
             let (want, text) = book.lookup(key);
             let got = if counted {
                 let (number, text, read) = file.lookup_slots(key);
@@ -532,6 +560,7 @@ fn call(
             };
             ("lookup", got, (want, text, read(want)))
         }
+        18 => ("compact", number(file.compact()), number(book.compact())),
         _ => {
             let (number, points) = file.count();
             let want = book.points.len() as u32;
@@ -605,6 +634,9 @@ fn from_image(chance: &mut Chance, ran: &mut Ran) -> Result<usize, String> {
     }
     let mut book = Book::read(&file.0);
     ran.start(&file.0, &book);
+    if chance.one_in(20) {
+        refuses_unsound(&file)?;
+    }
     let calls = calls(chance, &mut file, &mut book, &known)?;
     same_points(&file, &book).map(|()| calls)
 }

@@ -32,10 +32,11 @@ uint32_t bhtf_lookup_slots(const uint8_t *image, size_t image_len,
                            const uint8_t *key, size_t key_len,
                            uint32_t *offset, uint32_t *length,
                            uint32_t *slots_read);
+uint32_t bhtf_compact(uint8_t *image, size_t image_len);
 
 const struct calls subject = {
     bhtf_create,    bhtf_add,          bhtf_delete,
     bhtf_lookup,    bhtf_count,        bhtf_walk,
     bhtf_check,     bhtf_add_slots,    bhtf_delete_slots,
-    bhtf_lookup_slots,
+    bhtf_lookup_slots, bhtf_compact,
 };

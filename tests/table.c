@@ -1,5 +1,5 @@
-/* 01's proved table, 02's empty notes and the generator, run on the code under
- * test. Ends with "N passed, 0 failed".
+/* 01's proved table, 02's empty notes and compaction, and the generator, run on
+ * the code under test. Ends with "N passed, 0 failed".
  *
  * The hash is not an export; it is seen through home slots: on an empty table
  * an added key lands in slot hash mod N. 65536, 65535 and 65533 have no
@@ -295,6 +295,93 @@ static void no_room_for_notes(void)
     expect_note("U", 0, NONE);
 }
 
+/* ---- compaction ---- */
+
+static uint32_t compact(void)
+{
+    return subject.compact(image, length);
+}
+
+/* Freed space is used again: 4,092 bytes fit after delete and compaction. */
+static void space_again(void)
+{
+    static const char bytes[5000];
+
+    create(8192, 1, 4, 0);
+    expect("4092 bytes", add(1, bytes, 4092, 1), 0);
+    expect("delete", delete(1), 0);
+    expect("another byte", add(2, bytes, 1, 1), 13);
+    expect("compact", compact(), 0);
+    expect("U", get32(AT_NEXT) - get32(AT_DATA), 0);
+    expect("M", get32(AT_LAST_PAGE), 0xFFFFFFFFu);
+    expect("4092 bytes again", add(2, bytes, 4092, 1), 0);
+    expect("X", get32(AT_NEXT), 8192);
+}
+
+/* Byte 1 is replaced by a longer text, byte 3 withdrawn; the messages of bytes
+ * 2 and 1, in slots 1 and 3, stay. */
+static void packing(void)
+{
+    create(8192, 1, 4, 0);
+    add(1, "first", 5, 1);
+    add(3, "gone", 4, 1);
+    add(2, "QR", 2, 1);
+    add(1, "second", 6, 2);
+    add(3, NULL, 0, 4);
+    put32(8000, 0x12345678);
+    expect("U", get32(AT_NEXT) - get32(AT_DATA), 9 + 8 + 6 + 10);
+    expect("compact", compact(), 0);
+    expect("U", get32(AT_NEXT) - get32(AT_DATA), 6 + 10);
+    expect("M", get32(AT_LAST_PAGE), 0);
+    expect("first message", get32(4096), 0x61000002u);
+    expect("second message", get32(4102), 0x61000006u);
+    expect("its text", memcmp(image + 4106, "second", 6), 0);
+    expect("offset of byte 2", get32(TABLE + 5 * 1 + 1), 4096);
+    expect("offset of byte 3", get32(TABLE + 5 * 0 + 1), 0);
+    expect("offset of byte 1", get32(TABLE + 5 * 3 + 1), 4102);
+    expect("behind X", get32(4112) | get32(8000), 0);
+    expect("replaced by 6", add(1, "secret", 6, 2), 0);
+    expect("U", get32(AT_NEXT) - get32(AT_DATA), 16);
+    expect("compact again", compact(), 0);
+    expect("U", get32(AT_NEXT) - get32(AT_DATA), 16);
+}
+
+/* Nothing dead: M stays, even a wrong one; bytes behind X do not. */
+static void nothing_dead(void)
+{
+    create(8192, 1, 4, 0);
+    add(1, "P", 1, 1);
+    put32(AT_LAST_PAGE, 77);
+    put32(8188, 77);
+    expect("compact", compact(), 0);
+    expect("X", get32(AT_NEXT), 4101);
+    expect("M", get32(AT_LAST_PAGE), 77);
+    expect("behind X", get32(8188), 0);
+}
+
+/* 15 for a wrong count, and for two points on one message; 5 and 6 before. */
+static void unsound(void)
+{
+    create(8192, 1, 4, 0);
+    add(1, "P", 1, 1);
+    add(2, "Q", 1, 1);
+    put32(8188, 77);
+    put32(AT_COUNT, 1);
+    expect("wrong count", compact(), 15);
+    put32(AT_COUNT, 5);
+    expect("question 6", compact(), 6);
+    put32(AT_COUNT, 2);
+    put32(TABLE + 5 * 0 + 1, 4096);
+    expect("one message", compact(), 15);
+    expect("the image as it was", get32(8188), 77);
+    expect("X", get32(AT_NEXT), 4106);
+    image[0]++;
+    expect("question 5", compact(), 5);
+    image[0]--;
+    length--;
+    expect("question 1", compact(), 1);
+}
+
 /* ---- the generator ---- */
 
 /* Powers of the multiplier and their sums, by another route than one step
@@ -340,6 +427,10 @@ int main(void)
     lister_example();
     notes();
     no_room_for_notes();
+    space_again();
+    packing();
+    nothing_dead();
+    unsound();
     generator();
     free(image);
     printf("%u passed, %u failed\n", passed, failed);

@@ -60,4 +60,9 @@ test_that "found: a note in place leaves the version" \
 test_that "found: a note is written at offset 0" \
     finds 'mode == MODE_REPLACE && old.offset != 0 && data_len' \
     'mode == MODE_REPLACE && data_len'
+test_that "found: messages that touch move as one too many" \
+    finds 'i < count && moves[i].from == end; i++' \
+    'i < count && moves[i].from <= end + 1; i++'
+test_that "found: a digit of the places is not sorted by" \
+    finds 'shift < 32; shift += 11' 'shift < 11; shift += 11'
 tally

@@ -52,6 +52,10 @@ void compare_book(const struct call *c, const struct answer *a)
         same_as_book("answer", a->number,
                      book_delete(b, c->key, c->key_len));
         break;
+    case COMPACT:
+        same_as_book("answer", a->number, 0);
+        book_compact(b);
+        break;
     case LOOKUP:
         compare_lookup(c, a);
         break;

@@ -14,7 +14,7 @@ static const struct calls plain = {
     plain_create,   plain_add,         plain_delete,
     plain_lookup,   plain_count,       plain_walk,
     plain_check,    plain_add_slots,   plain_delete_slots,
-    plain_lookup_slots,
+    plain_lookup_slots, plain_compact,
 };
 
 /* A longer slice than the image starts in the bytes before it. */
@@ -60,6 +60,9 @@ static struct answer perform(const struct calls *f, uint8_t *image,
         break;
     case DELETE:
         a.number = f->remove(s, n, c->key, c->key_len);
+        break;
+    case COMPACT:
+        a.number = f->compact(s, n);
         break;
     case LOOKUP:
         a.number = f->lookup(s, n, c->key, c->key_len, &a.first, &a.second);
@@ -149,7 +152,7 @@ static int all_guard(const uint8_t *at, uint32_t size)
 static void compare_bytes(const struct call *c, uint32_t number)
 {
     same_bytes("image", lent.library, "library", lent.plain, "plain");
-    if (c->kind > DELETE || number != 0)
+    if (c->kind > COMPACT || number != 0)
         same_bytes("a refused or reading call changed the image",
                    lent.library, "after", lent.before, "before");
     if (!all_guard(lent.library - GUARD, GUARD) ||
@@ -164,12 +167,14 @@ static void keep_old_limits(void)
         poke32(16, OLD_SLOTS);
 }
 
-/* What 02 gave another meaning, and create's version: empty data in modes 1
- * and 2, and mode 4. */
+/* What 02 brought or gave another meaning: compaction, mode 4, and empty data
+ * in modes 1 and 2. */
 static void keep_old_calls(void)
 {
     struct call *c = &list.now;
 
+    if (c->kind == COMPACT)
+        c->kind = CHECK;
     if (c->mode == 4 || (c->data_len == 0 && (c->mode == 1 || c->mode == 2)))
         c->mode = 3;
 }
@@ -198,9 +203,11 @@ struct answer run_call(void)
     compare_bytes(c, a.number);
     if (list.with_book)
         compare_book(c, &a);
-    if (c->kind <= DELETE && a.number == 0)
+    if (c->kind == COMPACT && a.number == 0)
+        compare_packed();
+    if (c->kind <= COMPACT && a.number == 0)
         memcpy(lent.before, lent.library, lent.length);
-    seen[c->kind][a.number < 15 ? a.number : 0]++;
+    seen[c->kind][a.number < NUMBERS ? a.number : 0]++;
     return a;
 }
 
@@ -209,6 +216,6 @@ void new_call(enum kind kind)
     memset(&list.now, 0, sizeof list.now);
     list.now.kind = kind;
     list.now.image_len = lent.length;
-    list.now.counted = kind >= ADD && kind <= LOOKUP && !run.old_calls &&
-                       !one_in(4);
+    list.now.counted = (kind == ADD || kind == DELETE || kind == LOOKUP) &&
+                       !run.old_calls && !one_in(4);
 }

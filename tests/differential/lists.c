@@ -3,8 +3,8 @@
 
 /* ---- with the book ---- */
 
-static const uint8_t usual[] = { 0, 52, 72, 87, 90, 94, 98 };
-static const uint8_t many_deletes[] = { 0, 40, 78, 90, 92, 95, 99 };
+static const uint8_t usual[] = { 0, 52, 68, 73, 87, 90, 94, 98 };
+static const uint8_t many_deletes[] = { 0, 40, 74, 80, 90, 92, 95, 99 };
 
 /* The walk shows as many points as the book has, upwards. */
 static void walk_all(void)
@@ -98,6 +98,8 @@ void list_reopened(void)
     list.with_book = 1;
     step_plain(CHECK);
     close_list();
+    if (one_in(3))
+        step_compact();
     while (calls-- > 0)
         step(weights);
     close_list();
@@ -122,7 +124,7 @@ static void step_shorter(void)
 
 void list_on_damage(void)
 {
-    static const uint8_t weights[] = { 0, 36, 64, 78, 82, 89, 98 };
+    static const uint8_t weights[] = { 0, 36, 60, 66, 78, 82, 89, 98 };
     uint32_t style = below(16);
     uint32_t calls = 4 + below(40);
 

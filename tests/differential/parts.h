@@ -16,7 +16,10 @@
 #define GUARD_BYTE 0xA7
 #define NAMES 64u
 
-enum kind { CREATE, ADD, DELETE, LOOKUP, COUNT, WALK, CHECK, KINDS };
+/* Those up to compaction write the image. */
+enum kind { CREATE, ADD, DELETE, COMPACT, LOOKUP, COUNT, WALK, CHECK, KINDS };
+
+#define NUMBERS 16 /* answers from 0 to 15 */
 
 extern const char *const kind_name[KINDS];
 
@@ -58,7 +61,7 @@ struct run {
 extern struct run run;
 
 /* Seen answers, call by call. */
-extern uint64_t seen[KINDS][15];
+extern uint64_t seen[KINDS][NUMBERS];
 
 /* The list being run. */
 struct list {
@@ -180,6 +183,7 @@ size_t wrong_image_length(void);
 uint32_t create(uint32_t key_size, uint32_t slots);
 void step_add(void);
 void step_plain(enum kind kind);
+void step_compact(void);
 
 /* A create that may be refused with 2, 3 or 4, or several at once. */
 void step_create(void);
@@ -226,6 +230,11 @@ void random_image(void);
 /* ---- sound images of others (reopened.c) ---- */
 
 void sound_image(void);
+
+/* ---- compaction by its definition (packed.c) ---- */
+
+/* After an accepted one: the image against the one before. */
+void compare_packed(void);
 
 /* ---- damage.c, splice.c, lists.c ---- */
 

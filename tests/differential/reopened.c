@@ -6,6 +6,23 @@
 
 #include <string.h>
 
+/* How messages stand: of eight so many are inactive; gaps between them; X where
+ * the last one ends. */
+static struct layout {
+    uint32_t inactive;
+    int gaps;
+    int tight;
+} layout;
+
+static void choose_layout(void)
+{
+    static const uint32_t parts[] = { 3, 3, 3, 6, 0, 8 };
+
+    layout.inactive = PICK(parts);
+    layout.gaps = below(3) > 0;
+    layout.tight = one_in(3);
+}
+
 static int is_known(const uint8_t *name, uint32_t names)
 {
     for (uint32_t i = 0; i < names; i++)
@@ -72,15 +89,17 @@ static int is_taken(uint32_t slot)
     return 0;
 }
 
-/* A message of the slot at that place or a little behind; answers its end,
- * or the place if there is no room. */
+/* A message of the slot at that place or behind it; answers its end, or the
+ * place if there is no room. */
 static uint32_t place_message(uint32_t slot, uint32_t at)
 {
-    uint32_t start = at + (one_in(3) ? below(8) : 0);
+    uint32_t start = at;
     uint32_t least = run.old_calls ? 1 : 0;
     uint32_t end = field(52);
     uint32_t space, length = 0;
 
+    if (layout.gaps && one_in(3))
+        start += one_in(6) ? below(end - at + 1) : below(8);
     if (start + 4 + least > end)
         return at;
     space = end - start - 4;
@@ -88,25 +107,40 @@ static uint32_t place_message(uint32_t slot, uint32_t at)
         length = 1 + below(space < 12 ? space : 12);
     if (one_in(16))
         length = space;
-    poke32(start, (uint32_t)(one_in(3) ? 'd' : 'a') << 24 | length);
+    poke32(start, (uint32_t)(below(8) < layout.inactive ? 'd' : 'a') << 24 |
+                      length);
     poke32(slot_at(slot) + list.key_size, start);
     return start + 4 + length;
 }
 
-/* Messages from D on, those of the slots from a random one on, round. */
+/* The slots in any order. */
+static void shuffle(uint32_t *order)
+{
+    for (uint32_t i = 0; i < list.slots; i++) {
+        uint32_t j = below(i + 1);
+
+        order[i] = order[j];
+        order[j] = i;
+    }
+}
+
+/* Messages from D on, in any order of the slots. */
 static void place_messages(void)
 {
-    uint32_t first = below(list.slots);
+    uint32_t order[NAMES];
     uint32_t at = field(48);
 
+    shuffle(order);
     for (uint32_t i = 0; i < list.slots; i++) {
-        uint32_t slot = (first + i) % list.slots;
+        uint32_t slot = order[i];
 
         if (is_taken(slot) && below(4) > 0)
             at = place_message(slot, at);
         else if (!is_taken(slot) && one_in(3))
             poke32(slot_at(slot) + list.key_size, random32());
     }
+    if (layout.tight)
+        poke32(52, at);
 }
 
 void sound_image(void)
@@ -132,5 +166,6 @@ void sound_image(void)
         fill_table();
     else
         add_some();
+    choose_layout();
     place_messages();
 }

@@ -9,7 +9,7 @@
 #include <unistd.h>
 
 const char *const kind_name[KINDS] = {
-    "create", "add", "delete", "lookup", "count", "walk", "check",
+    "create", "add", "delete", "compact", "lookup", "count", "walk", "check",
 };
 
 static void print_key(const struct call *c)

@@ -259,6 +259,8 @@ static void splice_and_check(void)
         fail("the check's word, pair by pair");
     if (a.first == 1 && a.second != failing)
         fail_number("failing slot", "library", a.second, "pairs", failing);
+    if (one_in(2))
+        step_compact();
 }
 
 /* A key that its search may not find any more. */
@@ -272,7 +274,7 @@ static void damage_key(void)
 
 void list_on_splice(void)
 {
-    static const uint8_t weights[] = { 0, 40, 60, 70, 74, 79, 100 };
+    static const uint8_t weights[] = { 0, 40, 56, 62, 70, 74, 79, 100 };
 
     list.with_book = 0;
     grow_table();

@@ -38,6 +38,14 @@ void step_plain(enum kind kind)
     run_call();
 }
 
+/* Compaction; a second one finds nothing to do. */
+void step_compact(void)
+{
+    step_plain(COMPACT);
+    if (one_in(4))
+        step_plain(COMPACT);
+}
+
 void step_wrong_length(void)
 {
     new_call((enum kind)below(KINDS));
@@ -132,6 +140,8 @@ void step(const uint8_t *weights)
         step_add();
     else if (style < weights[DELETE])
         step_key(DELETE);
+    else if (style < weights[COMPACT])
+        step_compact();
     else if (style < weights[LOOKUP])
         step_key(LOOKUP);
     else if (style < weights[COUNT])

@@ -230,3 +230,18 @@ uint32_t book_count(const struct book *b)
 {
     return b->count;
 }
+
+/* Held becomes the text's length, only a text that is not none has an offset,
+ * and U is what these take. */
+void book_compact(struct book *b)
+{
+    b->used = 0;
+    for (uint32_t i = 0; i < b->count; i++) {
+        struct entry *e = &b->entries[i];
+
+        e->placed = e->noted;
+        e->held = e->noted ? e->length : 0;
+        if (e->noted)
+            b->used += 4 + (uint64_t)e->held;
+    }
+}

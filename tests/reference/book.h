@@ -44,4 +44,7 @@ uint32_t book_lookup(const struct book *b, const uint8_t *key,
                      size_t key_len, const struct entry **entry);
 uint32_t book_count(const struct book *b);
 
+/* The step of compaction. */
+void book_compact(struct book *b);
+
 #endif

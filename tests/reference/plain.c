@@ -808,3 +808,67 @@ uint32_t plain_check(const uint8_t *image, size_t image_len,
     }
     return ACCEPTED;
 }
+
+/* ---- compaction ---- */
+
+/* The active messages of taken slots; the offsets of inactive ones become 0. */
+static uint32_t collect(uint8_t *image, const struct view *v,
+                        struct stretch *s)
+{
+    struct message old;
+    uint32_t active = 0;
+
+    for (uint32_t slot = 0; slot < v->slots; slot++) {
+        if (!is_taken(v, slot) || message_in(v, slot) == 0)
+            continue;
+        read_message(v, message_in(v, slot), &old);
+        if (old.active)
+            note(&s[active++], slot, &old);
+        else
+            write_offset(image, v, slot, 0);
+    }
+    return active;
+}
+
+/* Moves them down in the order of their offsets; answers the end. */
+static uint32_t move_down(uint8_t *image, const struct view *v,
+                          struct stretch *s, uint32_t active)
+{
+    uint32_t to = v->data;
+
+    if (active > 0)
+        qsort(s, active, sizeof *s, by_start);
+    for (uint32_t i = 0; i < active; i++) {
+        uint32_t size = s[i].end - s[i].start;
+
+        memmove(image + to, image + s[i].start, size);
+        write_offset(image, v, s[i].slot, to);
+        to += size;
+    }
+    return to;
+}
+
+uint32_t plain_compact(uint8_t *image, size_t image_len)
+{
+    struct view v;
+    struct stretch *s;
+    uint32_t verdict, slot, end;
+    uint32_t answer = plain_check(image, image_len, &verdict, &slot);
+
+    if (answer != ACCEPTED)
+        return answer;
+    if (verdict != 0)
+        return 15;
+    open_image(&v, image, image_len);
+    s = malloc(v.slots * sizeof *s);
+    if (s == NULL)
+        abort();
+    end = move_down(image, &v, s, collect(image, &v, s));
+    free(s);
+    memset(image + end, 0, v.length - end);
+    if (end != v.next) {
+        put32(image + AT_NEXT, end);
+        put32(image + AT_LAST_PAGE, last_page(v.data, end));
+    }
+    return ACCEPTED;
+}

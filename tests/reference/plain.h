@@ -47,4 +47,8 @@ uint32_t plain_walk(const uint8_t *image, size_t image_len, uint32_t from,
 uint32_t plain_check(const uint8_t *image, size_t image_len,
                      uint32_t *verdict, uint32_t *slot);
 
+/* Moves the active messages down, lowers X, zeroes what is behind; 15 if the
+ * image is not sound. */
+uint32_t plain_compact(uint8_t *image, size_t image_len);
+
 #endif

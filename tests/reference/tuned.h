@@ -41,4 +41,6 @@ uint32_t tuned_walk(const uint8_t *image, size_t image_len, uint32_t from,
 uint32_t tuned_check(const uint8_t *image, size_t image_len,
                      uint32_t *verdict, uint32_t *slot);
 
+uint32_t tuned_compact(uint8_t *image, size_t image_len);
+
 #endif

@@ -1,5 +1,6 @@
--- "Space once taken is never handed out again": of the bytes between D and X an add or a delete changes none but those
--- of the message of the point that it names. New space begins at X. This holds of any image bytes.
+-- "Space once taken is never handed out again", but by a compaction: of the bytes between D and X an add or a delete
+-- changes none but those of the message of the point that it names. New space begins at X. This holds of any image
+-- bytes.
 --     Clear img key p n       the n bytes from p on have none in common with the point's message
 --     add-keeps-bytes, delete-keeps-bytes      such bytes are as they were
 -- Assumes nothing.

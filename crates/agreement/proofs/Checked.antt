@@ -1,5 +1,6 @@
 -- The check says sound exactly of the images that have the invariant of reached files.
 --     taken-allowed     the key of a taken slot is a name that is allowed
+--     entry-slot        a name's entry stands in a taken slot, whose key it is
 --     file-check        of a file that has the invariant the check says sound
 --     check-file        an image of bytes that the check calls sound has the invariant, whoever made it
 -- Assumes nothing.
@@ -84,7 +85,7 @@ file-check g img f =
 -- ---- the other way round: what the check calls sound has the invariant, whoever made it
 
 -- a name's entry stands in a taken slot, whose key it is
-entry-slot : (g : Layout) (img key s : Bytes) → 0 < g .N → Allowed g key → entryOf g img key ≡ some s
+pub entry-slot : (g : Layout) (img key s : Bytes) → 0 < g .N → Allowed g key → entryOf g img key ≡ some s
     → (i : ℕ) × (i < g .N) × Taken g img i × (keyAt g img i ≡ key) × (slot g img i ≡ s)
 unfolding entryOf slotMet
 entry-slot g img key s pos a e =

@@ -34,11 +34,11 @@ pub find-on : (e : Entry) (es : List Entry) (name : Bytes) → (e .name ≡ name
 unfolding find
 find-on e es name n = rw (same-no (e .name) name n) refl
 
-without-here : (e : Entry) (es : List Entry) (name : Bytes) → e .name ≡ name → without name (e ∷ es) ≡ es
+pub without-here : (e : Entry) (es : List Entry) (name : Bytes) → e .name ≡ name → without name (e ∷ es) ≡ es
 unfolding without
 without-here e es name q = rw (ap (λ (x : Bytes). same x name) q ∙ same-refl name) refl
 
-without-on : (e : Entry) (es : List Entry) (name : Bytes) → (e .name ≡ name → ⊥)
+pub without-on : (e : Entry) (es : List Entry) (name : Bytes) → (e .name ≡ name → ⊥)
     → without name (e ∷ es) ≡ e ∷ without name es
 unfolding without
 without-on e es name n = rw (same-no (e .name) name n) refl

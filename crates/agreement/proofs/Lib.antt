@@ -24,9 +24,13 @@ pub mod Add  -- add
 pub mod Fresh  -- create
 -- ---- lists of calls
 pub mod Checked  -- the check of a file with the invariant
+pub mod Compact  -- a compacted file
 pub mod Reopened  -- the book read off a file
+pub mod Trimmed  -- the book's entries after a compaction
+pub mod Compacting  -- compaction keeps the relation
 pub mod Theorem  -- the theorem
 pub mod Reached  -- files that calls have reached
 pub mod Steps  -- what a call does to the book
+pub mod Numbers  -- which numbers a step of the book may answer
 pub mod Users  -- corollaries in the words of a user
 pub mod Area  -- the bytes below X that a call leaves as they were, of any image

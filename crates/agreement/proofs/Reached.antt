@@ -15,7 +15,8 @@ use mathlib.Core.Logic.{inr}
 use Rattle.bhtf.specs.Bytes.{Bytes}
 use Rattle.bhtf.specs.Image.{Layout, layoutOf}
 use Rattle.bhtf.specs.Search.{slotsRead}
-use Rattle.bhtf.specs.Calls.{Outcome, addRead, deleteRead, lookupRead, perform, Call, stateAfter}
+use Rattle.bhtf.specs.Calls.{Outcome, addRead, deleteRead, lookupRead}
+use Rattle.bhtf.specs.Lists.{perform, Call, stateAfter}
 use Rattle.bhtf.specs.Book.{Book, bookStep}
 use Rattle.bhtf.specs.Reopened.{bookOf, Starts}
 use Rattle.bhtf.specs.Inspect.{check, sound}

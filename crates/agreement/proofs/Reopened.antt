@@ -28,12 +28,13 @@ use Rattle.agreement.proofs.Reflect.{Reflects}
 use Rattle.agreement.proofs.Checked.{taken-allowed}
 
 module _ (g : Layout) (img : Bytes) where
-  from-taken : (left i : ℕ) → taken g img i ≡ true
+  pub from-taken : (left i : ℕ) → taken g img i ≡ true
       → entriesFrom g img (suc left) i ≡ entryAt g img i ∷ entriesFrom g img left (suc i)
   unfolding entriesFrom
   from-taken left i t = rw t refl
 
-  from-vacant : (left i : ℕ) → taken g img i ≡ false → entriesFrom g img (suc left) i ≡ entriesFrom g img left (suc i)
+  pub from-vacant : (left i : ℕ) → taken g img i ≡ false
+      → entriesFrom g img (suc left) i ≡ entriesFrom g img left (suc i)
   unfolding entriesFrom
   from-vacant left i t = rw t refl
 

@@ -3,7 +3,8 @@
 --     Added, book-add          what an add does, by cases; by-put: what they have in common
 --     Deleted, book-delete     what a delete does, by cases
 --     Effect, call-effect      what any call does, in one list of all calls; effect-..: what follows from it
---     NotAdding, NotDeleting   the calls that do not add, or delete, a point
+--     NotAdding, NotDeleting   the calls that do not add, or delete, a point; Keeping: those that give no space back
+--     compacted-text           a compaction keeps every text
 -- Assumes nothing.
 use mathlib.Core.Path.{_≡_, refl, sym, ap, _∙_}
 use Prim.Native.Nat.{ℕ, suc, _≤_}
@@ -17,12 +18,14 @@ use borrow.Author.Tests.{eq-eqb, ne-eqb}
 use Rattle.bhtf.specs.Bytes.{Bytes}
 use Rattle.bhtf.specs.Messages.{bytesOf}
 use Rattle.bhtf.specs.Questions.{Question, ask, firstNo, nameAllowed}
-use Rattle.bhtf.specs.Calls.{Outcome, plain, Call, adding, deleting, looking, counting}
-use Rattle.bhtf.specs.Book.{Entry, Book, find, withEntry, stepOf, guarded, entered, noting, bare, placed, addAbsent, replace, append, withdrawn, addPresent, addFound, bookAdd, deleteFound, bookDelete, lookupFound, bookLookup, bookCount, bookStep}
+use Rattle.bhtf.specs.Calls.{Outcome, plain}
+use Rattle.bhtf.specs.Lists.{Call, adding, deleting, looking, counting, compacting}
+use Rattle.bhtf.specs.Book.{Entry, Book, find, withEntry, stepOf, guarded, entered, noting, bare, placed, addAbsent, replace, append, withdrawn, addPresent, addFound, bookAdd, deleteFound, bookDelete, lookupFound, bookLookup, bookCount, trimmed, compactedBook, bookCompact, bookStep}
 use Rattle.bhtf.specs.Demand.{bookText, textOf}
 use Rattle.bhtf.proofs.Tests.{by-bool, by-eq}
 use Rattle.bhtf.proofs.Bytes.{by-same}
 use Rattle.bhtf.proofs.Opened.{firstNo-none, firstNo-no}
+use Rattle.agreement.proofs.Trimmed.{trimmedOf, find-trimmed}
 use Rattle.agreement.proofs.Entries.{removed, find-same, find-without-other, find-withEntry, find-withEntry-other, length-withEntry-new, length-withEntry-old}
 
 -- ---- a text given to a name
@@ -226,13 +229,15 @@ module _ (b : Book) (name : Bytes) where
 
 -- ---- any call, by its effect on the book
 
--- nothing, or a text is put under the name that it adds, or the entry of the name that it deletes goes
+-- nothing, or a text is put under the name that it adds, or the entry of the name that it deletes goes, or all entries
+-- are trimmed
 pub data Effect (b : Book) (c : Call) (b′ : Book) : Type 0 where
   nothing : b′ ≡ b → Effect b c b′
   enters : (name bytes : Bytes) (mode : ℕ) (text : Option Bytes) → c ≡ adding name bytes mode → Given name text b b′
       → Effect b c b′
   leaves : (name : Bytes) (e : Entry) → c ≡ deleting name → find name (b .entries) ≡ some e
       → b′ ≡ removed name b → Effect b c b′
+  trims : c ≡ compacting → b′ ≡ compactedBook b → Effect b c b′
 
 delete-effect : {b : Book} {name : Bytes} {o : Outcome Book} → Deleted b name o → Effect b (deleting name) (o .after)
 delete-effect (refused z q) = nothing q
@@ -240,12 +245,13 @@ delete-effect (gone e f q) = leaves _ e refl f q
 
 -- the one list of all calls: what follows goes by the effect
 pub call-effect : (c : Call) (b : Book) → Effect b c (bookStep c b .after)
-unfolding bookStep bookCount
+unfolding bookStep bookCount bookCompact
 call-effect (adding name bytes mode) b =
     by-put (book-add b name bytes mode) (λ q. nothing q) (λ text w. enters name bytes mode text refl w)
 call-effect (deleting name) b = delete-effect (book-delete b name)
 call-effect (looking name) b = nothing (book-lookup b name)
 call-effect counting b = nothing refl
+call-effect compacting b = trims refl refl
 
 -- the call does not delete, or does not add, a point of that name
 abbrev pub NotDeleting : Bytes → Call → Type 0
@@ -261,16 +267,37 @@ Has key b = (e : Entry) × (find key (b .entries) ≡ some e)
 abbrev pub Lacks : Bytes → Book → Type 0
 Lacks key b = find key (b .entries) ≡ none
 
+-- a compaction keeps every text
+trimmed-text : (f : Option Entry) → textOf (trimmedOf f) ≡ textOf f
+unfolding textOf trimmed
+trimmed-text none = refl
+trimmed-text (some e) = refl
+
+pub compacted-text : (b : Book) (key : Bytes) → bookText (compactedBook b) key ≡ bookText b key
+unfolding bookText compactedBook
+compacted-text b key =
+    ap textOf (find-trimmed key (b .entries)) ∙ trimmed-text (find key (b .entries))
+
+-- an entry of the compacted book
+trims-find : (b b′ : Book) (key : Bytes) → b′ ≡ compactedBook b
+    → find key (b′ .entries) ≡ trimmedOf (find key (b .entries))
+unfolding compactedBook
+trims-find b b′ key is = ap (λ (x : Book). find key (x .entries)) is ∙ find-trimmed key (b .entries)
+
 module _ {b : Book} {c : Call} {b′ : Book} (key : Bytes) where
-  -- a point that the call neither adds nor deletes is as it was
-  pub effect-other : Effect b c b′ → NotAdding key c → NotDeleting key c
-      → find key (b′ .entries) ≡ find key (b .entries)
-  effect-other (nothing q) na nd = ap (λ (x : Book). find key (x .entries)) q
+  -- a point that the call neither adds nor deletes keeps its text
+  pub effect-other : Effect b c b′ → NotAdding key c → NotDeleting key c → bookText b′ key ≡ bookText b key
+  effect-other (nothing q) na nd = ap (λ (x : Book). bookText x key) q
   effect-other (enters name bytes mode text q w) na nd =
-      given-other w key (λ s. na bytes mode (q ∙ ap (λ (x : Bytes). adding x bytes mode) (sym s)))
+      unfold bookText in
+      ap textOf (given-other w key (λ s. na bytes mode (q ∙ ap (λ (x : Bytes). adding x bytes mode) (sym s))))
   effect-other (leaves name e q f is) na nd =
-      ap (λ (x : Book). find key (x .entries)) is
-      ∙ find-without-other name key (b .entries) (λ s. nd (q ∙ ap deleting (sym s)))
+      ap (λ (x : Book). bookText x key) is
+      ∙ without-text name (λ s. nd (q ∙ ap deleting (sym s)))
+    where
+      without-text : (name : Bytes) → (key ≡ name → ⊥) → bookText (removed name b) key ≡ bookText b key
+      without-text name n = unfold bookText in ap textOf (find-without-other name key (b .entries) n)
+  effect-other (trims q is) na nd = ap (λ (x : Book). bookText x key) is ∙ compacted-text b key
 
   -- one that it does not delete stays
   pub effect-has : Effect b c b′ → NotDeleting key c → Has key b → Has key b′
@@ -282,6 +309,7 @@ module _ {b : Book} {c : Call} {b′ : Book} (key : Bytes) where
   effect-has (leaves name e q f is) nd h =
       let other = find-without-other name key (b .entries) (λ s. nd (q ∙ ap deleting (sym s))) in
       (h .0, ap (λ (x : Book). find key (x .entries)) is ∙ other ∙ h .1)
+  effect-has (trims q is) nd h = (trimmed (h .0), trims-find b b′ key is ∙ ap trimmedOf (h .1))
 
   -- one that it does not add stays absent
   pub effect-lacks : Effect b c b′ → NotAdding key c → Lacks key b → Lacks key b′
@@ -292,9 +320,14 @@ module _ {b : Book} {c : Call} {b′ : Book} (key : Bytes) where
       let present : (key ≡ name → ⊥) =
       λ s. Option·none-ne-some e (sym h ∙ ap (λ (x : Bytes). find x (b .entries)) s ∙ f) in
       ap (λ (x : Book). find key (x .entries)) is ∙ find-without-other name key (b .entries) present ∙ h
+  effect-lacks (trims q is) na h = trims-find b b′ key is ∙ ap trimmedOf h
 
--- no call gives space back
-pub effect-used : {b : Book} {c : Call} {b′ : Book} → Effect b c b′ → b .used ≤ b′ .used
-effect-used (nothing q) = omega (arith, ap (λ (x : Book). x .used) q)
-effect-used (enters name bytes mode text q w) = given-used w
-effect-used (leaves name e q f is) = omega (arith, ap (λ (x : Book). x .used) is)
+-- the call gives no space back: every call but compaction
+abbrev pub Keeping : Call → Type 0
+Keeping c = c ≡ compacting → ⊥
+
+pub effect-used : {b : Book} {c : Call} {b′ : Book} → Effect b c b′ → Keeping c → b .used ≤ b′ .used
+effect-used (nothing q) k = omega (arith, ap (λ (x : Book). x .used) q)
+effect-used (enters name bytes mode text q w) k = given-used w
+effect-used (leaves name e q f is) k = omega (arith, ap (λ (x : Book). x .used) is)
+effect-used (trims q is) k = absurd (k q)

@@ -20,7 +20,8 @@ use Rattle.bhtf.specs.Image.{Layout, layoutOf}
 use Rattle.bhtf.specs.Search.{search, isMet}
 use Rattle.bhtf.specs.Questions.{nameAllowed, createNumber}
 use Rattle.bhtf.specs.Create.{slotsAsked, freshImage}
-use Rattle.bhtf.specs.Calls.{Answer, plain, create, lookup, Call, adding, deleting, looking, counting, perform, answers, stateAfter}
+use Rattle.bhtf.specs.Calls.{Answer, plain, create, lookup}
+use Rattle.bhtf.specs.Lists.{Call, adding, deleting, looking, counting, compacting, perform, answers, stateAfter}
 use Rattle.bhtf.specs.Book.{Book, newBook, bookStep}
 use Rattle.bhtf.specs.Demand.{fileText, textOf, bookText, termsOf, Agrees, Agreement}
 use Rattle.bhtf.specs.Reopened.{Starts, AgreementFrom}
@@ -32,6 +33,7 @@ use Rattle.agreement.proofs.Simple.{Same, Alike, same-count, same-looku
 use Rattle.agreement.proofs.Add.{same-add}
 use Rattle.agreement.proofs.Checked.{check-file}
 use Rattle.agreement.proofs.Reopened.{file-reflects}
+use Rattle.agreement.proofs.Compacting.{same-compact}
 use Rattle.agreement.proofs.Fresh.{slotsAsked-some, fresh-reflects}
 
 -- a call that keeps the layout, as every one does
@@ -42,6 +44,7 @@ step-kept g img b r (adding key bytes mode) = same-add g img b r key bytes mode
 step-kept g img b r (deleting key) = same-delete g img b r key
 step-kept g img b r (looking key) = same-lookup g img b r key
 step-kept g img b r counting = same-count g img b r
+step-kept g img b r compacting = same-compact g img b r
 
 pub step : (img : Bytes) (b : Book) → Reflected img b → (c : Call) → Alike (perform c img) (bookStep c b)
 step img b (g, r) c = (g, step-kept g img b r c)

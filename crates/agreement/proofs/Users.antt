@@ -10,27 +10,35 @@
 --     count-added, count-replaced, count-deleted      C grows by 1, stays, falls by 1
 --     stays-found         a point that is found stays so until it is deleted
 --     stays-gone          a point that is not found stays so until it is added; so deleted-stays-gone
---     free-grows          X never falls; free-grows-each: over calls that give no space back
+--     free-grows          X does not fall over calls other than compaction
+--     compact-accepted, no-fifteen     in a list compaction answers 0, and no call 15
+--     compact-texts       compaction changes no text; compact-free: X is then where the texts end; compact-once: doing
+--                         it twice is doing it once
+--     compact-room        where the texts leave room, no add is refused with 13
 -- Assumes nothing.
-use mathlib.Core.Path.{_≡_, refl, sym, ap, _∙_}
+use mathlib.Core.Path.{_≡_, refl, sym, ap, _∙_, subst}
 use Prim.Native.Nat.{ℕ, suc, _+_, _≤_}
 use native.Mathlib.Omega.{arith}
 use mathlib.Core.List.{List, [], _∷_, _++_}
 use mathlib.Core.Option.{Option, none, some, Option·none-ne-some, Option·some-injective}
-use lib.ListN.{length}
+use lib.ListN.{length, length-append}
 use Rattle.bhtf.specs.Bytes.{Bytes}
 use Rattle.bhtf.specs.Limits.{freeField}
-use Rattle.bhtf.specs.Image.{field}
-use Rattle.bhtf.specs.Messages.{bytesOf}
-use Rattle.bhtf.specs.Calls.{Answer, Outcome, Call, adding, deleting, perform, stateAfter, add, delete, count}
-use Rattle.bhtf.specs.Book.{Entry, Book, find, bookDelete, bookCount, bookStep}
+use Rattle.bhtf.specs.Image.{field, Layout, layoutOf}
+use Rattle.bhtf.specs.Messages.{headSize, bytesOf}
+use Rattle.bhtf.specs.Calls.{Answer, Outcome, plain, add, delete, count}
+use Rattle.bhtf.specs.Compact.{compacted, compact}
+use Rattle.bhtf.specs.Lists.{Call, adding, deleting, compacting, perform, stateAfter}
+use Rattle.bhtf.specs.Book.{Entry, Terms, Book, find, bookDelete, bookCount, spaceForAll, compactedBook, bookCompact, bookStep}
 use Rattle.bhtf.specs.Demand.{fileText, bookText, textOf}
 use Rattle.agreement.proofs.Entries.{Distinct, find-without-same, length-without}
-use Rattle.agreement.proofs.Reflect.{Reflected}
+use Rattle.agreement.proofs.Reflect.{Reflects, Reflected}
 use Rattle.agreement.proofs.Simple.{same-count}
 use Rattle.agreement.proofs.Theorem.{step-kept, step, reflects-step, points-agree, reflects-after}
 use Rattle.agreement.proofs.Reached.{Reached, reached-reflects, reached-after}
-use Rattle.agreement.proofs.Steps.{given-text, given-new, given-old, Added, refused, fresh, bared, replaced, appended, unchanged, withdrew, book-add, by-put, Deleted, gone, book-delete, call-effect, NotDeleting, NotAdding, Has, Lacks, effect-other, effect-has, effect-lacks, effect-used}
+use Rattle.agreement.proofs.Steps.{given-text, given-new, given-old, Added, refused, fresh, bared, replaced, appended, unchanged, withdrew, book-add, by-put, Deleted, gone, book-delete, call-effect, NotDeleting, NotAdding, Has, Lacks, Keeping, effect-other, effect-has, effect-lacks, effect-used, compacted-text}
+use Rattle.agreement.proofs.Compact.{file-compact, compact-after, compact-twice}
+use Rattle.agreement.proofs.Numbers.{add-number, call-number, room-number, room-left}
 
 -- ---- the book's texts
 
@@ -195,7 +203,7 @@ module _ (img : Bytes) (b : Book) (r : Reached img b) where
       → fileText (perform c img .after) other ≡ fileText img other
   unfolding bookText
   call-others c other na nd =
-      text-after c other ∙ ap textOf (effect-other other (call-effect c b) na nd) ∙ sym (points-agree img b rel other)
+      text-after c other ∙ effect-other other (call-effect c b) na nd ∙ sym (points-agree img b rel other)
 
   pub delete-others : (key other : Bytes) → (other ≡ key → ⊥)
       → fileText (delete img key .after) other ≡ fileText img other
@@ -307,20 +315,12 @@ abbrev pub Each : (Call → Type 0) → List Call → Type 0
 Each p [] = Unit {0}
 Each p (c ∷ cs) = p c × Each p cs
 
-each-of : (p : Call → Type 0) → ((c : Call) → p c) → (calls : List Call) → Each p calls
-each-of p all [] = tt
-each-of p all (c ∷ cs) = (all c, each-of p all cs)
-
 -- what each such call keeps, the list keeps
 book-keeps : (p : Call → Type 0) (P : Book → Type 0) → ((c : Call) (b : Book) → p c → P b → P (bookStep c b .after))
     → (calls : List Call) (b : Book) → Each p calls → P b → P (stateAfter bookStep calls b)
 unfolding stateAfter
 book-keeps p P one [] b a h = h
 book-keeps p P one (c ∷ cs) b a h = book-keeps p P one cs (bookStep c b .after) (a .1) (one c b (a .0) h)
-
--- the call gives no space back and does not move the data area: every call is such a one
-abbrev pub Keeping : Call → Type 0
-Keeping c = Unit {0}
 
 free-keeps : (calls : List Call) (img : Bytes) (b : Book) → Reflected img b → Each Keeping calls
     → field img freeField ≤ field (stateAfter perform calls img) freeField
@@ -330,7 +330,7 @@ free-keeps (c ∷ cs) img b (g, r) k =
     omega (
       arith,
       r .used,
-      effect-used (call-effect c b),
+      effect-used (call-effect c b) (k .0),
       step-kept g img b r c .after .used,
       free-keeps cs (perform c img .after) (bookStep c b .after) (reflects-step img b (g, r) c) (k .1),
     )
@@ -358,13 +358,87 @@ module _ (img : Bytes) (b : Book) (r : Reached img b) where
       (book-keeps (NotAdding key) (Lacks key) (λ c x. effect-lacks key (call-effect c x)) calls b n
       (found-no b key (book-has img b r key _ h)))
 
-  -- "Space once taken is never handed out again": new space is taken at X, and X never falls
-  pub free-grows-each : (calls : List Call) → Each Keeping calls
+  -- between compactions space once taken is never handed out again: new space is taken at X, and X does not fall
+  pub free-grows : (calls : List Call) → Each Keeping calls
       → field img freeField ≤ field (stateAfter perform calls img) freeField
-  free-grows-each calls k = free-keeps calls img b (reached-reflects img b r) k
+  free-grows calls k = free-keeps calls img b (reached-reflects img b r) k
 
-  pub free-grows : (calls : List Call) → field img freeField ≤ field (stateAfter perform calls img) freeField
-  free-grows calls = free-grows-each calls (each-of Keeping (λ c. tt) calls)
+-- ---- compaction
+
+module _ (img : Bytes) (b : Book) (r : Reached img b) where
+  -- "15 .. if the image isn't sound" never comes in a list: compaction is accepted
+  pub compact-accepted : compact img .answer .number ≡ 0
+  unfolding perform bookStep bookCompact plain
+  compact-accepted = ap (λ (x : Answer). x .number) (step img b (rel img b r) compacting .1 .answer)
+
+  -- no call in a list answers 15
+  pub no-fifteen : (c : Call) → perform c img .answer .number ≡ 15 → ⊥
+  no-fifteen c q =
+      call-number (λ (n : ℕ). n ≡ 15 → ⊥) b (λ n l e. omega arith) (λ e. omega arith)
+      (λ m. room-number (λ (n : ℕ). n ≡ 15 → ⊥) b m (λ e. omega arith) (λ e. omega arith) (λ e. omega arith)) c
+      (ap (λ (x : Answer). x .number) (sym (step img b (rel img b r) c .1 .answer)) ∙ q)
+
+  -- it changes no point's text, and finds no other points
+  pub compact-texts : (name : Bytes) → fileText (compact img .after) name ≡ fileText img name
+  unfolding perform bookStep bookCompact
+  compact-texts name =
+      text-after img b r compacting name ∙ compacted-text b name ∙ sym (points-agree img b (rel img b r) name)
+
+  -- "U the sum of 4 + length" over the texts: so far X stands above D
+  pub compact-free : field (compact img .after) freeField
+      ≡ layoutOf img .D + spaceForAll (headSize (layoutOf img)) (b .entries)
+  unfolding perform bookStep bookCompact compactedBook
+  compact-free =
+      let s = rel img b r .1 in
+      let g = rel img b r .0 in
+      step-kept g img b s compacting .after .used
+      ∙ ap (λ (t : Terms). g .D + spaceForAll (t .head) (b .entries)) (s .terms)
+      ∙ ap (λ (l : Layout). l .D + spaceForAll (headSize l) (b .entries)) (sym (s .file .layout))
+
+  -- "freed space is used again": where the texts leave room, an add is not refused with 13. A text that is appended to
+  -- is placed anew with the data behind it.
+  pub compact-room : (key bytes : Bytes) (mode m : ℕ) → length bytes ≤ m
+      → ((text : Option Bytes) → fileText img key ≡ some text → (mode ≡ 1 → ⊥) → (mode ≡ 2 → ⊥)
+      → length (bytesOf text) + length bytes ≤ m)
+      → layoutOf img .D + spaceForAll (headSize (layoutOf img)) (b .entries) + headSize (layoutOf img) + m ≤ length img
+      → add (compact img .after) key bytes mode .answer .number ≡ 13 → ⊥
+  unfolding perform bookStep bookCompact compactedBook
+  compact-room key bytes mode m short long fits q =
+      let b′ = compactedBook b in
+      let at-name = adding key bytes mode in
+      add-number (λ (n : ℕ). n ≡ 13 → ⊥) b′ key bytes mode (λ n l e. omega arith) (λ e. omega arith)
+      (room-left b′ (length bytes) (omega (arith, left, short)))
+      (λ e f n₁ n₂.
+      let there = sym (compact-texts key) ∙ text-after img b r compacting key ∙ the-text b′ key e f in
+      let t = long (e .text) there n₁ n₂ in
+      room-left b′ _ (omega (arith, left, t, length-append (bytesOf (e .text)) bytes)))
+      (ap (λ (x : Answer). x .number)
+      (sym (step (compact img .after) b′ (reflects-step img b (rel img b r) compacting) at-name .1 .answer)) ∙ q)
+    where
+      g : Layout
+      g = rel img b r .0
+
+      s : Reflects g img b
+      s = rel img b r .1
+
+      fits′ : g .D + spaceForAll (headSize g) (b .entries) + headSize g + m ≤ length img
+      fits′ =
+          subst (λ (l : Layout). l .D + spaceForAll (headSize l) (b .entries) + headSize l + m ≤ length img)
+          (s .file .layout) fits
+
+      left : spaceForAll (b .terms .head) (b .entries) + b .terms .head + m ≤ b .terms .R
+      left = rw (s .terms) (omega (arith, fits′))
+
+  -- compacting twice is compacting once
+  pub compact-once : compact (compact img .after) .after ≡ compact img .after
+  compact-once =
+      let f = rel img b r .1 .file in
+      let g = rel img b r .0 in
+      let first = compact-after g img f in
+      ap (λ (i : Bytes). compact i .after) first
+      ∙ compact-after g (compacted g img) (file-compact g img f)
+      ∙ compact-twice g img f
+      ∙ sym first
 
 -- a point that was deleted stays so until it is added again
 pub deleted-stays-gone : (img : Bytes) (b : Book) → Reached img b → (key : Bytes) → delete img key .answer .number ≡ 0

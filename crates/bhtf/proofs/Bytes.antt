@@ -9,7 +9,7 @@ use mathlib.Core.Bool.{true, false, true≢false, false≢true}
 use mathlib.Core.Logic.{_⊎_, inl, inr}
 use mathlib.Core.List.{List, [], _∷_, _++_}
 use lib.ListN.{length, take, drop, getD, length-append, length-drop, length-replicate}
-use lib.Seq.{take-at, drop-at, take-append-le, drop-append-le, drop-append-add, drop-drop, take-take, length-take-le, getD-drop}
+use lib.Seq.{take-at, drop-at, take-append-le, drop-append-le, drop-append-add, drop-drop, take-take, take-add, length-take-le, getD-drop}
 use lib.Dec.{eqb}
 use lib.Pow.{pow-add, mod-pow-add}
 use borrow.Author.Tests.{eqb-true, eq-eqb}
@@ -36,6 +36,12 @@ part-part b p n q m h = go q n (drop p b) h ∙ ap (take m) (drop-drop q p b)
     go (suc q) zero l h = absurd (omega arith)
     go (suc q) (suc n) [] h = refl
     go (suc q) (suc n) (x ∷ l) h = go q n l (omega arith)
+
+-- a part and what stands behind it
+pub part-add : (b : Bytes) (p n m : ℕ) → part b p (n + m) ≡ part b p n ++ part b (p + n) m
+unfolding part
+part-add b p n m =
+    take-add n m (drop p b) ∙ ap (λ (l : Bytes). take n (drop p b) ++ take m l) (drop-drop n p b)
 
 -- ---- store
 

@@ -9,7 +9,7 @@ use mathlib.Core.Bool.{false}
 use Rattle.bhtf.specs.Limits.{minusOne, pointsField, freeField}
 use Rattle.bhtf.specs.Bytes.{Bytes, store, zeros, same}
 use Rattle.bhtf.specs.Image.{field, setField, roundUp, dataStart, lastPage, hash, slotBytes}
-use Rattle.bhtf.specs.Calls.{Call, adding, deleting, looking, answers, stateAfter}
+use Rattle.bhtf.specs.Lists.{Call, adding, deleting, looking, answers, stateAfter}
 use Rattle.bhtf.specs.Book.{newBook, bookStep}
 use Rattle.bhtf.specs.Demand.{termsOf}
 use Rattle.bhtf.proofs.CasesBase.{book-definitions, fresh, after, keys, point, numbers, told}

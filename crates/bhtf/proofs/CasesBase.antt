@@ -1,9 +1,10 @@
 -- What the cases compute with and look at. The cases stand in `Cases` (01's proved table), `CasesHeader` (create, hash
 -- and header), `CasesFile` (opened images and messages), `CasesRead` (slots read), `CasesBook` (file and book side by
--- side), `CasesInspect` (walk and check), `CasesStretches` (two points on one message) and `CasesReopened` (books read
--- off images).
+-- side), `CasesInspect` (walk and check), `CasesStretches` (two points on one message), `CasesReopened` (books read
+-- off images), `CasesNotes` (empty notes) and `CasesCompact` (compaction).
 --     definitions        unfolding it unfolds all of `specs` that a file's calls compute with; book-definitions the
---                        book's too, inspect-definitions those of walk and check too
+--                        book's too, inspect-definitions those of walk and check too, compact-definitions all of
+--                        these and compaction's
 --     fresh L N          the image that create leaves of L bytes: K = 1, seed 0
 --     headed K N L       create's header and zeros behind it, for names of bytes below 32, which are not scrambled
 --     after, told, answered     the image after a list of calls; the numbers, or the whole answers, that they gave
@@ -21,10 +22,13 @@ use Rattle.bhtf.specs.Search.{next, dist, probe, search, readFrom, slots
 use Rattle.bhtf.specs.Messages.{headSize, letterAt, lengthAt, textAt, isActive, shown, bytesOf, shownLength, held, message, setFree, takeSpace, retire, overwrite, freshText, renewedText, placedText, enter, inserted, relocated, renewed, renewedAt, addedAt, noted, added}
 use Rattle.bhtf.specs.Delete.{among, moved, closeFrom, closed, deletedAt, deleted}
 use Rattle.bhtf.specs.Questions.{ask, firstNo, sizeAllowed, keyAllowed, slotsAllowed, tableFits, versionKnown, headerSound, nameAllowed, modeKnown, metInMode4, newInMode1, slotToTake, messageSound, metMessageSound, somePoint, lengthAllowed, spaceLeft, createAsks, opened, named, pointAsks, addAsks, lookupAsks, deleteAsks, createNumber, openNumber, seekNumber, addNumber, deleteNumber, lookupNumber}
-use Rattle.bhtf.specs.Calls.{Call, adding, Answer, plain, settled, create, add, delete, lookupOffset, lookupStart, lookupLength, lookupText, lookup, countOf, count, soughtRead, addRead, deleteRead, lookupRead, perform, answers, stateAfter}
+use Rattle.bhtf.specs.Calls.{Answer, plain, settled, create, add, delete, lookupOffset, lookupStart, lookupLength, lookupText, lookup, countOf, count, soughtRead, addRead, deleteRead, lookupRead}
+use Rattle.bhtf.specs.Compact.{beginsAt, blockAt, packedFrom, packedBelow, packed, packedOffset, packedSlot, packedSlots, packedEnd, packedData, lowerFree, compacted, isSound, compactNumber, compact}
+use Rattle.bhtf.specs.Lists.{Call, adding, perform, answers, stateAfter}
 use Rattle.bhtf.specs.Inspect.{lowest, taken, takenFrom, nextTaken, stopAt, keyWalk, stopNumber, keyStart, keyLength, keyShown, endsAt, entrySound, stretchStart, endAt, stretchEnd, meets, someBelow, meetsLower, slotSound, slotFails, countSound, verdictOf, check, verdictNumber}
-use Rattle.bhtf.specs.Book.{newBook, find, without, withEntry, stepOf, roomAsks, entered, noting, bare, placed, addAbsent, replace, append, withdrawn, addPresent, addFound, guarded, bookAdd, deleteFound, bookDelete, lookupFound, bookLookup, bookCount, bookStep}
+use Rattle.bhtf.specs.Book.{newBook, find, without, withEntry, stepOf, roomAsks, entered, noting, bare, placed, addAbsent, replace, append, withdrawn, addPresent, addFound, guarded, bookAdd, deleteFound, bookDelete, lookupFound, bookLookup, bookCount, isNote, trimmed, trimmedAll, spaceFor, spaceForAll, compactedBook, bookCompact, bookStep}
 use Rattle.bhtf.specs.Demand.{fileText, textOf, bookText, termsOf, Agrees, Agreement}
+use Rattle.bhtf.specs.Reopened.{entryAt, entriesFrom, bookOf}
 
 -- file by file of `specs`, in its order
 unfoldable pub definitions : ℕ
@@ -57,6 +61,14 @@ unfolding definitions
     entrySound stretchStart endAt stretchEnd meets someBelow meetsLower slotSound slotFails
     countSound verdictOf check verdictNumber
 inspect-definitions = 0
+
+unfoldable pub compact-definitions : ℕ
+unfolding book-definitions inspect-definitions
+    beginsAt blockAt packedFrom packedBelow packed packedOffset packedSlot packedSlots packedEnd packedData lowerFree
+    compacted isSound compactNumber compact
+    isNote trimmed trimmedAll spaceFor spaceForAll compactedBook bookCompact
+    entryAt entriesFrom bookOf
+compact-definitions = 0
 
 -- ---- images
 

@@ -10,7 +10,8 @@ use mathlib.Core.Option.{Option, none, some}
 use Rattle.bhtf.specs.Limits.{dataField, freeField}
 use Rattle.bhtf.specs.Bytes.{Bytes, part, zeros}
 use Rattle.bhtf.specs.Image.{field}
-use Rattle.bhtf.specs.Calls.{Call, adding, deleting, looking, counting, Answer, create, perform, answers, stateAfter}
+use Rattle.bhtf.specs.Calls.{Answer, create}
+use Rattle.bhtf.specs.Lists.{Call, adding, deleting, looking, counting, perform, answers, stateAfter}
 use Rattle.bhtf.specs.Book.{Terms, Book, newBook, bookStep}
 use Rattle.bhtf.specs.Demand.{fileText, bookText, termsOf, Agreement}
 use Rattle.bhtf.proofs.CasesBase.{definitions, book-definitions, fresh, after, one, two, point, done, refused, shows, shows-none, counts}

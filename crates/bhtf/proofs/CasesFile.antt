@@ -13,7 +13,8 @@ use Rattle.bhtf.specs.Image.{Layout, field, setField, layoutOf, slotByte
 use Rattle.bhtf.specs.Search.{Probe, met, empty, exhausted, search}
 use Rattle.bhtf.specs.Messages.{shownLength, setFree, retire, overwrite, renewedText}
 use Rattle.bhtf.specs.Questions.{firstNo, messageSound, pointAsks, seekNumber}
-use Rattle.bhtf.specs.Calls.{adding, deleting, looking, counting, lookupStart}
+use Rattle.bhtf.specs.Calls.{lookupStart}
+use Rattle.bhtf.specs.Lists.{adding, deleting, looking, counting}
 use Rattle.bhtf.proofs.CasesBase.{definitions, headed, after, keys, table, one, two, point, done, refused, shows, counts, answered}
 
 -- ---- messages

@@ -13,7 +13,8 @@ use Rattle.bhtf.specs.Bytes.{Bytes, part, store, zeros}
 use Rattle.bhtf.specs.Image.{field, setField, hash}
 use Rattle.bhtf.specs.Create.{freshHeader}
 use Rattle.bhtf.specs.Questions.{versionKnown, headerSound, createNumber, openNumber}
-use Rattle.bhtf.specs.Calls.{adding, deleting, looking, counting, create}
+use Rattle.bhtf.specs.Calls.{create}
+use Rattle.bhtf.specs.Lists.{adding, deleting, looking, counting}
 use Rattle.bhtf.proofs.CasesBase.{definitions, fresh, headed, done, refused, answered}
 
 -- ---- the image that create leaves

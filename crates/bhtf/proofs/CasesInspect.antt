@@ -8,7 +8,7 @@ use mathlib.Core.List.{List, [], _∷_, _++_}
 use Rattle.bhtf.specs.Limits.{pointsField}
 use Rattle.bhtf.specs.Bytes.{Bytes, store, zeros}
 use Rattle.bhtf.specs.Image.{setField}
-use Rattle.bhtf.specs.Calls.{adding}
+use Rattle.bhtf.specs.Lists.{adding}
 use Rattle.bhtf.specs.Inspect.{Stop, stopped, end, keyWalk, stopNumber, keyStart, keyLength, keyShown, Verdict, sound, slotBad, countBad, check, verdictNumber}
 use Rattle.bhtf.proofs.CasesBase.{inspect-definitions, headed, after, one, two, point}
 

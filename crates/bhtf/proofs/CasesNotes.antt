@@ -6,7 +6,7 @@ use mathlib.Core.Bool.{true, false}
 use mathlib.Core.List.{List, [], _∷_}
 use mathlib.Core.Option.{none, some}
 use Rattle.bhtf.specs.Bytes.{Bytes, part, store, zeros}
-use Rattle.bhtf.specs.Calls.{Call, adding, deleting, looking, counting}
+use Rattle.bhtf.specs.Lists.{Call, adding, deleting, looking, counting}
 use Rattle.bhtf.specs.Book.{Entry, newBook}
 use Rattle.bhtf.specs.Demand.{termsOf}
 use Rattle.bhtf.specs.Reopened.{bookOf, entriesFrom, entryAt}

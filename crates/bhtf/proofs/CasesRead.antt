@@ -8,7 +8,8 @@ use mathlib.Core.List.{List, [], _∷_, _++_}
 use Rattle.bhtf.specs.Bytes.{Bytes, store}
 use Rattle.bhtf.specs.Limits.{pointsField}
 use Rattle.bhtf.specs.Image.{setField, slotBytes}
-use Rattle.bhtf.specs.Calls.{adding, deleting, looking, addRead, deleteRead, lookupRead}
+use Rattle.bhtf.specs.Calls.{addRead, deleteRead, lookupRead}
+use Rattle.bhtf.specs.Lists.{adding, deleting, looking}
 use Rattle.bhtf.proofs.CasesBase.{definitions, headed, one, two, told}
 
 abbrev three : Bytes

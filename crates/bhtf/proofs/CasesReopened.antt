@@ -12,7 +12,8 @@ use lib.ListN.{getD}
 use Rattle.bhtf.specs.Limits.{magic, pointsField}
 use Rattle.bhtf.specs.Bytes.{Bytes, store, digits, zeros}
 use Rattle.bhtf.specs.Image.{setField, slotBytes}
-use Rattle.bhtf.specs.Calls.{Call, adding, deleting, looking, counting, Answer, perform, answers, stateAfter}
+use Rattle.bhtf.specs.Calls.{Answer}
+use Rattle.bhtf.specs.Lists.{Call, adding, deleting, looking, counting, perform, answers, stateAfter}
 use Rattle.bhtf.specs.Inspect.{check, sound}
 use Rattle.bhtf.specs.Book.{Book, bookStep}
 use Rattle.bhtf.specs.Demand.{fileText, bookText}

@@ -1,12 +1,12 @@
 -- Stretches of slots, and whether they meet.
---     some-yes, some-no, some-all      the test over the numbers below n
+--     some-which, some-no, some-all      the test over the numbers below n
 --     vacant-apart       a slot that is not taken meets none
 --     apart-meets, meets-apart      two stretches meet exactly where they are not apart
 -- Assumes nothing.
 use mathlib.Core.Path.{_≡_, refl, sym, ap, ap₂, _∙_}
 use Prim.Native.Nat.{ℕ, zero, suc, _+_, _≤_, _<_}
 use native.Mathlib.Omega.{arith}
-use mathlib.Core.Bool.{Bool, true, false, cond, _&&_, _||_}
+use mathlib.Core.Bool.{Bool, true, false, cond, _&&_, _||_, false≢true}
 use mathlib.Core.Logic.{inl, inr}
 use lib.Dec.{ltb, eqb}
 use borrow.Author.Tests.{lt-ltb, le-ltb, ltb-true, ne-eqb}
@@ -14,11 +14,20 @@ use Rattle.bhtf.specs.Bytes.{Bytes}
 use Rattle.bhtf.specs.Image.{Layout, slot, offsetOf}
 use Rattle.bhtf.specs.Messages.{headSize, lengthAt}
 use Rattle.bhtf.specs.Inspect.{taken, stretchStart, endAt, stretchEnd, meets, someBelow, meetsLower}
-use Rattle.bhtf.proofs.Tests.{by-bool, by-eq, by-le, and-left, and-right, and-true, or-right, not-both}
+use Rattle.bhtf.proofs.Tests.{by-bool, by-eq, by-le, and-left, and-right, and-true, or-right, by-or, not-both}
 use Rattle.bhtf.proofs.Bytes.{Apart}
 use Rattle.bhtf.proofs.Stretch.{span}
 
 -- ---- a test over the numbers below n
+
+pub some-which : (p : ℕ → Bool) (n : ℕ) → someBelow p n ≡ true → (k : ℕ) × (k < n) × (p k ≡ true)
+unfolding someBelow
+some-which p zero h = absurd (false≢true h)
+some-which p (suc n) h =
+    let ih : someBelow p n ≡ true → (k : ℕ) × (k < n) × (p k ≡ true) = some-which p n in
+    by-or (p n) (someBelow p n) h
+    (λ y. (n, omega arith, y))
+    (λ m r. let w = ih r in (w .0, omega (arith, w .1), w .2))
 
 pub some-no : (p : ℕ → Bool) (n : ℕ) → someBelow p n ≡ false → (k : ℕ) → k < n → p k ≡ false
 unfolding someBelow

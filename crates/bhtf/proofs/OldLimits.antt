@@ -5,7 +5,7 @@
 --     oldPerform       the calls of a list with them; oldCreate, oldWalk, oldCheck
 --     perform-as-before and the others       on an image within the old limits: the same answer, and every byte
 -- Assumes nothing.
-use mathlib.Core.Path.{_≡_, refl, sym, ap, ap₂, _∙_}
+use mathlib.Core.Path.{_≡_, sym, ap, ap₂, _∙_}
 use Prim.Native.Nat.{ℕ, _+_, _%_, _≤_}
 use native.Mathlib.Omega.{arith}
 use mathlib.Core.Bool.{Bool, cond, _&&_}
@@ -16,13 +16,15 @@ use lib.Dec.{leb, eqb}
 use borrow.Author.Tests.{le-leb}
 use Rattle.bhtf.specs.Bytes.{Bytes, part}
 use Rattle.bhtf.specs.Limits.{pageSize, mostImage, mostSlots, mostCharacter, keyField, slotsField, pointsField, firstField, lastField, scrambleField, tableField, dataField, freeField, scrambleStart, tableStart}
-use Rattle.bhtf.specs.Image.{field, dataStart, Layout, layoutOf, slot, offsetOf}
+use Rattle.bhtf.specs.Image.{field, dataStart, layoutOf, slot, offsetOf}
 use Rattle.bhtf.specs.Create.{slotsAsked, freshImage}
 use Rattle.bhtf.specs.Search.{search, slotOf}
 use Rattle.bhtf.specs.Messages.{headSize, isActive, held, added}
 use Rattle.bhtf.specs.Delete.{deleted}
-use Rattle.bhtf.specs.Questions.{Question, ask, firstNo, sizeAllowed, keyAllowed, slotsAllowed, tableFits, versionKnown, headerSound, nameAllowed, createAsks, opened, addAsks, deleteAsks, lookupAsks, createNumber, openNumber, addNumber, deleteNumber, lookupNumber}
-use Rattle.bhtf.specs.Calls.{Call, adding, deleting, looking, counting, Outcome, plain, settled, create, add, delete, lookupOffset, lookupStart, lookupLength, lookupText, lookup, countOf, count, perform}
+use Rattle.bhtf.specs.Questions.{Question, ask, firstNo, sizeAllowed, keyAllowed, slotsAllowed, tableFits, versionKnown, headerSound, createAsks, opened, addAsks, deleteAsks, lookupAsks, createNumber, openNumber, addNumber, deleteNumber, lookupNumber}
+use Rattle.bhtf.specs.Calls.{Outcome, plain, settled, create, add, delete, lookupOffset, lookupStart, lookupLength, lookupText, lookup, countOf, count}
+use Rattle.bhtf.specs.Lists.{Call, adding, deleting, looking, counting, compacting, perform}
+use Rattle.bhtf.specs.Compact.{compacted, isSound, compactNumber, compact}
 use Rattle.bhtf.specs.Inspect.{Stop, stopAt, nextTaken, keyWalk, Verdict, tableVerdict, check}
 
 -- ---- questions 1, 3 and 6 as they were
@@ -127,10 +129,16 @@ createBy img K N seed n =
 walkBy : Bytes → ℕ → ℕ → Stop
 walkBy img i n = cond (eqb n 0) (stopAt (nextTaken (layoutOf img) img i)) (Stop.refused n)
 
+compactBy : Bytes → ℕ → Outcome Bytes
+compactBy img n = record { after = settled n img (compacted (layoutOf img) img); answer = plain n }
+
 checkBy : Bytes → ℕ → Verdict
 checkBy img n = cond (eqb n 0) (tableVerdict img) (Verdict.refused n)
 
 -- ---- the calls as they were
+
+pub oldCheck : Bytes → Verdict
+oldCheck img = checkBy img (firstNo (oldOpened img []))
 
 pub oldPerform : Call → Bytes → Outcome Bytes
 oldPerform (adding key data′ mode) img =
@@ -141,6 +149,7 @@ oldPerform (deleting key) img =
 oldPerform (looking key) img =
     lookupBy img key (firstNo (oldOpened img (lookupAsks (layoutOf img) img (search (layoutOf img) img key) key)))
 oldPerform counting img = countBy img (firstNo (oldOpened img []))
+oldPerform compacting img = compactBy img (firstNo (oldOpened img (ask 15 (isSound (oldCheck img)) ∷ [])))
 
 -- questions 1 to 4, by the answers to 1 and 3
 createAsksBy : ℕ → ℕ → ℕ → Bool → Bool → List Question
@@ -153,9 +162,6 @@ oldCreate img K N seed =
 
 pub oldWalk : Bytes → ℕ → Stop
 oldWalk img i = walkBy img i (firstNo (oldOpened img []))
-
-pub oldCheck : Bytes → Verdict
-oldCheck img = checkBy img (firstNo (oldOpened img []))
 
 -- ---- on an image within the old limits
 
@@ -179,12 +185,24 @@ count-as-before : (img : Bytes) → Within img → count img ≡ oldPerform coun
 unfolding count oldPerform countOf openNumber countBy
 count-as-before img w = ap (λ (qs : List Question). countBy img (firstNo qs)) (opened-as-before img [] w)
 
+pub check-as-before : (img : Bytes) → Within img → check img ≡ oldCheck img
+unfolding check oldCheck checkBy openNumber
+check-as-before img w = ap (λ (qs : List Question). checkBy img (firstNo qs)) (opened-as-before img [] w)
+
+compact-as-before : (img : Bytes) → Within img → compact img ≡ oldPerform compacting img
+unfolding compact oldPerform compactNumber compactBy
+compact-as-before img w =
+    ap (λ (qs : List Question). compactBy img (firstNo qs))
+    (opened-as-before img _ w
+    ∙ ap (λ (v : Verdict). oldOpened img (ask 15 (isSound v) ∷ [])) (check-as-before img w))
+
 pub perform-as-before : (c : Call) (img : Bytes) → Within img → perform c img ≡ oldPerform c img
 unfolding perform
 perform-as-before (adding key data′ mode) img w = add-as-before img key data′ mode w
 perform-as-before (deleting key) img w = delete-as-before img key w
 perform-as-before (looking key) img w = lookup-as-before img key w
 perform-as-before counting img w = count-as-before img w
+perform-as-before compacting img w = compact-as-before img w
 
 pub create-as-before : (img : Bytes) (K N seed : ℕ) → length img ≤ oldImage → slotsAsked N ≤ oldSlots
     → create img K N seed ≡ oldCreate img K N seed
@@ -196,7 +214,3 @@ create-as-before img K N seed h k =
 pub walk-as-before : (img : Bytes) (i : ℕ) → Within img → keyWalk img i ≡ oldWalk img i
 unfolding keyWalk oldWalk walkBy openNumber
 walk-as-before img i w = ap (λ (qs : List Question). walkBy img i (firstNo qs)) (opened-as-before img [] w)
-
-pub check-as-before : (img : Bytes) → Within img → check img ≡ oldCheck img
-unfolding check oldCheck checkBy openNumber
-check-as-before img w = ap (λ (qs : List Question). checkBy img (firstNo qs)) (opened-as-before img [] w)

@@ -11,7 +11,8 @@ use lib.Dec.{leb, ltb, eqb}
 use Rattle.bhtf.specs.Bytes.{Bytes, same}
 use Rattle.bhtf.specs.Messages.{bytesOf}
 use Rattle.bhtf.specs.Questions.{Question, ask, firstNo, nameAllowed, named}
-use Rattle.bhtf.specs.Calls.{Outcome, plain, Call, adding, deleting, looking, counting}
+use Rattle.bhtf.specs.Calls.{Outcome, plain}
+use Rattle.bhtf.specs.Lists.{Call, adding, deleting, looking, counting, compacting}
 
 -- "entries (name, text, held)"; 02: "The book's text is none or a list that may be empty, and an entry notes whether it
 -- has an offset"
@@ -147,8 +148,45 @@ bookLookup b name = guarded b (ask 7 (nameAllowed (b .terms .K) name) ∷ []) (l
 unfoldable pub bookCount : Book → Outcome Book
 bookCount b = record { after = b; answer = record { number = 0; amount = length (b .entries); text = none } }
 
+-- Document 02, Job 2, of compaction: "In the book this step makes held the text's length and U the sum of 4 + length
+-- over texts that are not empty", as Job 4 changes it: "after compaction an entry has an offset exactly when its text
+-- is not none, and U sums 4 + length over those".
+unfoldable pub isNote : Option Bytes → Bool
+isNote none = false
+isNote (some t) = true
+
+unfoldable pub trimmed : Entry → Entry
+trimmed e =
+    record { name = e .name; text = e .text; held = length (bytesOf (e .text)); offset? = isNote (e .text) }
+
+unfoldable pub trimmedAll : List Entry → List Entry
+trimmedAll [] = []
+trimmedAll (e ∷ es) = trimmed e ∷ trimmedAll es
+
+-- the space that a text takes, with its header; and all of them
+unfoldable pub spaceFor : ℕ → Option Bytes → ℕ
+spaceFor head none = 0
+spaceFor head (some t) = head + length t
+
+unfoldable pub spaceForAll : ℕ → List Entry → ℕ
+spaceForAll head [] = 0
+spaceForAll head (e ∷ es) = spaceFor head (e .text) + spaceForAll head es
+
+unfoldable pub compactedBook : Book → Book
+compactedBook b =
+    record {
+      terms = b .terms;
+      entries = trimmedAll (b .entries);
+      used = spaceForAll (b .terms .head) (b .entries);
+    }
+
+-- it answers 0: a file in such a list is sound
+unfoldable pub bookCompact : Book → Outcome Book
+bookCompact b = record { after = compactedBook b; answer = plain 0 }
+
 unfoldable pub bookStep : Call → Book → Outcome Book
 bookStep (adding name data′ mode) b = bookAdd b name data′ mode
 bookStep (deleting name) b = bookDelete b name
 bookStep (looking name) b = bookLookup b name
 bookStep counting b = bookCount b
+bookStep compacting b = bookCompact b

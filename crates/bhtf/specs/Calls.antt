@@ -3,11 +3,9 @@
 --     Outcome S     the state afterwards (a file's: the image), and the answer
 --     create, add, delete, lookup, count     for any bytes, names, data and modes
 --     addRead, deleteRead, lookupRead        how many slots a call's search read
---     answers, stateAfter     of a list of calls, each on the state that the last one left
 -- Assumes nothing.
 use Prim.Native.Nat.{ℕ, _+_}
 use mathlib.Core.Bool.{Bool, true, cond, _&&_}
-use mathlib.Core.List.{List, [], _∷_}
 use mathlib.Core.Option.{Option, none, some}
 use lib.ListN.{length}
 use lib.Dec.{eqb}
@@ -103,27 +101,3 @@ deleteRead img key = soughtRead img key true
 
 unfoldable pub lookupRead : Bytes → Bytes → ℕ
 lookupRead img key = soughtRead img key true
-
--- ---- lists of calls
-
--- keys and data of any length, modes any number
-pub data Call : Type 0 where
-  adding : Bytes → Bytes → ℕ → Call
-  deleting : Bytes → Call
-  looking : Bytes → Call
-  counting : Call
-
-unfoldable pub perform : Call → Bytes → Outcome Bytes
-perform (adding key data′ mode) img = add img key data′ mode
-perform (deleting key) img = delete img key
-perform (looking key) img = lookup img key
-perform counting img = count img
-
--- the answers of a list of calls, in order, and the state after the last; of the file and of the book alike
-unfoldable pub answers : {S : Type 0} → (Call → S → Outcome S) → List Call → S → List Answer
-answers do′ [] s = []
-answers do′ (c ∷ cs) s = do′ c s .answer ∷ answers do′ cs (do′ c s .after)
-
-unfoldable pub stateAfter : {S : Type 0} → (Call → S → Outcome S) → List Call → S → S
-stateAfter do′ [] s = s
-stateAfter do′ (c ∷ cs) s = stateAfter do′ cs (do′ c s .after)

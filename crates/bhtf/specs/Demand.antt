@@ -13,7 +13,8 @@ use Rattle.bhtf.specs.Image.{layoutOf, dataStart}
 use Rattle.bhtf.specs.Create.{slotsAsked}
 use Rattle.bhtf.specs.Search.{search, isMet}
 use Rattle.bhtf.specs.Questions.{nameAllowed}
-use Rattle.bhtf.specs.Calls.{create, lookup, perform, Call, answers, stateAfter}
+use Rattle.bhtf.specs.Calls.{create, lookup}
+use Rattle.bhtf.specs.Lists.{perform, Call, answers, stateAfter}
 use Rattle.bhtf.specs.Book.{Book, Terms, Entry, newBook, find, bookStep}
 
 -- "The file finds a point when its name has K bytes, not all zero, and the search meets it; its message is what lookup

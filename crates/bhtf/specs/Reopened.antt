@@ -16,7 +16,8 @@ use Rattle.bhtf.specs.Limits.{freeField}
 use Rattle.bhtf.specs.Image.{field, Layout, layoutOf, slot, keyOf, offsetOf}
 use Rattle.bhtf.specs.Create.{slotsAsked}
 use Rattle.bhtf.specs.Messages.{headSize, shown, held}
-use Rattle.bhtf.specs.Calls.{create, Call}
+use Rattle.bhtf.specs.Calls.{create}
+use Rattle.bhtf.specs.Lists.{Call}
 use Rattle.bhtf.specs.Inspect.{taken, check, sound}
 use Rattle.bhtf.specs.Book.{Book, Terms, Entry, newBook}
 use Rattle.bhtf.specs.Demand.{termsOf, Agrees}

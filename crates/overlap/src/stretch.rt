@@ -7,6 +7,7 @@ use table::is_vacant;
 use table::offset_of;
 ghost use mathlib.Core.Path.{_≡_};
 ghost use Prim.Native.Nat.{_<_, _≤_};
+ghost use Rattle.layout.specs.Shapes.{Open};
 ghost use Rattle.overlap.specs.Checked.{startIn, endIn, Readable};
 ghost use Rattle.overlap.specs.Windows.{within, Piece, Carried};
 
@@ -18,8 +19,8 @@ pub struct Shown {
 }
 
 // Where the stretch of slot i starts, if in the window from lo up to hi; else hi. Only of such a slot the key is read.
-fn start_in(image: &[u8], shape: Shape, i: Slot, lo: usize, hi: usize) -> usize
-    requires { ⌜ Readable (now image) shape (i .0) × (0 < lo) ⌝ }
+pub fn start_in(image: &[u8], shape: Shape, i: Slot, lo: usize, hi: usize) -> usize
+    requires { ⌜ Open (now image) shape × (i .0 < shape .slots) × (0 < lo) ⌝ }
     ensures { λ r. ⌜ r ≡ within lo hi (startIn (now (image .entry)) (i .0)) ⌝ }
 {
     let o = offset_of(image, shape, i).at();

@@ -1,7 +1,9 @@
 -- What a loop that copies or zeroes byte by byte leaves, as one list.
 --     copied-more      one more byte of s, copied over d from the front
 --     copied-all, zeroed-all     all of them
---     copied-more-apart, copied-all-apart     the same for a run copied within one list to a place that it does not meet
+--     copied-more-apart, copied-more-down     one more byte of a run copied within one list, to a place that it does not
+--                      meet, or that is not above it
+--     copied-all-within      all of them
 -- Assumes nothing.
 use Prim.Native.Nat.{ℕ, zero, suc, _+_, _-_, _<_, _≤_}
 use native.Mathlib.Nat.{not-suc-le-zero, le-of-suc-le-suc}
@@ -56,27 +58,36 @@ getD-paste-above d at s n k p q r =
     ∙ getD-drop (at + n) d (k - (at + n)) 0
     ∙ ap (λ (m : ℕ). getD d m 0) f
 
-module _ (s : Bytes) (from to n : ℕ) (apart : Apart from n to n) (there : from + n ≤ length s) (room : to + n ≤ length s) where
-  -- what is read has not been written
-  unwritten : (i : ℕ) → i < n → getD (paste s to (drop from s) i) (from + i) 0 ≡ getD s (from + i) 0
-  unwritten i p = go apart
+module _ (s : Bytes) (from to n : ℕ) (there : from + n ≤ length s) (room : to + n ≤ length s) where
+  -- one more byte, where what is read has not been written
+  copied-one : (i : ℕ) → i < n → getD (paste s to (drop from s) i) (from + i) 0 ≡ getD s (from + i) 0
+      → set (paste s to (drop from s) i) (to + i) (getD (paste s to (drop from s) i) (from + i) 0)
+      ≡ paste s to (drop from s) (i + 1)
+  copied-one i p unwritten =
+      ap (λ (b : ℕ). set (paste s to (drop from s) i) (to + i) b) (unwritten ∙ sym (getD-drop from s i 0))
+      ∙ paste-suc s to (drop from s) i 0 (omega arith) (rw length-drop (omega arith))
+      ∙ ap (λ (k : ℕ). paste s to (drop from s) k) (sym (add-one i))
+
+  pub copied-more-apart : Apart from n to n → (i : ℕ) → i < n
+      → set (paste s to (drop from s) i) (to + i) (getD (paste s to (drop from s) i) (from + i) 0)
+      ≡ paste s to (drop from s) (i + 1)
+  copied-more-apart apart i p = copied-one i p (go apart)
     where
       go : Apart from n to n → getD (paste s to (drop from s) i) (from + i) 0 ≡ getD s (from + i) 0
       go (inl h) = getD-paste-below s to (drop from s) i (from + i) (omega arith) (omega arith)
       go (inr h) =
           getD-paste-above s to (drop from s) i (from + i) (omega arith) (omega arith) (rw length-drop (omega arith))
 
-  pub copied-more-apart : (i : ℕ) → i < n
+  pub copied-more-down : to ≤ from → (i : ℕ) → i < n
       → set (paste s to (drop from s) i) (to + i) (getD (paste s to (drop from s) i) (from + i) 0)
       ≡ paste s to (drop from s) (i + 1)
-  copied-more-apart i p =
-      ap (λ (b : ℕ). set (paste s to (drop from s) i) (to + i) b) (unwritten i p ∙ sym (getD-drop from s i 0))
-      ∙ paste-suc s to (drop from s) i 0 (omega arith) (rw length-drop (omega arith))
-      ∙ ap (λ (k : ℕ). paste s to (drop from s) k) (sym (add-one i))
+  copied-more-down h i p =
+      copied-one i p
+      (getD-paste-above s to (drop from s) i (from + i) (omega arith) (omega arith) (rw length-drop (omega arith)))
 
-  pub copied-all-apart : paste s to (drop from s) n ≡ store s to (part s from n)
+  pub copied-all-within : paste s to (drop from s) n ≡ store s to (part s from n)
   unfolding store part
-  copied-all-apart =
+  copied-all-within =
       let l : length (take n (drop from s)) ≡ n = length-take-le n (drop from s) (rw length-drop (omega arith)) in
       append-assoc (take to s) (take n (drop from s)) (drop (to + n) s)
       ∙ ap (λ (t : Bytes). take to s ++ (take n (drop from s) ++ t))

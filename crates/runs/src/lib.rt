@@ -94,6 +94,18 @@ pub fn copy_up(s: &mut [u8], from: usize, to: usize, n: usize)
     copy_apart(s, from, to, n);
 }
 
+// Copies the n bytes from `from` on to `to`, which is not above them; the two runs may meet.
+pub fn copy_down(s: &mut [u8], from: usize, to: usize, n: usize)
+    requires { ⌜ (to ≤ from) × (from + n ≤ length (now s)) ⌝ }
+    ensures { λ _. ⌜ now (s .exit) ≡ store (now (s .entry)) to (part (now (s .entry)) from n) ⌝ }
+{
+    let mut k = 0;
+    while k < n {
+        s[to + k] = s[from + k];
+        k += 1;
+    }
+}
+
 // Whether a and b hold the same bytes, one by one; the first difference ends it.
 fn same_few(a: &[u8], b: &[u8]) -> bool
     requires { ⌜ length (now a) ≡ length (now b) ⌝ }

@@ -14,6 +14,7 @@ ghost use Rattle.bhtf.specs.Inspect.{keyWalk, stopNumber, keyStart, check, verd
 ghost use Rattle.walk.specs.Stops.{stopSlot};
 ghost use Rattle.station.specs.Codes.{verdictCode, verdictSlot};
 ghost use Rattle.bhtf.specs.Calls.{create, add, delete, lookup, lookupStart, lookupLength, count, addRead, deleteRead, lookupRead};
+ghost use Rattle.bhtf.specs.Compact.{compact};
 
 // Makes the slice an empty file: keys of `size` bytes, `slots` slots (0 for 5,507), the scramble of the seed.
 #[no_mangle]
@@ -40,6 +41,16 @@ pub extern "C" fn bhtf_delete(image: &mut [u8], key: &[u8]) -> u32
         × (now (image .exit) ≡ delete (now (image .entry)) (now (key .entry)) .after) ⌝ }
 {
     delete::delete(image, key)
+}
+
+// Moves all active messages down, lowers X, zeroes every byte from X on, and sets the offset of each inactive message
+// to 0; refused with 15 if the image isn't sound.
+#[no_mangle]
+pub extern "C" fn bhtf_compact(image: &mut [u8]) -> u32
+    ensures { λ r. ⌜ (r ≡ compact (now (image .entry)) .answer .number)
+        × (now (image .exit) ≡ compact (now (image .entry)) .after) ⌝ }
+{
+    packing::compact(image)
 }
 
 // Where the key's message stands: its text's offset and its length, both 0 with no active message or when refused.

@@ -7,7 +7,7 @@ use mathlib.Core.Path.{_≡_, refl, ap, _∙_}
 use lib.ListN.{length, getD, set, drop, length-set}
 use lib.Seq.{paste, paste-zero}
 use borrow.Author.Needs.{needs}
-use Rattle.runs.proofs.Copied.{copied-more-apart, copied-all-apart}
+use Rattle.runs.proofs.Copied.{copied-more-apart, copied-all-within}
 use Rattle.runs.proofs.move_bytes.Statement.{statement}
 use Rattle.runs.proofs.move_bytes.Tie as tie
 
@@ -45,7 +45,7 @@ loop-again c =
     let i = L .loop .i in (
       ap (λ (t : List ℕ). set t (A .to + i) (getD t (A .from + i) 0)) (L .loop .inv .0)
           ∙ copied-more-apart (A .s .now) (A .from) (A .to) (A .n)
-          (L .before .pre .0) (L .before .pre .1) (L .before .pre .2) i (omega arith),
+          (L .before .pre .1) (L .before .pre .2) (L .before .pre .0) i (omega arith),
       omega arith,
       length-set (L .loop .s) (A .to + i) (getD (L .loop .s) (A .from + i) 0) ∙ L .loop .inv .2,
     )
@@ -60,7 +60,7 @@ returns c =
     let e : L .loop .i ≡ A .n = omega arith in
     L .loop .inv .0
     ∙ ap (λ (k : ℕ). paste (A .s .now) (A .to) (drop (A .from) (A .s .now)) k) e
-    ∙ copied-all-apart (A .s .now) (A .from) (A .to) (A .n) (L .before .pre .0) (L .before .pre .1) (L .before .pre .2)
+    ∙ copied-all-within (A .s .now) (A .from) (A .to) (A .n) (L .before .pre .1) (L .before .pre .2)
 
 pub move-bytes-spec : {M : Type 1} → statement M
 move-bytes-spec =

@@ -42,7 +42,7 @@ returns c =
 start-in-requires : tie.Need-start-in-requires
 start-in-requires c κs =
     let S = c .before .before .before in
-    (S .pre .0, S .pre .1)
+    (S .pre .0 .opened, S .pre .0 .low, S .pre .1)
 
 returns-2 : tie.Need-returns-2
 returns-2 c =

@@ -9,9 +9,7 @@ use Rattle.overlap.proofs.stretch.start_in.Statement.{statement}
 use Rattle.overlap.proofs.stretch.start_in.Tie as tie
 
 offset-of-requires : tie.Need-offset-of-requires
-offset-of-requires c κs =
-    let r = c .before .pre .0 in
-    (r .opened, r .low)
+offset-of-requires c κs = (c .before .pre .0, c .before .pre .1)
 
 at-requires : tie.Need-at-requires
 at-requires c κs = search needs
@@ -32,13 +30,13 @@ returns-2 c =
     let A = S .args in
     let img = A .image .now in
     sym (within-not (A .lo) (A .hi) (startIn img (A .i .0))
-    (start-high img (A .i .0) (A .lo) (A .hi) (S .pre .1)
+    (start-high img (A .i .0) (A .lo) (A .hi) (S .pre .2)
     (omega (arith, E .before .at .ensures, E .before .before .offset-of .ensures, c .if2 .taken))))
 
 is-vacant-requires : tie.Need-is-vacant-requires
 is-vacant-requires c κs =
-    let r = c .before .before .before .before .before .pre .0 in
-    (r .opened, r .low)
+    let S = c .before .before .before .before .before in
+    (S .pre .0, S .pre .1)
 
 returns-3 : tie.Need-returns-3
 returns-3 c =
@@ -46,7 +44,7 @@ returns-3 c =
     let A = S .args in
     let img = A .image .now in
     sym (within-low (A .lo) (A .hi) (startIn img (A .i .0))
-    (omega (arith, start-none img (A .i .0) (sym (c .before .is-vacant .ensures) ∙ c .if3 .taken), S .pre .1)))
+    (omega (arith, start-none img (A .i .0) (sym (c .before .is-vacant .ensures) ∙ c .if3 .taken), S .pre .2)))
 
 returns-4 : tie.Need-returns-4
 returns-4 c =
