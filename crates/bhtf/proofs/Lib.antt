@@ -33,6 +33,9 @@ pub mod Sought  -- the questions that every call on a name puts first
 pub mod Outcomes  -- each call's number, case by case, and the image that it leaves
 -- ---- document 02
 pub mod OldLimits  -- an image within the old limits keeps every byte
+pub mod Changes  -- the list of changes: what it covers, and that copying it suffices
+pub mod Journal  -- what stands in a journal is read back
+pub mod Recovery  -- a cut, and recovery
 -- ---- cases, by computation
 pub mod CasesBase  -- what they compute with and look at
 pub mod Cases  -- document 01's proved table
@@ -42,3 +45,4 @@ pub mod CasesBook  -- the book, and file and book side by side
 pub mod CasesInspect  -- walk and check
 pub mod CasesStretches  -- two points on one message
 pub mod CasesReopened  -- images that no call of ours made, and the books read off them
+pub mod CasesChanges  -- the list of changes, the journal, recovery

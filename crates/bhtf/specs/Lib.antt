@@ -11,3 +11,5 @@ pub mod Inspect
 pub mod Book
 pub mod Demand
 pub mod Reopened
+pub mod Changes
+pub mod Journal
