@@ -96,7 +96,7 @@ pub fn write_pairs(list: &mut [u8], place: usize, old: &[u8], new: &[u8])
 }
 
 // Copies the bytes of new from `at` up to `end` to `to`; answers the place behind them.
-fn put_part(out: &mut [u8], to: usize, new: &[u8], at: usize, end: usize) -> usize
+pub fn put_part(out: &mut [u8], to: usize, new: &[u8], at: usize, end: usize) -> usize
     requires { ⌜ (at ≤ end) × (end ≤ length (now new)) × (to + (end - at) ≤ length (now out)) ⌝ }
     ensures { λ r. ⌜ (now (out .exit) ≡ store (now (out .entry)) to (part (now (new .entry)) at (end - at)))
         × (r ≡ to + (end - at)) ⌝ }
@@ -123,8 +123,8 @@ pub fn write_bytes(out: &mut [u8], place: usize, old: &[u8], new: &[u8])
     }
 }
 
-// Fills the list with the pairs, or, where they don't fit, with the single pair 0, L; answers how many it wrote. Whether
-// they fit is known before the first is written.
+// Fills the list with the pairs, or, where they don't fit, with the single pair 0, L; answers how many it wrote.
+// Whether they fit is known before the first is written.
 pub fn fill_list(list: &mut [u8], old: &[u8], new: &[u8]) -> u32
     requires { ⌜ (length (now old) ≡ length (now new))
         × (length (now old) < 2 ^ 32)
