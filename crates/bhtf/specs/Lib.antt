@@ -13,3 +13,5 @@ pub mod Lists
 pub mod Book
 pub mod Demand
 pub mod Reopened
+pub mod Changes
+pub mod Journal
