@@ -13,5 +13,3 @@ pub mod Lists
 pub mod Book
 pub mod Demand
 pub mod Reopened
-pub mod Changes
-pub mod Journal

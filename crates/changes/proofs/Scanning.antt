@@ -15,12 +15,12 @@ use lib.Seq.{drop-cons, drop-length}
 use borrow.Author.Tests.{le-leb, lt-leb}
 use Rattle.bhtf.specs.Bytes.{Bytes, part, store, digits}
 use Rattle.bhtf.specs.Image.{setField}
-use Rattle.bhtf.specs.Changes.{Pair, joined, runs, pairBytes, whole, changesIn}
-use Rattle.bhtf.specs.Journal.{newBytes, total}
+use Rattle.updates.specs.Changes.{Pair, joined, runs, pairBytes, whole, changesIn}
+use Rattle.updates.specs.Journal.{newBytes, total}
 use Rattle.bhtf.proofs.Tests.{by-le}
 use Rattle.bhtf.proofs.Bytes.{length-digits, length-store}
 use Rattle.bhtf.proofs.Stores.{store-none, store-append}
-use Rattle.bhtf.proofs.Changes.{joined-next, joined-apart, runs-same, runs-differ, Spread, spread-runs}
+use Rattle.updates.proofs.Changes.{joined-next, joined-apart, runs-same, runs-differ, Spread, spread-runs}
 use Rattle.changes.specs.Scans.{rest, Differ, ToChange, RunTo, Measured}
 
 module _ (old new : Bytes) (l : length old ≡ length new) where

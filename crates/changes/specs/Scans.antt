@@ -5,8 +5,8 @@ use Prim.Native.Nat.{ℕ, _-_, _≤_, _<_}
 use mathlib.Core.List.{List, _∷_}
 use lib.ListN.{length, drop, getD}
 use Rattle.bhtf.specs.Bytes.{Bytes}
-use Rattle.bhtf.specs.Changes.{Pair, runs}
-use Rattle.bhtf.specs.Journal.{total}
+use Rattle.updates.specs.Changes.{Pair, runs}
+use Rattle.updates.specs.Journal.{total}
 
 -- the runs of the bytes from k on
 abbrev pub rest : Bytes → Bytes → ℕ → List Pair

@@ -7,8 +7,8 @@ ghost use mathlib.Core.List.{_++_};
 ghost use Prim.Native.Nat.{_+_, _-_, _^_, _≤_, _<_};
 ghost use lib.ListN.{length};
 ghost use Rattle.bhtf.specs.Bytes.{part, store, digits};
-ghost use Rattle.bhtf.specs.Changes.{runs, pairBytes, changesIn};
-ghost use Rattle.bhtf.specs.Journal.{newBytes};
+ghost use Rattle.updates.specs.Changes.{runs, pairBytes, changesIn};
+ghost use Rattle.updates.specs.Journal.{newBytes};
 ghost use Rattle.changes.specs.Scans.{Differ, ToChange, RunTo, Measured};
 
 // How many runs there are, and how many bytes they have together.

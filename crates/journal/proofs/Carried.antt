@@ -14,16 +14,16 @@ use lib.Dec.{leb, eqb}
 use borrow.Author.Tests.{le-leb, lt-leb, leb-true, eq-eqb, ne-eqb}
 use Rattle.bhtf.specs.Bytes.{Bytes, part, store, digits}
 use Rattle.bhtf.specs.Image.{setField}
-use Rattle.bhtf.specs.Changes.{Pair, runs, pairBytes}
-use Rattle.bhtf.specs.Journal.{newBytes, content, markPlace, mark, marked, journalAllowed, Disk, Block, Write, toJournal, toImage, put, written, allWritten, putAll, stretches, toImages, setMark, updates, pairCount, bytesStart, blocksOf, total, journalSound}
+use Rattle.updates.specs.Changes.{Pair, runs, pairBytes}
+use Rattle.updates.specs.Journal.{newBytes, content, markPlace, mark, marked, journalAllowed, Disk, Block, Write, toJournal, toImage, put, written, allWritten, putAll, stretches, toImages, setMark, updates, pairCount, bytesStart, blocksOf, total, journalSound}
 use Rattle.bhtf.proofs.Tests.{and-left, and-right}
 use Rattle.bhtf.proofs.Bytes.{length-digits, length-store}
 use Rattle.bhtf.proofs.Stores.{store-append}
-use Rattle.bhtf.proofs.Changes.{Spread, runs-spread, runs-few}
-use Rattle.bhtf.proofs.Journal.{length-pairBytes, length-content, Holds, holds-content, holds-mark, content-count, content-blocks, content-sound}
+use Rattle.updates.proofs.Changes.{Spread, runs-spread, runs-few}
+use Rattle.updates.proofs.Journal.{length-pairBytes, length-content, Holds, holds-content, holds-mark, content-count, content-blocks, content-sound}
 use Rattle.bhtf.specs.Calls.{settled}
 use Rattle.bhtf.proofs.Outcomes.{settled-no}
-use Rattle.bhtf.proofs.Recovery.{images-then}
+use Rattle.updates.proofs.Recovery.{images-then}
 use Rattle.words.proofs.Numbers.{set-store}
 use Rattle.journal.specs.Updates.{Updates}
 

@@ -15,8 +15,8 @@ use lib.Dec.{leb}
 use borrow.Author.Tests.{le-leb, lt-leb, leb-true}
 use Rattle.bhtf.specs.Bytes.{Bytes, part, store, number}
 use Rattle.bhtf.specs.Image.{field}
-use Rattle.bhtf.specs.Changes.{Pair}
-use Rattle.bhtf.specs.Journal.{Block, put, putAll, blocks, pairCount, pairsFrom, pairsOf, bytesStart, blocksOf, total, contentInside, inOrder, journalSound}
+use Rattle.updates.specs.Changes.{Pair}
+use Rattle.updates.specs.Journal.{Block, put, putAll, blocks, pairCount, pairsFrom, pairsOf, bytesStart, blocksOf, total, contentInside, inOrder, journalSound}
 use Rattle.bhtf.proofs.Tests.{and-left, and-right}
 use Rattle.bhtf.proofs.Bytes.{part-length, length-store}
 

@@ -12,9 +12,9 @@ use lib.Seq.{take-all}
 use lib.Dec.{leb, eqb}
 use borrow.Author.Tests.{le-leb, lt-leb, eq-eqb, ne-eqb}
 use Rattle.bhtf.specs.Bytes.{Bytes, store}
-use Rattle.bhtf.specs.Changes.{Pair}
-use Rattle.bhtf.specs.Journal.{markPlace, mark, marked, Disk, Block, putAll, blocks, pairCount, pairsFrom, pairsOf, bytesStart, blocksOf, isMarked, journalSound, recoverNumber, recovered}
-use Rattle.bhtf.proofs.Recovery.{recovered-other, recovered-marked, recovered-refused}
+use Rattle.updates.specs.Changes.{Pair}
+use Rattle.updates.specs.Journal.{markPlace, mark, marked, Disk, Block, putAll, blocks, pairCount, pairsFrom, pairsOf, bytesStart, blocksOf, isMarked, journalSound, recoverNumber, recovered}
+use Rattle.updates.proofs.Recovery.{recovered-other, recovered-marked, recovered-refused}
 use Rattle.journal.specs.Updates.{Updates}
 use Rattle.journal.proofs.Carried.{updates-as, mark-stored}
 

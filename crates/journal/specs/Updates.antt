@@ -2,7 +2,7 @@
 -- Assumes nothing.
 use mathlib.Core.Path.{_≡_}
 use Rattle.bhtf.specs.Bytes.{Bytes}
-use Rattle.bhtf.specs.Journal.{Disk}
+use Rattle.updates.specs.Journal.{Disk}
 
 pub record Updates (d : Disk) (image journal : Bytes) : Type 0 where
   pub image-is : image ≡ d .image

@@ -12,8 +12,8 @@ ghost use Prim.Native.Nat.{_+_, _≤_, _<_, _^_};
 ghost use lib.ListN.{length, take};
 ghost use Rattle.bhtf.specs.Bytes.{store};
 ghost use Rattle.bhtf.specs.Calls.{settled};
-ghost use Rattle.bhtf.specs.Changes.{runs};
-ghost use Rattle.bhtf.specs.Journal.{content, journalAllowed, Disk, allWritten, putAll, updates, pairCount, blocksOf, journalSound, recoverNumber, recovered};
+ghost use Rattle.updates.specs.Changes.{runs};
+ghost use Rattle.updates.specs.Journal.{content, journalAllowed, Disk, allWritten, putAll, updates, pairCount, blocksOf, journalSound, recoverNumber, recovered};
 ghost use Rattle.journal.specs.Updates.{Updates};
 
 // Writes an update's content to the journal's start: the count, the pairs, the new bytes.

@@ -15,11 +15,11 @@ use borrow.Author.Tests.{leb-true}
 use Rattle.bhtf.specs.Bytes.{Bytes, part, store}
 use Rattle.bhtf.specs.Questions.{openNumber, addNumber, deleteNumber}
 use Rattle.bhtf.specs.Calls.{Outcome, plain, settled, add, delete}
-use Rattle.bhtf.specs.Changes.{Pair, pairBytes, changesIn, listAllowed, workAllowed, workedNumber, Listed, listed}
+use Rattle.updates.specs.Changes.{Pair, pairBytes, changesIn, listAllowed, workAllowed, workedNumber, Listed, listed}
 use Rattle.bhtf.proofs.Tests.{by-eq, and-left, and-right, zero-yes, zero-no}
 use Rattle.bhtf.proofs.Bytes.{part-store-same}
 use Rattle.bhtf.proofs.Opened.{opened-facts}
-use Rattle.bhtf.proofs.Changes.{copied-changes}
+use Rattle.updates.proofs.Changes.{copied-changes}
 use Rattle.bhtf.proofs.Outcomes.{settled-yes, settled-no, add-closed, add-refused, delete-closed, delete-refused}
 use Rattle.listed.specs.Lists.{Lists}
 

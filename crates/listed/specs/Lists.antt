@@ -5,7 +5,7 @@ use Prim.Native.Nat.{ℕ}
 use lib.ListN.{length}
 use Rattle.bhtf.specs.Bytes.{Bytes}
 use Rattle.bhtf.specs.Calls.{Outcome}
-use Rattle.bhtf.specs.Changes.{changesIn, copied, listed}
+use Rattle.updates.specs.Changes.{changesIn, copied, listed}
 
 -- of a call on an image, a working slice of so many bytes and a list: the image and the list afterwards, the number and
 -- the pairs answered

@@ -9,7 +9,7 @@ ghost use mathlib.Core.Bool.{_&&_};
 ghost use lib.ListN.{length};
 ghost use Rattle.bhtf.specs.Bytes.{Bytes};
 ghost use Rattle.bhtf.specs.Calls.{add, delete};
-ghost use Rattle.bhtf.specs.Changes.{listAllowed, workAllowed};
+ghost use Rattle.updates.specs.Changes.{listAllowed, workAllowed};
 ghost use Rattle.listed.specs.Lists.{Lists};
 
 // Question 16, of a list and a working slice for an image of so many bytes.

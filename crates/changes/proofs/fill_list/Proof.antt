@@ -6,8 +6,8 @@ use mathlib.Core.List.{List}
 use lib.ListN.{length}
 use borrow.Author.Needs.{needs}
 use Rattle.bhtf.specs.Bytes.{Bytes, store}
-use Rattle.bhtf.specs.Changes.{Pair, runs, pairBytes, whole, changesIn}
-use Rattle.bhtf.proofs.Journal.{length-pairBytes}
+use Rattle.updates.specs.Changes.{Pair, runs, pairBytes, whole, changesIn}
+use Rattle.updates.proofs.Journal.{length-pairBytes}
 use Rattle.changes.proofs.Scanning.{changes-fit, changes-whole, whole-bytes}
 use Rattle.changes.proofs.fill_list.Statement.{statement}
 use Rattle.changes.proofs.fill_list.Tie as tie

@@ -6,8 +6,8 @@ use mathlib.Core.List.{List}
 use lib.ListN.{length}
 use borrow.Author.Needs.{needs}
 use Rattle.bhtf.specs.Bytes.{Bytes, part, store}
-use Rattle.bhtf.specs.Changes.{Pair}
-use Rattle.bhtf.specs.Journal.{newBytes}
+use Rattle.updates.specs.Changes.{Pair}
+use Rattle.updates.specs.Journal.{newBytes}
 use Rattle.bhtf.proofs.Bytes.{part-length}
 use Rattle.changes.proofs.Scanning.{Writing, writing-start, writing-room, writing-more, writing-end, part-piece, part-step, part-is, bytes-nil}
 use Rattle.changes.proofs.write_bytes.Statement.{statement}

@@ -5,7 +5,7 @@ use mathlib.Core.Path.{_≡_, sym, ap, _∙_}
 use lib.ListN.{length}
 use borrow.Author.Needs.{needs}
 use Rattle.bhtf.specs.Bytes.{store}
-use Rattle.bhtf.specs.Changes.{pairBytes}
+use Rattle.updates.specs.Changes.{pairBytes}
 use Rattle.changes.proofs.Scanning.{Writing, writing-start, writing-room, writing-more, writing-end, pair-piece, pair-step, length-piece, piece-is, pairs-nil}
 use Rattle.changes.proofs.write_pairs.Statement.{statement}
 use Rattle.changes.proofs.write_pairs.Tie as tie

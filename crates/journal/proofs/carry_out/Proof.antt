@@ -7,8 +7,8 @@ use mathlib.Core.List.{[], _∷_}
 use lib.ListN.{length, take, set, length-set}
 use borrow.Author.Needs.{needs}
 use Rattle.bhtf.specs.Bytes.{Bytes, store}
-use Rattle.bhtf.specs.Changes.{runs}
-use Rattle.bhtf.specs.Journal.{content, markPlace, marked, Block, putAll, allWritten, updates, stretches, pairCount, blocksOf, journalSound}
+use Rattle.updates.specs.Changes.{runs}
+use Rattle.updates.specs.Journal.{content, markPlace, marked, Block, putAll, allWritten, updates, stretches, pairCount, blocksOf, journalSound}
 use Rattle.journal.proofs.Carried.{carried-none, carried-content, carried-stretches, carried-all, allowed-room, marked-sound, marked-count, marked-blocks, updates-as, mark-stored, all-stretches}
 use Rattle.journal.proofs.carry_out.Statement.{statement}
 use Rattle.journal.proofs.carry_out.Tie as tie

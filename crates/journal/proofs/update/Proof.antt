@@ -7,10 +7,10 @@ use mathlib.Core.List.{List}
 use lib.ListN.{length}
 use borrow.Author.Needs.{needs}
 use Rattle.bhtf.specs.Bytes.{Bytes}
-use Rattle.bhtf.specs.Changes.{runs}
-use Rattle.bhtf.specs.Journal.{content, journalAllowed, Disk, Write, allWritten, updates}
+use Rattle.updates.specs.Changes.{runs}
+use Rattle.updates.specs.Journal.{content, journalAllowed, Disk, Write, allWritten, updates}
 use Rattle.bhtf.proofs.Outcomes.{settled-yes}
-use Rattle.bhtf.proofs.Recovery.{updates-arrive}
+use Rattle.updates.proofs.Recovery.{updates-arrive}
 use Rattle.journal.proofs.Carried.{counted-content, refused-short, refused-mark, allowed-both, taken-all, update-refused}
 use Rattle.journal.proofs.update.Statement.{statement}
 use Rattle.journal.proofs.update.Tie as tie

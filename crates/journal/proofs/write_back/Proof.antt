@@ -5,7 +5,7 @@ use mathlib.Core.Path.{_≡_, sym, ap₂, _∙_, subst}
 use lib.ListN.{length}
 use borrow.Author.Needs.{needs}
 use Rattle.bhtf.specs.Bytes.{part, store}
-use Rattle.bhtf.specs.Journal.{pairCount}
+use Rattle.updates.specs.Journal.{pairCount}
 use Rattle.journal.proofs.Reading.{count-field, Back, sound-start, back-start, back-inside, back-room, back-more, back-end}
 use Rattle.journal.proofs.write_back.Statement.{statement}
 use Rattle.journal.proofs.write_back.Tie as tie

@@ -5,9 +5,9 @@ use mathlib.Core.Path.{_≡_, ap, _∙_}
 use lib.ListN.{length}
 use borrow.Author.Needs.{needs}
 use Rattle.bhtf.specs.Bytes.{Bytes, store}
-use Rattle.bhtf.specs.Changes.{runs, pairBytes}
-use Rattle.bhtf.specs.Journal.{newBytes}
-use Rattle.bhtf.proofs.Changes.{runs-few}
+use Rattle.updates.specs.Changes.{runs, pairBytes}
+use Rattle.updates.specs.Journal.{newBytes}
+use Rattle.updates.proofs.Changes.{runs-few}
 use Rattle.journal.proofs.Carried.{content-stored, content-room}
 use Rattle.journal.proofs.write_content.Statement.{statement}
 use Rattle.journal.proofs.write_content.Tie as tie

@@ -1,7 +1,7 @@
 -- Question 16 is its two tests. Assumes nothing.
 use mathlib.Core.Path.{refl}
 use borrow.Author.Needs.{needs}
-use Rattle.bhtf.specs.Changes.{listAllowed, workAllowed}
+use Rattle.updates.specs.Changes.{listAllowed, workAllowed}
 use Rattle.listed.proofs.slices_allowed.Statement.{statement}
 use Rattle.listed.proofs.slices_allowed.Tie as tie
 

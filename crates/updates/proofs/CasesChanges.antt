@@ -5,11 +5,12 @@ use mathlib.Core.Path.{_≡_, refl}
 use Prim.Native.Nat.{ℕ}
 use mathlib.Core.Bool.{true, false}
 use mathlib.Core.List.{List, [], _∷_, _++_}
 use Rattle.bhtf.specs.Bytes.{Bytes, zeros}
-use Rattle.bhtf.specs.Calls.{adding, Outcome, plain, settled}
-use Rattle.bhtf.specs.Changes.{Pair, joined, runs, pairBytes, changesIn, copied, listAllowed, workAllowed, workedNumber, Listed, listed}
-use Rattle.bhtf.specs.Journal.{newBytes, content, markPlace, mark, journalAllowed, Disk, put, written, allWritten, putAll, stretches, toImages, setMark, updates, spoiltBytes, spoiltBlock, spoilt, cutAfter, pairCount, pairsFrom, pairsOf, bytesStart, blocks, blocksOf, total, contentInside, inOrder, isMarked, journalSound, recoverNumber, recovered, journaledNumber, Journaled, journaled}
+use Rattle.bhtf.specs.Calls.{Outcome, plain, settled}
+use Rattle.bhtf.specs.Lists.{adding}
+use Rattle.updates.specs.Changes.{Pair, joined, runs, pairBytes, changesIn, copied, listAllowed, workAllowed, workedNumber, Listed, listed}
+use Rattle.updates.specs.Journal.{newBytes, content, markPlace, mark, journalAllowed, Disk, put, written, allWritten, putAll, stretches, toImages, setMark, updates, spoiltBytes, spoiltBlock, spoilt, cutAfter, pairCount, pairsFrom, pairsOf, bytesStart, blocks, blocksOf, total, contentInside, inOrder, isMarked, journalSound, recoverNumber, recovered, journaledNumber, Journaled, journaled}
 use Rattle.bhtf.proofs.CasesBase.{definitions, fresh, after, one}
 
 changes : ℕ
 unfolding definitions joined runs pairBytes changesIn copied listAllowed workAllowed workedNumber listed

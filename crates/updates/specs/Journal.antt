@@ -13,9 +13,9 @@ use mathlib.Core.Bool.{Bool, true, false, cond, not, _&&_, _||_}
 use mathlib.Core.List.{List, [], _∷_, _++_}
 use lib.ListN.{length, take, drop, getD}
 use lib.Dec.{leb, ltb, eqb}
 use Rattle.bhtf.specs.Bytes.{Bytes, part, store, number, digits}
 use Rattle.bhtf.specs.Calls.{Outcome, settled}
-use Rattle.bhtf.specs.Changes.{Pair, runs, pairBytes, workAllowed, workedNumber}
+use Rattle.updates.specs.Changes.{Pair, runs, pairBytes, workAllowed, workedNumber}
 
 -- ---- the journal's bytes
 

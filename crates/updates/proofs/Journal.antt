@@ -12,12 +12,12 @@ use lib.ListN.{length, take, drop, getD, length-append, take-append-drop}
 use lib.Seq.{take-at, drop-at, drop-drop, length-take-le, take-length}
 use lib.Dec.{leb}
 use borrow.Author.Tests.{le-leb}
 use Rattle.bhtf.specs.Bytes.{Bytes, part, store, number, digits}
-use Rattle.bhtf.specs.Changes.{Pair, runs, pairBytes}
-use Rattle.bhtf.specs.Journal.{newBytes, content, markPlace, Block, stretches, blocks, pairCount, pairsFrom, pairsOf, bytesStart, blocksOf, total, contentInside, inOrder, journalSound}
+use Rattle.updates.specs.Changes.{Pair, runs, pairBytes}
+use Rattle.updates.specs.Journal.{newBytes, content, markPlace, Block, stretches, blocks, pairCount, pairsFrom, pairsOf, bytesStart, blocksOf, total, contentInside, inOrder, journalSound}
 use Rattle.bhtf.proofs.Bytes.{part-length, length-digits, number-digits-fits, length-store}
 use Rattle.bhtf.proofs.Stores.{take-store}
-use Rattle.bhtf.proofs.Changes.{Spread}
+use Rattle.updates.proofs.Changes.{Spread}
 
 -- ---- lengths
 

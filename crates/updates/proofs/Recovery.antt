@@ -15,16 +15,16 @@ use mathlib.Core.Logic.{_⊎_, inl, inr}
 use lib.ListN.{length, take, drop, getD}
 use lib.Dec.{leb, eqb}
 use borrow.Author.Tests.{le-leb, leb-true, eqb-true}
 use Rattle.bhtf.specs.Bytes.{Bytes, part, store}
 use Rattle.bhtf.specs.Calls.{settled}
-use Rattle.bhtf.specs.Changes.{Pair, runs, copied}
-use Rattle.bhtf.specs.Journal.{newBytes, content, markPlace, mark, marked, journalAllowed, Disk, Block, Write, toJournal, toImage, put, written, allWritten, putAll, stretches, toImages, setMark, updates, spoiltBytes, spoiltBlock, spoilt, cutAfter, blocksOf, isMarked, journalSound, recoverNumber, recovered, Safe, CutSafe}
+use Rattle.updates.specs.Changes.{Pair, runs, copied}
+use Rattle.updates.specs.Journal.{newBytes, content, markPlace, mark, marked, journalAllowed, Disk, Block, Write, toJournal, toImage, put, written, allWritten, putAll, stretches, toImages, setMark, updates, spoiltBytes, spoiltBlock, spoilt, cutAfter, blocksOf, isMarked, journalSound, recoverNumber, recovered, Safe, CutSafe}
 use Rattle.bhtf.proofs.Tests.{by-bool, by-eq, and-left, and-right, and-true}
 use Rattle.bhtf.proofs.Bytes.{part-length, length-store}
 use Rattle.bhtf.proofs.Stores.{store-inner}
 use Rattle.bhtf.proofs.Outcomes.{settled-yes, settled-no}
-use Rattle.bhtf.proofs.Changes.{byte-store-above, byte-store-inside, Spread, Near, near-none, near-more, near-any, near-copy, near-runs, copied-near, runs-spread, runs-few}
-use Rattle.bhtf.proofs.Journal.{Holds, holds-content, holds-mark, content-blocks, content-sound}
+use Rattle.updates.proofs.Changes.{byte-store-above, byte-store-inside, Spread, Near, near-none, near-more, near-any, near-copy, near-runs, copied-near, runs-spread, runs-few}
+use Rattle.updates.proofs.Journal.{Holds, holds-content, holds-mark, content-blocks, content-sound}
 
 -- ---- the mark
 
