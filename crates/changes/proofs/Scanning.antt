@@ -1,5 +1,5 @@
 -- A scan of two images, place by place, and what it writes, piece by piece.
---     rest-same, rest-end, rest-run      equal bytes are passed over; nothing is left at the end; a run and what is left
+--     rest-same, rest-end, rest-run      equal bytes passed over; nothing left at the end; a run and what is left
 --     Counting      runs counted up to a place, with its turns
 --     Writing       what f makes of the runs, written up to a place, with its turns; of pairs and of new bytes
 -- Assumes nothing.

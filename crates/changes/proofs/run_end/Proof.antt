@@ -22,8 +22,8 @@ add-i c = search needs
 
 loop-holds : tie.Need-loop-holds Inv-loop μ-loop
 loop-holds c =
-    let S = c in
-    (omega arith, omega arith, differ-one (S .args .old .now) (S .args .new .now) (S .pre .0) (S .args .from) (S .pre .2))
+    let A = c .args in
+    (omega arith, omega arith, differ-one (A .old .now) (A .new .now) (c .pre .0) (A .from) (c .pre .2))
 
 shared-slice-read-if1 : tie.Need-shared-slice-read-if1 Inv-loop μ-loop
 shared-slice-read-if1 c = search needs
