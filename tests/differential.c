@@ -11,8 +11,11 @@
  *     is also held against its definition, pair by pair.
  * In all, a refused or reading call must leave every byte.
  *
- * Options: --seed N, --calls N, --seconds N, --quiet, --strict, --old-limits.
+ * Options: --seed N, --calls N, --seconds N, --quiet, --strict, --old-limits,
+ * --old-check.
  * --old-limits keeps to images and tables within document 01's limits.
+ * --old-check is for a library of before 02's Job 1 in plain's place: of images
+ * that no call made, what the two checks say is not compared.
  * --strict also compares outputs the document leaves open: walk's slot at the
  * end, check's slot without a failing slot, both when refused (plain: 0).
  *
@@ -57,6 +60,10 @@ static void read_options(int argc, char **argv)
         }
         if (strcmp(argv[i], "--old-limits") == 0) {
             run.old_limits = 1;
+            continue;
+        }
+        if (strcmp(argv[i], "--old-check") == 0) {
+            run.old_check = 1;
             continue;
         }
         if (strcmp(argv[i], "--seed") == 0)

@@ -140,7 +140,8 @@ struct answer run_call(void)
     if (c->key != NULL && memcmp(key, c->key, kept) != 0)
         fail("the lent key changed");
     b = perform(&plain, lent.plain, c);
-    compare_answers(c, &a, &b);
+    if (c->kind != CHECK || list.with_book || !run.old_check)
+        compare_answers(c, &a, &b);
     compare_bytes(c, a.number);
     if (list.with_book)
         compare_book(c, &a);

@@ -51,6 +51,7 @@ struct run {
     int quiet;
     int strict;
     int old_limits; /* images and tables within document 01's limits alone */
+    int old_check;  /* plain's check does not ask whether messages share bytes */
 };
 extern struct run run;
 
