@@ -25,7 +25,8 @@ returns c =
     let at = S .args .at in
     let b = c .before .before .shared-slice-known .given in
     c .swapped .ensures
-    ∙ swapped-four (getD s at 0) (getD s (at + 1) 0) (getD s (at + 2) 0) (getD s (at + 3) 0) (c .before .read-little .result)
+    ∙ swapped-four (getD s at 0) (getD s (at + 1) 0) (getD s (at + 2) 0) (getD s (at + 3) 0)
+    (c .before .read-little .result)
     (omega (arith, b at)) (omega (arith, b (at + 1))) (omega (arith, b (at + 2))) (omega (arith, b (at + 3)))
     (c .before .read-little .ensures)
     ∙ sym (ap number (part-four s at (S .pre)) ∙ number-four _ _ _ _)
