@@ -99,7 +99,7 @@ uint32_t bhtf_create(uint8_t *image, size_t image_len, uint32_t key_size,
  *                  the key is not there.
  * An empty message in new space takes BHTF_MESSAGE_HEADER bytes, so that 13
  * can refuse it. Space once taken is not handed out again, but for
- * BHTF_REPLACE's.
+ * BHTF_REPLACE's, before bhtf_compact.
  * Versions: the first empty message stored makes a file of version 1.0.0 or
  * 1.0.1 one of 1.0.2; no other call after create changes the version.
  * Libraries before this one know no empty message and refuse a file of 1.0.2,
@@ -189,7 +189,7 @@ uint32_t bhtf_check(const uint8_t *image, size_t image_len,
  * bhtf_check does not say sound; then no byte changes.
  * Time: a check, and for every MiB of the data area that is in use one pass
  * over the slots.
- * Stack: up to 1,088 KiB (1,114,112 bytes), which a small thread may not
+ * Stack: up to 1,344 KiB (1,376,256 bytes), which a small thread may not
  * have. */
 uint32_t bhtf_compact(uint8_t *image, size_t image_len);
 

@@ -12,7 +12,7 @@
 #include <sys/mman.h>
 
 /* What the header says, and what the thread itself may take besides. */
-enum { CHECK_SAID = 307200, COMPACT_SAID = 307200, BESIDES = 20480 };
+enum { CHECK_SAID = 307200, COMPACT_SAID = 1376256, BESIDES = 20480 };
 enum { PAGE = 4096, PAINT = 0xA7, KEY = 4, TEXT = 200 };
 
 struct asked {
