@@ -7,6 +7,10 @@
 #     --seed S               of names, messages and orders (default 1)
 #     --rounds R             of three samples each
 #     --no-counts            no instructions and branches, which need valgrind
+#     --large                instead, every call at 1,048,576 slots and some
+#                            500 MB of messages beside the two C programs, in
+#                            3 GiB of memory; writes bench/large.md and that
+#                            section of docs/PERFORMANCE.md
 #     --self                 plain C in the library's place, to test the
 #                            benchmark; writes to target/bench only
 #     LIB=path               of the library (default: rt staticlib station)
@@ -16,17 +20,18 @@
 set -u
 
 usage() {
-  sed -n '2,15s/^# \{0,1\}//p' "$0"
+  sed -n '2,18s/^# \{0,1\}//p' "$0"
   exit 2
 }
 
-quick=0 self=0 counts=1 seed=1 rounds= given="bench/run.sh"
+quick=0 self=0 counts=1 large=0 seed=1 rounds= given="bench/run.sh"
 LIB=${LIB:-}
 while [ $# -gt 0 ]; do
   case $1 in
   --quick) quick=1 ;;
   --self) self=1 ;;
   --no-counts) counts=0 ;;
+  --large) large=1 ;;
   --seed) shift; seed=${1:-} ;;
   --rounds) shift; rounds=${1:-} ;;
   LIB=*) LIB=${1#LIB=} ;;
@@ -60,6 +65,33 @@ find_library() {
   [ -f "$LIB" ]
 }
 
+# All on one core, so that all meet the same neighbours.
+pin=()
+core=$(taskset -pc $$ 2>/dev/null | sed 's/.*[ ,-]//')
+[ -n "$core" ] && pin=(taskset -c "$core")
+
+# The section of bench/large.md in the page, in place of what stood there.
+put_large() {
+  awk -v section=bench/large.md '
+    /^## At 1,048,576 slots/ { old = 1; next }
+    /^## / { old = 0 }
+    /^## Other engines/ { while ((getline line < section) > 0) print line; print "" }
+    !old' docs/PERFORMANCE.md >"$bin/page.md" && cp "$bin/page.md" docs/PERFORMANCE.md
+}
+
+# Every call at the largest size.
+run_large() {
+  .ci/install gcc make util-linux && find_library && make -s -C bench LIB="$LIB" "../$bin/large" || exit 2
+  "${pin[@]}" "$bin/large" "$rounds" >"$bin/large.txt" || { cat "$bin/large.txt"; exit 1; }
+  cat "$bin/large.txt"
+  [ "$self" = 1 ] && exit
+  { cat bench/large-head.md; sed '$d' "$bin/large.txt"; } >bench/large.md
+  put_large
+  exit
+}
+
+[ "$large" = 1 ] && run_large
+
 [ "$quick" = 1 ] && counts=0
 tools=()
 [ "$counts" = 1 ] && tools=(valgrind)
@@ -78,11 +110,6 @@ else
   files_say="All files are in a temporary directory, as there was no tmpfs."
 fi
 echo "seed $seed; $files_say"
-
-# All on one core, so that all meet the same neighbours.
-pin=()
-core=$(taskset -pc $$ 2>/dev/null | sed 's/.*[ ,-]//')
-[ -n "$core" ] && pin=(taskset -c "$core")
 
 # ---- running ----
 
@@ -222,7 +249,7 @@ if [ "$quick" = 1 ] || [ "$self" = 1 ] || [ "$failed" -gt 0 ]; then pages=$bin; 
 mkdir -p "$pages"
 cp "$results" "$bin/results"
 slots_read page >"$work/slots.md" || fail "the slots read"
-awk -v rounds="$rounds" -v head=bench/head.md -v tried=bench/tried.md -v slots="$work/slots.md" -v command="$given" -v seed="$seed" -v files="$files_say" \
+awk -v rounds="$rounds" -v head=bench/head.md -v large=bench/large.md -v tried=bench/tried.md -v slots="$work/slots.md" -v command="$given" -v seed="$seed" -v files="$files_say" \
   -v machine="Machine: $(nproc) cores, $(uname -m), gcc $(gcc -dumpfullversion)" \
   -v engines="Engines: gdbm $(version libgdbm-dev), tdb $(version libtdb-dev), LMDB $(version liblmdb-dev), Kyoto Cabinet $(version libkyotocabinet-dev)" \
   -f bench/table.awk "$results" >"$pages/PERFORMANCE.md" || fail "the page"

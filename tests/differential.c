@@ -13,10 +13,12 @@
  * deletes and lookups are made by the form that reports the slots read.
  *
  * Options: --seed N, --calls N, --seconds N, --quiet, --strict, --old-limits,
- * --old-calls.
+ * --old-calls, --old-check.
  * --old-limits keeps to images and tables within document 01's limits,
  * --old-calls to lists of kinds (a) and (b) with its calls: those that 02 left
  * as they were, on files of its versions.
+ * --old-check is for a library of before 02's Job 1 in plain's place: of images
+ * that no call made, what the two checks say is not compared.
  * --strict also compares outputs the document leaves open: walk's slot at the
  * end, check's slot without a failing slot, both when refused (plain: 0).
  *
@@ -68,6 +70,10 @@ static void read_options(int argc, char **argv)
         }
         if (strcmp(argv[i], "--old-calls") == 0) {
             run.old_calls = 1;
+            continue;
+        }
+        if (strcmp(argv[i], "--old-check") == 0) {
+            run.old_check = 1;
             continue;
         }
         if (strcmp(argv[i], "--seed") == 0)

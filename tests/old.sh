@@ -3,7 +3,8 @@
 # built with those limits; every answer and byte is compared. That the test can fail: beyond the old limits the two differ.
 #     old.sh --archive REVISION     beside the library of that revision of this repository too, built in a temporary folder: on files
 #                                   from create and sound ones of versions 1.0.0 and 1.0.1, by the calls that document 02 left as they
-#                                   were; create's version byte alone is set aside
+#                                   were; create's version byte alone is set aside; of images that no call made, its check is not
+#                                   compared, which has another meaning since 02's Job 1
 # Ends with 'N passed, M failed'. CALLS may be set.
 set -u
 cd "$(dirname "$0")" || exit 2
@@ -33,7 +34,7 @@ archive() {
   (built "$1" "$room") && objcopy --weaken build/plain.o "$room/plain.o" &&
     gcc build/differential.o build/differential/*.o build/subject.o build/book.o "$room/before.o" "$room/plain.o" "$lib" \
       -o "$room/program" &&
-    "$room/program" --old-limits --old-calls --calls "$calls" --quiet
+    "$room/program" --old-limits --old-calls --old-check --calls "$calls" --quiet
   status=$?
   rm -rf "$room"
   return $status

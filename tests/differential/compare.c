@@ -199,7 +199,8 @@ struct answer run_call(void)
     b = perform(&plain, lent.plain, c);
     if (run.old_calls && c->kind == CREATE && a.number == 0)
         lent.library[7] = lent.plain[7];
-    compare_answers(c, &a, &b);
+    if (c->kind != CHECK || list.with_book || !run.old_check)
+        compare_answers(c, &a, &b);
     compare_bytes(c, a.number);
     if (list.with_book)
         compare_book(c, &a);

@@ -57,6 +57,7 @@ struct run {
     int strict;
     int old_limits; /* images and tables within document 01's limits alone */
     int old_calls;  /* document 01's calls alone */
+    int old_check;  /* plain's check does not ask whether messages share bytes */
 };
 extern struct run run;
 

@@ -1,5 +1,6 @@
-// The check: whether each taken slot's key, searched, ends there, its message passes question 11, and C is the number
-// of taken slots. One search for each taken slot; the first that fails ends it.
+// The check: whether each taken slot's key, searched, ends there, its message passes question 11, its stretch meets
+// that of no lower-numbered slot, and C is the number of taken slots. One search for each taken slot, up to the first
+// that fails; stretches are compared below that one only.
 use layout::places::Slot;
 use layout::shape::Shape;
 use layout::shape::read_shape;

@@ -1,4 +1,4 @@
--- The loop that claims places: from the first on, one byte of the map a turn.
+-- The loop that claims places: from the first on, one word of the map a turn.
 --     Claiming m m′ from to q      the places from `from` up to q are marked in m′ and not in m; the others are as in m
 --     marked-zeros      a map that is cleared marks no place
 --     claiming-start, claiming-on, claiming-met, claiming-end      its turns
@@ -11,12 +11,12 @@ use mathlib.Core.Logic.{_⊎_, inl, inr}
 use lib.Bits.{bitAnd, bitOr}
 use lib.ListN.{length, getD, set, length-set}
 use lib.Seq.{getD-set-same, getD-set-other}
-use Rattle.bhtf.specs.Bytes.{Bytes, zeros}
+use Rattle.bhtf.specs.Bytes.{zeros}
 use Rattle.bhtf.proofs.Tests.{by-eq, by-le, by-either}
-use Rattle.overlap.specs.Marks.{bit, marked, Claimed}
+use Rattle.overlap.specs.Marks.{Map, bit, marked, Claimed}
 use Rattle.overlap.proofs.Bits.{bit-zero, and-free, and-met, or-in, or-out}
 
-pub record Claiming (m m′ : Bytes) (from to q : ℕ) : Type 0 where
+pub record Claiming (m m′ : Map) (from to q : ℕ) : Type 0 where
   pub low : from ≤ q
   pub high : q ≤ to
   pub size : length m′ ≡ length m
@@ -24,7 +24,7 @@ pub record Claiming (m m′ : Bytes) (from to q : ℕ) : Type 0 where
   pub inside : (p : ℕ) → from ≤ p → p < q → marked m′ p ≡ 1
   pub outside : (p : ℕ) → (p < from) ⊎ (q ≤ p) → marked m′ p ≡ marked m p
 
-pub claiming-start : (m : Bytes) (from to : ℕ) → from ≤ to → Claiming m m from to from
+pub claiming-start : (m : Map) (from to : ℕ) → from ≤ to → Claiming m m from to from
 claiming-start m from to h =
     record {
       low = omega arith;
@@ -35,15 +35,15 @@ claiming-start m from to h =
       outside = λ p s. refl;
     }
 
--- a byte of the map set anew
-set-here : (m : Bytes) (c v p : ℕ) → p / 8 ≡ c → c < length m → marked (set m c v) p ≡ bit v (p % 8)
+-- a word of the map set anew
+set-here : (m : Map) (c v p : ℕ) → p / 64 ≡ c → c < length m → marked (set m c v) p ≡ bit v (p % 64)
 unfolding marked
 set-here m c v p e l =
-    ap (λ (k : ℕ). bit (getD (set m c v) k 0) (p % 8)) e ∙ ap (λ (x : ℕ). bit x (p % 8)) (getD-set-same m c v 0 l)
+    ap (λ (k : ℕ). bit (getD (set m c v) k 0) (p % 64)) e ∙ ap (λ (x : ℕ). bit x (p % 64)) (getD-set-same m c v 0 l)
 
-set-other : (m : Bytes) (c v p : ℕ) → (p / 8 ≡ c → ⊥) → marked (set m c v) p ≡ marked m p
+set-other : (m : Map) (c v p : ℕ) → (p / 64 ≡ c → ⊥) → marked (set m c v) p ≡ marked m p
 unfolding marked
-set-other m c v p n = ap (λ (x : ℕ). bit x (p % 8)) (getD-set-other m c (p / 8) v 0 n)
+set-other m c v p n = ap (λ (x : ℕ). bit x (p % 64)) (getD-set-other m c (p / 64) v 0 n)
 
 -- cleared, no place is marked
 getD-zeros : (n k : ℕ) → getD (zeros n) k 0 ≡ 0
@@ -52,40 +52,40 @@ getD-zeros zero k = refl
 getD-zeros (suc n) zero = refl
 getD-zeros (suc n) (suc k) = getD-zeros n k
 
-pub marked-zeros : (m : Bytes) (n : ℕ) → m ≡ zeros n → (q : ℕ) → marked m q ≡ 0
+pub marked-zeros : (m : Map) (n : ℕ) → m ≡ zeros n → (q : ℕ) → marked m q ≡ 0
 unfolding marked
 marked-zeros m n e q =
-    ap (λ (t : Bytes). bit (getD t (q / 8) 0) (q % 8)) e ∙ ap (λ (x : ℕ). bit x (q % 8)) (getD-zeros n (q / 8))
-    ∙ bit-zero (q % 8)
+    ap (λ (t : Map). bit (getD t (q / 64) 0) (q % 64)) e ∙ ap (λ (x : ℕ). bit x (q % 64)) (getD-zeros n (q / 64))
+    ∙ bit-zero (q % 64)
 
-module _ (m m′ : Bytes) (from to q : ℕ) (w : Claiming m m′ from to q) (l : q < to) (room : to ≤ 8 * length m)
-    (high bits : ℕ) (is : high ≡ min 8 (q % 8 + (to - q))) (mask : bits ≡ 2 ^ high - 2 ^ (q % 8)) where
+module _ (m m′ : Map) (from to q : ℕ) (w : Claiming m m′ from to q) (l : q < to) (room : to ≤ 64 * length m)
+    (high bits : ℕ) (is : high ≡ min 64 (q % 64 + (to - q))) (mask : bits ≡ 2 ^ high - 2 ^ (q % 64)) where
   abbrev held : ℕ
-  held = getD m′ (q / 8) 0
+  held = getD m′ (q / 64) 0
 
-  order : q % 8 ≤ high
+  order : q % 64 ≤ high
   order = omega arith
 
-  top : high ≤ 8
+  top : high ≤ 64
   top = omega arith
 
-  cell-in : q / 8 < length m′
+  cell-in : q / 64 < length m′
   cell-in = omega (arith, w .size)
 
-  -- the places of this turn are places of one byte
-  here : (p : ℕ) → q ≤ p → p < q + (high - q % 8) → (p / 8 ≡ q / 8) × (q % 8 ≤ p % 8) × (p % 8 < high)
+  -- the places of this turn are places of one word
+  here : (p : ℕ) → q ≤ p → p < q + (high - q % 64) → (p / 64 ≡ q / 64) × (q % 64 ≤ p % 64) × (p % 64 < high)
   here p a b = omega arith
 
-  held-is : (p : ℕ) → p / 8 ≡ q / 8 → bit held (p % 8) ≡ marked m′ p
+  held-is : (p : ℕ) → p / 64 ≡ q / 64 → bit held (p % 64) ≡ marked m′ p
   unfolding marked
-  held-is p e = ap (λ (k : ℕ). bit (getD m′ k 0) (p % 8)) (sym e)
+  held-is p e = ap (λ (k : ℕ). bit (getD m′ k 0) (p % 64)) (sym e)
 
   pub claiming-met : (bitAnd held bits ≡ 0 → ⊥) → Claimed m m′ from to true
   claiming-met n =
-      let h = and-met held (q % 8) high order top (λ z. n (ap (bitAnd held) mask ∙ z)) in
-      let p : ℕ = 8 * (q / 8) + h .0 in
-      let d : p / 8 ≡ q / 8 = omega (arith, h .2) in
-      let r : p % 8 ≡ h .0 = omega (arith, h .2) in
+      let h = and-met held (q % 64) high order (λ z. n (ap (bitAnd held) mask ∙ z)) in
+      let p : ℕ = 64 * (q / 64) + h .0 in
+      let d : p / 64 ≡ q / 64 = omega (arith, h .2) in
+      let r : p % 64 ≡ h .0 = omega (arith, h .2) in
       record {
         hit = λ t. (
           p,
@@ -98,40 +98,40 @@ module _ (m m′ : Bytes) (from to q : ℕ) (w : Claiming m m′ from to q) (l :
         outside = λ f. absurd (true≢false f);
       }
 
-  abbrev after : Bytes
-  after = set m′ (q / 8) (bitOr held bits)
+  abbrev after : Map
+  after = set m′ (q / 64) (bitOr held bits)
 
   module _ (clear : bitAnd held bits ≡ 0) where
-    free-here : (p : ℕ) → q ≤ p → p < q + (high - q % 8) → marked m′ p ≡ 0
+    free-here : (p : ℕ) → q ≤ p → p < q + (high - q % 64) → marked m′ p ≡ 0
     free-here p a b =
         let k = here p a b in
         sym (held-is p (k .0))
-        ∙ and-free held (q % 8) high order top (ap (bitAnd held) (sym mask) ∙ clear) (p % 8) (k .1) (k .2)
+        ∙ and-free held (q % 64) high order (ap (bitAnd held) (sym mask) ∙ clear) (p % 64) (k .1) (k .2)
 
-    inside-here : (p : ℕ) → q ≤ p → p < q + (high - q % 8) → marked after p ≡ 1
+    inside-here : (p : ℕ) → q ≤ p → p < q + (high - q % 64) → marked after p ≡ 1
     inside-here p a b =
         let k = here p a b in
-        set-here m′ (q / 8) (bitOr held bits) p (k .0) cell-in
-        ∙ ap (λ (x : ℕ). bit (bitOr held x) (p % 8)) mask
-        ∙ or-in held (q % 8) high order top (p % 8) (k .1) (k .2) (held-is p (k .0) ∙ free-here p a b)
+        set-here m′ (q / 64) (bitOr held bits) p (k .0) cell-in
+        ∙ ap (λ (x : ℕ). bit (bitOr held x) (p % 64)) mask
+        ∙ or-in held (q % 64) high order (p % 64) (k .1) (k .2) (held-is p (k .0) ∙ free-here p a b)
 
-    outside-here : (p : ℕ) → (p < q) ⊎ (q + (high - q % 8) ≤ p) → marked after p ≡ marked m′ p
+    outside-here : (p : ℕ) → (p < q) ⊎ (q + (high - q % 64) ≤ p) → marked after p ≡ marked m′ p
     outside-here p s =
-        by-eq (p / 8) (q / 8)
+        by-eq (p / 64) (q / 64)
         (λ e.
-        set-here m′ (q / 8) (bitOr held bits) p e cell-in
-        ∙ ap (λ (x : ℕ). bit (bitOr held x) (p % 8)) mask
-        ∙ or-out held (q % 8) high order top (p % 8) (omega arith)
+        set-here m′ (q / 64) (bitOr held bits) p e cell-in
+        ∙ ap (λ (x : ℕ). bit (bitOr held x) (p % 64)) mask
+        ∙ or-out held (q % 64) high order (p % 64)
         (by-either s (λ h. inl (omega arith)) (λ h. inr (omega arith)))
         ∙ held-is p e)
-        (λ n. set-other m′ (q / 8) (bitOr held bits) p n)
+        (λ n. set-other m′ (q / 64) (bitOr held bits) p n)
 
-    pub claiming-on : Claiming m after from to (q + (high - q % 8))
+    pub claiming-on : Claiming m after from to (q + (high - q % 64))
     claiming-on =
         record {
           low = omega (arith, w .low);
           high = omega arith;
-          size = length-set m′ (q / 8) (bitOr held bits) ∙ w .size;
+          size = length-set m′ (q / 64) (bitOr held bits) ∙ w .size;
           free = λ p a b.
               by-le q p (λ k. sym (w .outside p (inr k)) ∙ free-here p k b) (λ k. w .free p a k);
           inside = λ p a b.
@@ -141,7 +141,7 @@ module _ (m m′ : Bytes) (from to q : ℕ) (w : Claiming m m′ from to q) (l :
               ∙ w .outside p (by-either s (λ h. inl h) (λ h. inr (omega (arith, order))));
         }
 
-pub claiming-end : (m m′ : Bytes) (from to q : ℕ) → Claiming m m′ from to q → to ≤ q → Claimed m m′ from to false
+pub claiming-end : (m m′ : Map) (from to q : ℕ) → Claiming m m′ from to q → to ≤ q → Claimed m m′ from to false
 claiming-end m m′ from to q w l =
     let e : q ≡ to = omega (arith, w .high) in
     record {

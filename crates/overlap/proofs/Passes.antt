@@ -1,6 +1,6 @@
 -- A pass through the window lo .. hi: the slots in rising order, each marking the places of its stretch.
 --     Passing start stop lo hi best m i next      the slots below i were passed: m marks their places, no two share one
---     passing-start, passing-on, passing-met, passing-end      its turns
+--     passing-start, passing-over, passing-on, passing-met, passing-end      its turns
 -- Assumes nothing.
 use mathlib.Core.Path.{_≡_, refl, sym, ap, _∙_, subst}
 use Prim.Native.Nat.{ℕ, _+_, _-_, _≤_, _<_, min}
@@ -9,12 +9,11 @@ use mathlib.Core.Bool.{Bool, true, false, cond}
 use mathlib.Core.Logic.{_⊎_, inl, inr}
 use lib.Dec.{ltb}
 use borrow.Author.Tests.{lt-ltb, le-ltb}
-use Rattle.bhtf.specs.Bytes.{Bytes}
 use Rattle.bhtf.proofs.Tests.{by-le, by-eq, by-either}
-use Rattle.overlap.specs.Marks.{marked, Claimed}
-use Rattle.overlap.specs.Windows.{Piece, Carried, Clear, Swept}
+use Rattle.overlap.specs.Marks.{Map, marked, Claimed}
+use Rattle.overlap.specs.Windows.{Piece, Unseen, Carried, Clear, Swept}
 
-pub record Passing (start stop : ℕ → ℕ) (lo hi best : ℕ) (m : Bytes) (i next : ℕ) : Type 0 where
+pub record Passing (start stop : ℕ → ℕ) (lo hi best : ℕ) (m : Map) (i next : ℕ) : Type 0 where
   pub low : i ≤ best
   pub covered : (j q : ℕ) → j < i → lo ≤ q → q < hi → start j ≤ q → q < stop j → marked m (q - lo) ≡ 1
   pub origin : (q : ℕ) → lo ≤ q → q < hi → marked m (q - lo) ≡ 1 → (j : ℕ) × (j < i) × (start j ≤ q) × (q < stop j)
@@ -33,7 +32,7 @@ clear-carried start stop lo best carried c i l =
     }
 
 module _ (start stop : ℕ → ℕ) (lo hi best : ℕ) where
-  pub passing-start : (m : Bytes) → ((q : ℕ) → marked m q ≡ 0) → Passing start stop lo hi best m 0 best
+  pub passing-start : (m : Map) → ((q : ℕ) → marked m q ≡ 0) → Passing start stop lo hi best m 0 best
   passing-start m z =
       record {
         low = omega arith;
@@ -45,8 +44,33 @@ module _ (start stop : ℕ → ℕ) (lo hi best : ℕ) where
         none = λ a. refl;
       }
 
+  -- slots of which the window shows nothing
+  pub passing-over : (m : Map) (i next i′ : ℕ) → Passing start stop lo hi best m i next → i ≤ i′ → i′ ≤ best
+      → Unseen start stop lo hi i i′ → Passing start stop lo hi best m i′ next
+  passing-over m i next i′ w a b unseen =
+      record {
+        low = b;
+        covered = λ j q c d e f g.
+            by-le i j
+            (λ h. absurd (omega (arith, unseen j h c .inside q d e f g)))
+            (λ h. w .covered j q h d e f g);
+        origin = λ q c d e.
+            let o = w .origin q c d e in
+            (o .0, omega (arith, o .1), o .2, o .3);
+        apart = λ j k q c d e f g h s t.
+            by-le i k
+            (λ l. omega (arith, unseen k l d .inside q e f s t))
+            (λ l. w .apart j k q c l e f g h s t);
+        carries = λ j c d e.
+            by-le i j
+            (λ h. absurd (omega (arith, unseen j h c .past d e)))
+            (λ h. w .carries j h d e);
+        crosses = λ c. by-le i next (λ h. absurd (omega (arith, w .none h))) (λ h. w .crosses h);
+        none = λ c. w .none (omega arith);
+      }
+
   -- the slots below i are clear up to hi, if those below `best` were up to lo
-  pub passing-clear : (carried : ℕ) (m : Bytes) (i next : ℕ) → Clear start stop lo best carried
+  pub passing-clear : (carried : ℕ) (m : Map) (i next : ℕ) → Clear start stop lo best carried
       → Passing start stop lo hi best m i next → Clear start stop hi i next
   passing-clear carried m i next c w =
       record {
@@ -58,7 +82,7 @@ module _ (start stop : ℕ → ℕ) (lo hi best : ℕ) where
         crosses = w .crosses;
       }
 
-  pub passing-end : (carried : ℕ) (m : Bytes) (i next : ℕ) → Clear start stop lo best carried
+  pub passing-end : (carried : ℕ) (m : Map) (i next : ℕ) → Clear start stop lo best carried
       → Passing start stop lo hi best m i next → best ≤ i → Swept start stop best hi best next
   passing-end carried m i next c w l =
       let e : i ≡ best = omega (arith, w .low) in
@@ -69,8 +93,8 @@ module _ (start stop : ℕ → ℕ) (lo hi best : ℕ) where
       }
 
   -- a turn: what the window shows of slot i, and how its places were claimed
-  module _ (carried : ℕ) (m : Bytes) (i next : ℕ) (w : Passing start stop lo hi best m i next) (l : i < best)
-      (from end : ℕ) (p : Piece (start i) (stop i) lo hi from end) (m′ : Bytes) (to : ℕ) (is : to ≡ min end hi) where
+  module _ (carried : ℕ) (m : Map) (i next : ℕ) (w : Passing start stop lo hi best m i next) (l : i < best)
+      (from end : ℕ) (p : Piece (start i) (stop i) lo hi from end) (m′ : Map) (to : ℕ) (is : to ≡ min end hi) where
     pub passing-met : Clear start stop lo best carried → Claimed m m′ (from - lo) (to - lo) true
         → Swept start stop best hi i next
     passing-met c claimed =

@@ -1,15 +1,16 @@
 -- What a window lo .. hi shows of one stretch start .. stop.
 --     within-low, within-high, within-in      a start that lies in the window, and one that does not
 --     piece-carried, piece-here, piece-none      the three cases
+--     unseen-on      one more slot of which it shows nothing
 -- Assumes nothing.
-use mathlib.Core.Path.{_≡_}
-use Prim.Native.Nat.{ℕ, _≤_, _<_}
+use mathlib.Core.Path.{_≡_, subst}
+use Prim.Native.Nat.{ℕ, _+_, _≤_, _<_}
 use native.Mathlib.Omega.{arith}
 use mathlib.Core.Bool.{and-false}
 use lib.Dec.{leb}
 use borrow.Author.Tests.{le-leb, lt-leb, lt-ltb, le-ltb}
 use Rattle.bhtf.proofs.Tests.{by-le}
-use Rattle.overlap.specs.Windows.{within, Piece}
+use Rattle.overlap.specs.Windows.{within, Piece, Unseen}
 
 module _ (lo hi start : ℕ) where
   pub within-low : start < lo → within lo hi start ≡ hi
@@ -72,3 +73,10 @@ module _ (start stop lo hi : ℕ) (window : lo ≤ hi) where
         past = λ c d. absurd (by-le lo start (λ k. a k c) (λ k. b k (omega arith)));
         crosses = λ c. absurd (omega arith);
       }
+
+pub unseen-on : (start stop : ℕ → ℕ) (lo hi from i : ℕ) → Unseen start stop lo hi from i
+    → Piece (start i) (stop i) lo hi hi hi → Unseen start stop lo hi from (i + 1)
+unseen-on start stop lo hi from i u p j a b =
+    by-le i j
+    (λ h. subst (λ (n : ℕ). Piece (start n) (stop n) lo hi hi hi) (omega arith) p)
+    (λ h. u j a h)

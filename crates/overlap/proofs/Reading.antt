@@ -43,6 +43,12 @@ module _ (img : Bytes) (i : ℕ) where
   start-high lo hi z h a b =
       by-bool (vacantIn img i) (λ e. omega (arith, start-none e)) (λ e. omega (arith, start-some e))
 
+  pub start-not : (lo hi : ℕ) → 0 < lo → (lo ≤ offsetIn img i → offsetIn img i < hi → ⊥)
+      → (lo ≤ startIn img i → startIn img i < hi → ⊥)
+  start-not lo hi z n a b =
+      by-bool (vacantIn img i) (λ e. omega (arith, start-none e))
+      (λ e. n (omega (arith, start-some e)) (omega (arith, start-some e)))
+
   -- a slot with a stretch is taken
   pub start-taken : 0 < startIn img i → (taken (layoutOf img) img i ≡ true) × (startIn img i ≡ offsetIn img i)
   unfolding taken

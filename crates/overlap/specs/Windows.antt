@@ -1,5 +1,6 @@
 -- A sweep over the data area, window by window, of slots with the stretches start i .. stop i.
 --     Piece      of one slot's stretch, what a window lo .. hi shows
+--     Unseen      of which slots it shows nothing
 --     Clear, Swept      what is known of the stretches below `at`
 -- Assumes nothing.
 use mathlib.Core.Path.{_≡_}
@@ -23,6 +24,10 @@ pub record Piece (start stop lo hi from end : ℕ) : Type 0 where
   pub only : (q : ℕ) → from ≤ q → q < end → q < hi → (start ≤ q) × (q < stop)
   pub past : start < hi → hi < stop → hi < end
   pub crosses : hi < end → (start < hi) × (hi < stop)
+
+-- of the slots from `from` on, below `to`, the window shows nothing
+abbrev pub Unseen : (ℕ → ℕ) → (ℕ → ℕ) → ℕ → ℕ → ℕ → ℕ → Type 0
+Unseen start stop lo hi from to = (j : ℕ) → from ≤ j → j < to → Piece (start j) (stop j) lo hi hi hi
 
 -- slot i is the carried one exactly where its stretch goes on across lo
 pub record Carried (start stop lo i carried : ℕ) : Type 0 where

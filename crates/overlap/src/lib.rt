@@ -1,6 +1,6 @@
 // Two points on one message: the lowest slot whose stretch meets that of a lower-numbered one. The data area is swept
 // window by window, each as wide as a map of marks on the stack. The image is only read.
-//     marks      a map of marks, 8 to a byte, claimed stretch by stretch
+//     marks      a map of marks, 64 to a word, claimed stretch by stretch
 //     stretch    a slot's stretch, and what a window shows of it
 //     window     the slots, in rising order, in one window
 pub mod marks;
@@ -19,13 +19,13 @@ ghost use Rattle.bhtf.specs.Image.{layoutOf};
 ghost use Rattle.overlap.specs.Checked.{Checked};
 ghost use Rattle.overlap.specs.Stretches.{firstMeeting};
 
-// The bytes of the two maps of marks.
-const SMALL_MAP: usize = 4096;
+// The words of the two maps of marks.
+const SMALL_MAP: usize = 512;
 
-const LARGE_MAP: usize = 262144;
+const LARGE_MAP: usize = 32768;
 
 // Window by window, from the data area's start to X. No more of the map is used than the window needs.
-fn sweep(image: &[u8], shape: Shape, map: &mut [u8], bound: usize) -> usize
+fn sweep(image: &[u8], shape: Shape, map: &mut [u64], bound: usize) -> usize
     requires { ⌜ Checked (now image) shape bound × (0 < length (now map)) × (length (now map) < 2 ^ 32) ⌝ }
     ensures { λ r. ⌜ r ≡ firstMeeting (layoutOf (now (image .entry))) (now (image .entry)) bound ⌝ }
 {
@@ -35,8 +35,8 @@ fn sweep(image: &[u8], shape: Shape, map: &mut [u8], bound: usize) -> usize
     let mut best = bound;
     let mut carried = bound;
     while lo < free {
-        let span = lesser(8 * map.len(), free - lo);
-        let cells = (span + 7) / 8;
+        let span = lesser(64 * map.len(), free - lo);
+        let cells = (span + 63) / 64;
         let front = window(
             image,
             shape,
@@ -63,20 +63,12 @@ fn sweep_small(image: &[u8], shape: Shape, bound: usize) -> usize
 }
 
 // With a map for windows of 2 MiB.
-fn sweep_wide(image: &[u8], shape: Shape, map: &mut [u8; LARGE_MAP], bound: usize) -> usize
-    requires { ⌜ Checked (now image) shape bound ⌝ }
-    ensures { λ r. ⌜ r ≡ firstMeeting (layoutOf (now (image .entry))) (now (image .entry)) bound ⌝ }
-{
-    sweep(image, shape, map, bound)
-}
-
-// The same with the map on the stack.
 fn sweep_large(image: &[u8], shape: Shape, bound: usize) -> usize
     requires { ⌜ Checked (now image) shape bound ⌝ }
     ensures { λ r. ⌜ r ≡ firstMeeting (layoutOf (now (image .entry))) (now (image .entry)) bound ⌝ }
 {
     let mut map = [0; LARGE_MAP];
-    sweep_wide(image, shape, &mut map, bound)
+    sweep(image, shape, &mut map, bound)
 }
 
 // The lowest slot below `bound` whose stretch meets that of a lower-numbered taken slot; `bound` where there is none.
@@ -86,7 +78,7 @@ pub fn first_meeting(image: &[u8], shape: Shape, bound: usize) -> usize
     ensures { λ r. ⌜ r ≡ firstMeeting (layoutOf (now (image .entry))) (now (image .entry)) bound ⌝ }
 {
     let area = shape.area;
-    if (read_u32(image, FREE_FIELD) as usize) - area.at() <= 8 * SMALL_MAP {
+    if (read_u32(image, FREE_FIELD) as usize) - area.at() <= 64 * SMALL_MAP {
         return sweep_small(image, shape, bound);
     }
     sweep_large(image, shape, bound)

@@ -1,5 +1,6 @@
 // Blocks of four and eight bytes, read as one number or moved at once. The order of a number's bytes is the machine's
 // own, so that a block is one load: such numbers are only compared.
+use words::fields::read_little;
 ghost use mathlib.Core.Path.{_≡_};
 ghost use mathlib.Core.Logic.{_⊎_};
 ghost use Prim.Native.Nat.{_+_, _≤_};
@@ -12,10 +13,7 @@ pub(crate) fn four(s: &[u8], at: usize) -> u32
     requires { ⌜ at + 4 ≤ length (now s) ⌝ }
     ensures { λ r. ⌜ r ≡ little (part (now (s .entry)) at 4) ⌝ }
 {
-    ((s[at + 3] as u32) << 24)
-        | ((s[at + 2] as u32) << 16)
-        | ((s[at + 1] as u32) << 8)
-        | (s[at] as u32)
+    read_little(s, at)
 }
 
 // Eight bytes as a number.

@@ -14,6 +14,10 @@ ghost use Prim.Native.Nat.{_+_, _-_, _≤_, _<_};
 ghost use Rattle.bhtf.specs.Bytes.{part, store, zeros, allZero, same};
 ghost use Rattle.runs.specs.Little.{little};
 
+// From so many bytes on a loop over bytes, which the compiler makes one over vectors behind an overlap test, is faster
+// than blocks.
+const LONG: usize = 256;
+
 // Makes every byte zero.
 pub fn zero(s: &mut [u8])
     ensures { λ _. ⌜ now (s .exit) ≡ zeros (length (now (s .entry))) ⌝ }
@@ -37,8 +41,8 @@ fn copy_bytes(dst: &mut [u8], src: &[u8])
     }
 }
 
-// Copies src over dst.
-pub fn copy(dst: &mut [u8], src: &[u8])
+// Copies src over dst, by blocks of eight bytes.
+fn copy_blocks(dst: &mut [u8], src: &[u8])
     requires { ⌜ length (now dst) ≡ length (now src) ⌝ }
     ensures { λ _. ⌜ now (dst .exit) ≡ now (src .entry) ⌝ }
 {
@@ -54,6 +58,18 @@ pub fn copy(dst: &mut [u8], src: &[u8])
         i += 8;
     }
     copy_eight(dst, src, last);
+}
+
+// Copies src over dst.
+pub fn copy(dst: &mut [u8], src: &[u8])
+    requires { ⌜ length (now dst) ≡ length (now src) ⌝ }
+    ensures { λ _. ⌜ now (dst .exit) ≡ now (src .entry) ⌝ }
+{
+    if dst.len() < LONG {
+        copy_blocks(dst, src);
+    } else {
+        copy_bytes(dst, src);
+    }
 }
 
 // Copies the n bytes from `from` on to `to`, byte by byte; the two runs do not meet.

@@ -2,6 +2,7 @@
 --     part-cons, part-four, part-three        a part, byte by byte
 --     number-four, number-three               the number of so many bytes, written out
 --     or-four, or-three                       the same number, by shifts and ors
+--     swapped-four                            the same number with its bytes in the other order
 --     store-sets, set-store, store-four, store-three     stores of bytes one after the other
 --     digits-four, digits-three               the digits, by shifts and masks
 -- Assumes nothing.
@@ -77,6 +78,21 @@ or-four a b c d p q r s =
     (ap (λ (t : ℕ). bitOr (bitOr t (c * 256 % 4294967296)) d) (sym m)
     ∙ or-three (a * 256 + b) c d (omega arith) r s
     ∙ omega arith)
+
+low-byte : (h l : ℕ) → l < 256 → (h * 256 + l) % 256 ≡ l
+low-byte h l p = omega arith
+
+-- four bytes in the other order
+pub swapped-four : (a b c d x : ℕ) → a < 256 → b < 256 → c < 256 → d < 256
+    → x ≡ d * 16777216 + (c * 65536 + (b * 256 + a))
+    → x % 256 * 16777216 + (x / 256 % 256 * 65536 + (x / 65536 % 256 * 256 + x / 16777216))
+    ≡ a * 16777216 + (b * 65536 + (c * 256 + d))
+swapped-four a b c d x p q r s e =
+    let e₀ : x % 256 ≡ a = omega arith in
+    let e₁ : x / 256 ≡ (d * 256 + c) * 256 + b = omega arith in
+    let e₂ : x / 65536 ≡ d * 256 + c = omega arith in
+    let e₃ : x / 16777216 ≡ d = omega arith in
+    rw (e₀, e₁, e₂, e₃, low-byte (d * 256 + c) b q, low-byte d c r)
 
 -- ---- store
 pub store-sets : (vs s : Bytes) (at : ℕ) → at + length vs ≤ length s → sets s at vs ≡ store s at vs

@@ -1,19 +1,36 @@
 // Stored numbers, most significant byte first, by shifts, ors and masks.
 ghost use mathlib.Core.Path.{_≡_};
-ghost use Prim.Native.Nat.{_+_, _≤_, _<_, _^_};
-ghost use lib.ListN.{length};
+ghost use Prim.Native.Nat.{_+_, _*_, _/_, _%_, _≤_, _<_, _^_};
+ghost use lib.ListN.{length, getD};
 ghost use Rattle.bhtf.specs.Bytes.{part, store, number, digits};
 ghost use Rattle.bhtf.specs.Image.{field, setField};
 
-// The number that stands at `at`.
+// Four bytes as a number, least significant first, which is the machine's own order: one load.
+pub fn read_little(s: &[u8], at: usize) -> u32
+    requires { ⌜ at + 4 ≤ length (now s) ⌝ }
+    ensures { λ r. ⌜ r ≡ getD (now (s .entry)) (at + 3) 0 * 16777216 + (getD (now (s .entry)) (at + 2) 0 * 65536
+        + (getD (now (s .entry)) (at + 1) 0 * 256 + getD (now (s .entry)) at 0)) ⌝ }
+{
+    ((s[at + 3] as u32) << 24)
+        | ((s[at + 2] as u32) << 16)
+        | ((s[at + 1] as u32) << 8)
+        | (s[at] as u32)
+}
+
+// The number with its four bytes in the other order: one instruction.
+fn swapped(x: u32) -> u32
+    ensures { λ r. ⌜ r ≡ x % 256 * 16777216 + (x / 256 % 256 * 65536 + (x / 65536 % 256 * 256 + x / 16777216)) ⌝ }
+{
+    ((x & 255) << 24) | (((x >> 8) & 255) << 16) | (((x >> 16) & 255) << 8) | (x >> 24)
+}
+
+// The number that stands at `at`. By a load and a swap, and not by four bytes, of which a caller's sums and comparisons
+// would take some apart.
 pub fn read_u32(s: &[u8], at: usize) -> u32
     requires { ⌜ at + 4 ≤ length (now s) ⌝ }
     ensures { λ r. ⌜ r ≡ field (now (s .entry)) at ⌝ }
 {
-    ((s[at] as u32) << 24)
-        | ((s[at + 1] as u32) << 16)
-        | ((s[at + 2] as u32) << 8)
-        | (s[at + 3] as u32)
+    swapped(read_little(s, at))
 }
 
 // Puts v at `at`.

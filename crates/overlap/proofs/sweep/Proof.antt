@@ -74,7 +74,7 @@ slice-aggregate-window : tie.Need-slice-aggregate-window Inv-loop μ-loop
 slice-aggregate-window c =
     let M = c .before in
     let m = M .before .before .loop .map in
-    sym (length-take-le ((M .lesser .result + 7) / 8) m (omega (arith, M .lesser .ensures)))
+    sym (length-take-le ((M .lesser .result + 63) / 64) m (omega (arith, M .lesser .ensures)))
 
 add-window : tie.Need-add-window Inv-loop μ-loop
 add-window c =
@@ -90,7 +90,7 @@ window-requires c κs =
     let C = S .pre .0 in
     let w = L .loop .inv .3 in
     let span = c .before .lesser in
-    let n = (span .result + 7) / 8 in
+    let n = (span .result + 63) / 64 in
     let l : length (take n (L .loop .map)) ≡ n = length-take-le n (L .loop .map) (omega (arith, span .ensures)) in (
       record {
         checked = checked-below img (A .shape) (A .bound) C (L .loop .best) (w .low);
@@ -99,6 +99,7 @@ window-requires c κs =
         clear = w .clear;
       },
       omega (arith, l),
+      omega (arith, l, span .ensures, L .loop .inv .0, S .pre .2),
     )
 
 add-lo : tie.Need-add-lo Inv-loop μ-loop
@@ -121,7 +122,7 @@ loop-again c =
     let S = L .before .before .before .before .before .before in
     let A = S .args in
     let img = A .image .now in
-    let n = (M .lesser .result + 7) / 8 in (
+    let n = (M .lesser .result + 63) / 64 in (
       length-front (L .loop .map) (W .window .last .1 .1 .0) n (W .window .kept .1 .1 .0) ∙ L .loop .inv .0,
       omega (arith, L .loop .inv .1),
       omega (arith, M .lesser .ensures, L .loop .inv .2),

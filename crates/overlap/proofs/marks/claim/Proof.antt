@@ -1,4 +1,4 @@
--- `overlap::marks::claim` meets its contract: one byte of the map a turn. Assumes nothing.
+-- `overlap::marks::claim` meets its contract: one word of the map a turn. Assumes nothing.
 use Prim.Native.Nat.{_-_}
 use native.Mathlib.Omega.{arith}
 use Rattle.overlap.proofs.Claims.{Claiming, claiming-start, claiming-on, claiming-met, claiming-end}
@@ -26,6 +26,9 @@ lesser-requires c κs = tt
 mask-requires : tie.Need-mask-requires Inv-loop μ-loop
 mask-requires c κs = omega (arith, c .lesser .ensures)
 
+mul-held : tie.Need-mul-held Inv-loop μ-loop
+mul-held c = omega arith
+
 slice-read-held : tie.Need-slice-read-held Inv-loop μ-loop
 slice-read-held c = omega (arith, c .before .before .before .before .loop .inv .size)
 
@@ -39,6 +42,9 @@ returns c =
     let M = c .before .before in
     claiming-met _ _ _ _ (L .loop .q) (L .loop .inv) (c .before .before .before .before .loop-test .taken) (S .pre .1)
     (M .before .lesser .result) (M .mask .result) (M .before .lesser .ensures) (M .mask .ensures) (c .if1 .taken)
+
+mul-map : tie.Need-mul-map Inv-loop μ-loop
+mul-map c = omega arith
 
 slice-write-map : tie.Need-slice-write-map Inv-loop μ-loop
 slice-write-map c = omega (arith, c .before .before .before .before .before .loop .inv .size)
@@ -77,9 +83,11 @@ claim-spec =
     add-lesser
     lesser-requires
     mask-requires
+    mul-held
     slice-read-held
     same-length
     returns
+    mul-map
     slice-write-map
     sub-q
     add-q

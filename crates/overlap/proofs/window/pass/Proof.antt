@@ -2,7 +2,7 @@
 -- Assumes nothing.
 use mathlib.Core.Path.{_≡_, refl, sym, _∙_, subst}
 use mathlib.Core.Bool.{Bool}
-use Prim.Native.Nat.{ℕ, _-_}
+use Prim.Native.Nat.{ℕ, _+_, _-_}
 use native.Mathlib.Omega.{arith}
 use lib.ListN.{length}
 use Rattle.bhtf.specs.Bytes.{Bytes}
@@ -10,7 +10,8 @@ use Rattle.overlap.specs.Marks.{Claimed}
 use Rattle.overlap.specs.Checked.{startIn, endIn, Readable}
 use Rattle.overlap.specs.Windows.{Piece, Carried}
 use Rattle.overlap.proofs.Reading.{checked-slot}
-use Rattle.overlap.proofs.Passes.{Passing, clear-carried, passing-start, passing-on, passing-met, passing-end}
+use Rattle.overlap.proofs.Passes.{Passing, clear-carried, passing-start, passing-over, passing-on}
+use Rattle.overlap.proofs.Passes.{passing-met, passing-end}
 use Rattle.overlap.proofs.window.pass.Statement.{statement}
 use Rattle.overlap.proofs.window.pass.Tie as tie
 
@@ -21,19 +22,31 @@ Inv-loop image shape map₀ lo hi best carried next₀ i₀ map next i =
 abbrev μ-loop : tie.MeasureT-loop
 μ-loop image shape map₀ lo hi best carried next₀ i₀ map next i = best - i
 
+next-shown-requires : tie.Need-next-shown-requires Inv-loop μ-loop
+next-shown-requires c κs = (c .before .before .pre .0, omega arith)
+
 loop-holds : tie.Need-loop-holds Inv-loop μ-loop
 loop-holds c =
-    let S = c .before .before in
+    let S = c .before .before .before in
     let A = S .args in
     let img = A .image .now in
-    (refl, passing-start (startIn img) (endIn img) (A .lo) (A .hi) (A .best) (A .map .now) (S .pre .2))
+    let n = c .next-shown in (
+      refl,
+      passing-over (startIn img) (endIn img) (A .lo) (A .hi) (A .best) (A .map .now) 0 (A .best) (n .result)
+          (passing-start (startIn img) (endIn img) (A .lo) (A .hi) (A .best) (A .map .now) (S .pre .2))
+          (n .ensures .0) (n .ensures .1) (n .ensures .2),
+    )
+
+-- where the function starts, seen from the loop's head
+abbrev start : tie.At-loop Inv-loop μ-loop → tie.Start Inv-loop μ-loop
+start L = L .before .before .before .before
 
 new-requires : tie.Need-new-requires Inv-loop μ-loop
 new-requires c κs = tt
 
 shown-of-requires : tie.Need-shown-of-requires Inv-loop μ-loop
 shown-of-requires c κs =
-    let S = c .before .before .before .before .before in
+    let S = start (c .before .before) in
     let A = S .args in
     let img = A .image .now in
     let W = S .pre .0 in
@@ -50,12 +63,12 @@ shown-of-requires c κs =
 -- what the window shows of slot i
 piece : (c : tie.After-shown-of Inv-loop μ-loop)
     → let L : tie.At-loop Inv-loop μ-loop = c .before .before .before in
-    let S : tie.Start Inv-loop μ-loop = L .before .before .before in
+    let S : tie.Start Inv-loop μ-loop = start L in
     let img : Bytes = S .args .image .now in
     Piece (startIn img (L .loop .i)) (endIn img (L .loop .i)) (S .args .lo) (S .args .hi)
     (c .shown-of .result .from) (c .shown-of .result .end)
 piece c =
-    let A = c .before .before .before .before .before .before .args in
+    let A = start (c .before .before .before) .args in
     let img = A .image .now in
     let r = c .shown-of .result in
     subst (λ (n : ℕ). Piece (startIn img n) (endIn img n) (A .lo) (A .hi) (r .from) (r .end))
@@ -77,7 +90,7 @@ claim-requires c κs =
     let p = piece (c .before .before) in
     let L = c .before .before .before .before .before in (
       omega (arith, p .low, p .order, p .high, c .lesser .ensures),
-      omega (arith, c .lesser .ensures, L .before .before .before .pre .1, L .loop .inv .0),
+      omega (arith, c .lesser .ensures, start L .pre .1, L .loop .inv .0),
     )
 
 same-length : tie.Need-same-length Inv-loop μ-loop
@@ -88,12 +101,12 @@ same-length c =
 -- how slot i's places were claimed
 claimed : (c : tie.After-claim Inv-loop μ-loop) (b : Bool) → c .claim .result ≡ b
     → let L : tie.At-loop Inv-loop μ-loop = c .before .before .before .before .before .before in
-    let S : tie.Start Inv-loop μ-loop = L .before .before .before in
+    let S : tie.Start Inv-loop μ-loop = start L in
     Claimed (L .loop .map) (c .claim .last .0) (c .before .before .before .shown-of .result .from - S .args .lo)
     (c .before .lesser .result - S .args .lo) b
 claimed c b e =
     let L = c .before .before .before .before .before .before in
-    let lo = L .before .before .before .args .lo in
+    let lo = start L .args .lo in
     let from = c .before .before .before .shown-of .result .from in
     subst (λ (t : Bool). Claimed (L .loop .map) (c .claim .last .0) (from - lo) (c .before .lesser .result - lo) t) e
     (c .claim .ensures)
@@ -103,7 +116,7 @@ returns c =
     let C = c .before .before .before in
     let P = C .before .before .before in
     let L = P .before .before .before in
-    let S = L .before .before .before in
+    let S = start L in
     let A = S .args in
     let img = A .image .now in
     let r = P .shown-of .result in
@@ -122,26 +135,36 @@ claim-at-end c = c .before .before .before .before
 abbrev turn : tie.After-carried-on Inv-loop μ-loop → tie.In-loop Inv-loop μ-loop
 turn c = claim-at-end c .before .before .before .before .before
 
-add-i : tie.Need-add-i Inv-loop μ-loop
-add-i c = omega (arith, turn c .loop-test .taken)
+add-next-shown : tie.Need-add-next-shown Inv-loop μ-loop
+add-next-shown c = omega (arith, turn c .loop-test .taken)
+
+next-shown-requires-2 : tie.Need-next-shown-requires-2 Inv-loop μ-loop
+next-shown-requires-2 c κs =
+    let S = start (turn c .before) in
+    (S .pre .0, omega (arith, turn c .loop-test .taken))
 
 loop-less : tie.Need-loop-less Inv-loop μ-loop
-loop-less c = omega (arith, turn c .loop-test .taken)
+loop-less c = omega (arith, turn (c .before) .loop-test .taken, c .next-shown2 .ensures .0)
 
 loop-again : tie.Need-loop-again Inv-loop μ-loop
 loop-again c =
-    let C = c .before .before .before .before in
+    let E = c .before in
+    let C = claim-at-end E in
     let P = C .before .before .before in
     let L = P .before .before .before in
-    let S = L .before .before .before in
+    let S = start L in
     let A = S .args in
     let img = A .image .now in
-    let r = P .shown-of .result in (
+    let r = P .shown-of .result in
+    let n = c .next-shown2 in (
       C .claim .kept .0 ∙ L .loop .inv .0,
-      passing-on (startIn img) (endIn img) (A .lo) (A .hi) (A .best) (A .carried) (L .loop .map) (L .loop .i)
+      passing-over (startIn img) (endIn img) (A .lo) (A .hi) (A .best) (C .claim .last .0) (L .loop .i + 1)
+          (E .carried-on .result) (n .result)
+          (passing-on (startIn img) (endIn img) (A .lo) (A .hi) (A .best) (A .carried) (L .loop .map) (L .loop .i)
           (L .loop .next) (L .loop .inv .1) (P .before .before .loop-test .taken) (r .from) (r .end)
           (piece P) (C .claim .last .0) (C .before .lesser .result) (C .before .lesser .ensures) (S .pre .0 .order)
-          (claimed C _ (c .before .if1 .left)) (c .carried-on .result) (c .carried-on .ensures),
+          (claimed C _ (E .before .if1 .left)) (E .carried-on .result) (E .carried-on .ensures))
+          (n .ensures .0) (n .ensures .1) (n .ensures .2),
     )
 
 same-length-2 : tie.Need-same-length-2 Inv-loop μ-loop
@@ -150,7 +173,7 @@ same-length-2 c = c .before .loop .inv .0
 returns-2 : tie.Need-returns-2 Inv-loop μ-loop
 returns-2 c =
     let L = c .before in
-    let S = L .before .before .before in
+    let S = start L in
     let A = S .args in
     let img = A .image .now in
     passing-end (startIn img) (endIn img) (A .lo) (A .hi) (A .best) (A .carried) (L .loop .map) (L .loop .i)
@@ -162,6 +185,7 @@ pass-spec =
     (tie.spec
     Inv-loop
     μ-loop
+    next-shown-requires
     loop-holds
     new-requires
     shown-of-requires
@@ -172,7 +196,8 @@ pass-spec =
     same-length
     returns
     carried-on-requires
-    add-i
+    add-next-shown
+    next-shown-requires-2
     loop-less
     loop-again
     same-length-2

@@ -5,14 +5,14 @@ use Rattle.overlap.proofs.Claims.{marked-zeros}
 use Rattle.overlap.proofs.window.window.Statement.{statement}
 use Rattle.overlap.proofs.window.window.Tie as tie
 
-zero-requires : tie.Need-zero-requires
-zero-requires c κs = search needs
+clear-requires : tie.Need-clear-requires
+clear-requires c κs = search needs
 
 pass-requires : tie.Need-pass-requires
 pass-requires c κs =
     let Z = c .before .before .before in
     let S = Z .before .before .before .before in
-    (S .pre .0, omega (arith, S .pre .1, Z .zero .kept .0), marked-zeros _ _ (Z .zero .ensures))
+    (S .pre .0, omega (arith, S .pre .1, Z .clear .kept .0), marked-zeros _ _ (Z .clear .ensures))
 
 same-length : tie.Need-same-length
 same-length c = search needs
@@ -21,4 +21,4 @@ returns : tie.Need-returns
 returns c = search needs
 
 pub window-spec : {M : Type 1} → statement M
-window-spec = tie.close (tie.spec zero-requires pass-requires same-length returns)
+window-spec = tie.close (tie.spec clear-requires pass-requires same-length returns)

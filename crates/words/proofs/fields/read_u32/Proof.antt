@@ -1,4 +1,4 @@
--- `words::fields::read_u32` meets its contract: the four bytes are below 256, so the ors are sums.
+-- `words::fields::read_u32` meets its contract: the bytes in the machine's order, swapped, are the field's.
 -- Assumes nothing.
 use Prim.Native.Nat.{_+_}
 use native.Mathlib.Omega.{arith}
@@ -7,67 +7,29 @@ use lib.ListN.{getD}
 use borrow.Author.Needs.{needs}
 use Rattle.bhtf.specs.Bytes.{number}
 use Rattle.bhtf.specs.Image.{field}
-use Rattle.words.proofs.Numbers.{part-four, number-four, or-four}
+use Rattle.words.proofs.Numbers.{part-four, number-four, swapped-four}
 use Rattle.words.proofs.fields.read_u32.Statement.{statement}
 use Rattle.words.proofs.fields.read_u32.Tie as tie
 
-shared-slice-read-result : tie.Need-shared-slice-read-result
-shared-slice-read-result c = search needs
+read-little-requires : tie.Need-read-little-requires
+read-little-requires c κs = search needs
 
-cast-result : tie.Need-cast-result
-cast-result c = omega (arith, c .shared-slice-known .given (c .before .args .at))
-
-add-result : tie.Need-add-result
-add-result c = search needs
-
-shared-slice-read-result-2 : tie.Need-shared-slice-read-result-2
-shared-slice-read-result-2 c = search needs
-
-cast-result-2 : tie.Need-cast-result-2
-cast-result-2 c = omega (arith, c .shared-slice-known2 .given (c .before .before .args .at + 1))
-
-add-result-2 : tie.Need-add-result-2
-add-result-2 c = search needs
-
-shared-slice-read-result-3 : tie.Need-shared-slice-read-result-3
-shared-slice-read-result-3 c = search needs
-
-cast-result-3 : tie.Need-cast-result-3
-cast-result-3 c = omega (arith, c .shared-slice-known3 .given (c .before .before .before .args .at + 2))
-
-add-result-3 : tie.Need-add-result-3
-add-result-3 c = search needs
-
-shared-slice-read-result-4 : tie.Need-shared-slice-read-result-4
-shared-slice-read-result-4 c = search needs
-
-cast-result-4 : tie.Need-cast-result-4
-cast-result-4 c = omega (arith, c .shared-slice-known4 .given (c .before .before .before .before .args .at + 3))
+swapped-requires : tie.Need-swapped-requires
+swapped-requires c κs = search needs
 
 returns : tie.Need-returns
 unfolding field
 returns c =
-    let A = c .before .before .before .before .args in
-    let s = A .s .now in
-    let at = A .at in
-    let b = c .shared-slice-known4 .given in
-    or-four (getD s at 0) (getD s (at + 1) 0) (getD s (at + 2) 0) (getD s (at + 3) 0)
+    let S = c .before .before .before in
+    let s = S .args .s .now in
+    let at = S .args .at in
+    let b = c .before .before .shared-slice-known .given in
+    c .swapped .ensures
+    ∙ swapped-four (getD s at 0) (getD s (at + 1) 0) (getD s (at + 2) 0) (getD s (at + 3) 0)
+    (c .before .read-little .result)
     (omega (arith, b at)) (omega (arith, b (at + 1))) (omega (arith, b (at + 2))) (omega (arith, b (at + 3)))
-    ∙ sym (ap number (part-four s at (c .before .before .before .before .pre)) ∙ number-four _ _ _ _)
+    (c .before .read-little .ensures)
+    ∙ sym (ap number (part-four s at (S .pre)) ∙ number-four _ _ _ _)
 
 pub read-u32-spec : {M : Type 1} → statement M
-read-u32-spec =
-    tie.close
-    (tie.spec
-    shared-slice-read-result
-    cast-result
-    add-result
-    shared-slice-read-result-2
-    cast-result-2
-    add-result-2
-    shared-slice-read-result-3
-    cast-result-3
-    add-result-3
-    shared-slice-read-result-4
-    cast-result-4
-    returns)
+read-u32-spec = tie.close (tie.spec read-little-requires swapped-requires returns)

@@ -5,8 +5,8 @@ use mathlib.Core.Path.{_≡_, refl, sym, ap, _∙_}
 use lib.ListN.{length}
 use Rattle.bhtf.specs.Bytes.{part, store}
 use Rattle.runs.proofs.Moved.{none-yet, copied-block, copied-whole, length-moved}
-use Rattle.runs.proofs.copy.Statement.{statement}
-use Rattle.runs.proofs.copy.Tie as tie
+use Rattle.runs.proofs.copy_blocks.Statement.{statement}
+use Rattle.runs.proofs.copy_blocks.Tie as tie
 
 abbrev Inv-loop : tie.InvT-loop
 Inv-loop dst₀ src n last i₀ dst i = (dst ≡ store dst₀ 0 (part src 0 i)) × (i ≤ length dst₀) × (length dst ≡ length dst₀)
@@ -76,8 +76,8 @@ same-length-2 c =
 returns-2 : tie.Need-returns-2 Inv-loop μ-loop
 returns-2 c = whole c
 
-pub copy-spec : {M : Type 1} → statement M
-copy-spec =
+pub copy-blocks-spec : {M : Type 1} → statement M
+copy-blocks-spec =
     tie.close
     (tie.spec
     Inv-loop
