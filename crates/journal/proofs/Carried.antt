@@ -1,0 +1,270 @@
+-- The writes of an update, as the code does them.
+--     content-stored           count, pairs and new bytes, one behind the other, are the content
+--     carried-none, carried-content, carried-stretches, carried-all      the first n writes, for every n
+--     marked-sound, marked-count, marked-blocks      what the journal holds once its mark is set
+-- Assumes nothing.
+use mathlib.Core.Path.{_≡_, refl, sym, ap, ap₂, _∙_}
+use Prim.Native.Nat.{ℕ, zero, suc, _+_, _-_, _*_, _^_, _≤_, _<_}
+use native.Mathlib.Omega.{arith}
+use mathlib.Core.Bool.{Bool, true, false, cond, _&&_, and-false}
+use mathlib.Core.List.{List, [], _∷_, _++_, append-assoc}
+use lib.ListN.{length, take, set, getD, length-append}
+use lib.Seq.{take-all}
+use lib.Dec.{leb, eqb}
+use borrow.Author.Tests.{le-leb, lt-leb, leb-true, eq-eqb, ne-eqb}
+use Rattle.bhtf.specs.Bytes.{Bytes, part, store, digits}
+use Rattle.bhtf.specs.Image.{setField}
+use Rattle.updates.specs.Changes.{Pair, runs, pairBytes}
+use Rattle.updates.specs.Journal.{newBytes, content, markPlace, mark, marked, journalAllowed, Disk, Block, Write, toJournal, toImage, put, written, allWritten, putAll, stretches, toImages, setMark, updates, pairCount, bytesStart, blocksOf, total, journalSound}
+use Rattle.bhtf.proofs.Tests.{and-left, and-right}
+use Rattle.bhtf.proofs.Bytes.{length-digits, length-store}
+use Rattle.bhtf.proofs.Stores.{store-append}
+use Rattle.updates.proofs.Changes.{Spread, runs-spread, runs-few}
+use Rattle.updates.proofs.Journal.{length-pairBytes, length-content, Holds, holds-content, holds-mark, content-count, content-blocks, content-sound}
+use Rattle.bhtf.specs.Calls.{settled}
+use Rattle.bhtf.proofs.Outcomes.{settled-no}
+use Rattle.updates.proofs.Recovery.{images-then}
+use Rattle.words.proofs.Numbers.{set-store}
+use Rattle.journal.specs.Updates.{Updates}
+
+-- ---- the content
+
+pub content-stored : (j : Bytes) (rs : List Pair) (new : Bytes) (n : ℕ) → n ≡ length rs
+    → length (content rs new) ≤ length j
+    → store (store (setField j 0 n) 4 (pairBytes rs)) (4 + 8 * n) (newBytes rs new) ≡ store j 0 (content rs new)
+unfolding setField content
+content-stored j rs new n e h =
+    let d : Bytes = digits 4 n in
+    let p : Bytes = pairBytes rs in
+    let v : Bytes = newBytes rs new in
+    let ld : length d ≡ 4 = length-digits 4 n in
+    let lp : length p ≡ 8 * length rs = length-pairBytes rs in
+    let lpv : length (p ++ v) ≡ length p + length v = length-append p v in
+    let whole : length (digits 4 (length rs) ++ (p ++ v)) ≡ 4 + (length p + length v) =
+    length-append (digits 4 (length rs)) (p ++ v) ∙ ap₂ _+_ (length-digits 4 (length rs)) lpv in
+    let ldp : length (d ++ p) ≡ 4 + 8 * n = length-append d p ∙ ap₂ _+_ ld (lp ∙ ap (λ (k : ℕ). 8 * k) (sym e)) in
+    let two : store (store j 0 d) 4 p ≡ store j 0 (d ++ p) =
+    let place : 4 ≡ 0 + length d = omega arith in
+    ap (λ (k : ℕ). store (store j 0 d) k p) place ∙ store-append j 0 d p (omega arith) in
+    ap (λ (t : Bytes). store t (4 + 8 * n) v) two
+    ∙ (let place : 4 + 8 * n ≡ 0 + length (d ++ p) = omega arith in
+    ap (λ (k : ℕ). store (store j 0 (d ++ p)) k v) place)
+    ∙ store-append j 0 (d ++ p) v (omega arith)
+    ∙ ap (store j 0) (append-assoc d p v ∙ ap (λ (k : ℕ). digits 4 k ++ (p ++ v)) e)
+
+-- room for the pieces
+pub content-room : (j : Bytes) (rs : List Pair) (new : Bytes) → length (content rs new) ≤ length j
+    → (4 + length (pairBytes rs) ≤ length j) × (4 + 8 * length rs + length (newBytes rs new) ≤ length j)
+unfolding content
+content-room j rs new h =
+    let whole : length (digits 4 (length rs) ++ (pairBytes rs ++ newBytes rs new))
+    ≡ 4 + (length (pairBytes rs) + length (newBytes rs new)) =
+    length-append (digits 4 (length rs)) (pairBytes rs ++ newBytes rs new)
+    ∙ ap₂ _+_ (length-digits 4 (length rs)) (length-append (pairBytes rs) (newBytes rs new)) in
+    let lp = length-pairBytes rs in
+    (omega (arith, whole), omega (arith, whole, lp))
+
+-- ---- question 17
+
+module _ (old new j : Bytes) (l : length old ≡ length new) where
+  -- how long the content is, by what was counted
+  pub counted-content : (pairs bytes : ℕ) → pairs ≡ length (runs 0 old new) → bytes ≡ total (runs 0 old new)
+      → length (content (runs 0 old new) new) ≡ 4 + 8 * pairs + bytes
+  unfolding bytesStart
+  counted-content pairs bytes p b =
+      length-content 0 (runs 0 old new) new (runs-spread old new l)
+      ∙ ap₂ (λ (x y : ℕ). 4 + 8 * x + y) (sym p) (sym b)
+
+  pub refused-short : length j ≤ length (content (runs 0 old new) new) → journalAllowed old new j ≡ false
+  unfolding journalAllowed
+  refused-short h =
+      ap (λ (b : Bool). b && eqb (mark j) 0)
+      (lt-leb (length (content (runs 0 old new) new) + 1) (length j) (omega arith))
+
+  pub refused-mark : (getD j (length j - 1) 0 ≡ 0 → ⊥) → journalAllowed old new j ≡ false
+  unfolding journalAllowed mark markPlace
+  refused-mark h =
+      ap (λ (b : Bool). leb (length (content (runs 0 old new) new) + 1) (length j) && b)
+      (ne-eqb (getD j (length j - 1) 0) 0 h)
+      ∙ and-false (leb (length (content (runs 0 old new) new) + 1) (length j))
+
+  pub allowed-both : length (content (runs 0 old new) new) < length j → getD j (length j - 1) 0 ≡ 0
+      → journalAllowed old new j ≡ true
+  unfolding journalAllowed mark markPlace
+  allowed-both h z =
+      ap₂ _&&_ (le-leb (length (content (runs 0 old new) new) + 1) (length j) (omega arith))
+      (eq-eqb (getD j (length j - 1) 0) 0 z)
+
+-- ---- writes to the image
+
+images-only : (bs : List Block) (img j : Bytes)
+    → allWritten (toImages bs) (record { image = img; journal = j }) ≡ record { image = putAll img bs; journal = j }
+unfolding allWritten toImages written putAll
+images-only [] img j = refl
+images-only (b ∷ bs) img j = images-only bs (put img b) j
+
+take-images : (k : ℕ) (bs : List Block) (w : Write) → k ≤ length bs
+    → take k (toImages bs ++ (w ∷ [])) ≡ toImages (take k bs)
+unfolding toImages
+take-images zero bs w h = refl
+take-images (suc k) [] w h = absurd (omega arith)
+take-images (suc k) (b ∷ bs) w h = ap (λ (t : List Write). toImage b ∷ t) (take-images k bs w (omega arith))
+
+take-beyond : (k : ℕ) (bs : List Block) (w : Write) → length bs < k
+    → take k (toImages bs ++ (w ∷ [])) ≡ toImages bs ++ (w ∷ [])
+unfolding toImages
+take-beyond zero bs w h = absurd (omega arith)
+take-beyond (suc k) [] w h = ap (λ (t : List Write). w ∷ t) (nothing k)
+  where
+    nothing : (k : ℕ) → _≡_ {A = List Write} (take k []) []
+    nothing zero = refl
+    nothing (suc k) = refl
+take-beyond (suc k) (b ∷ bs) w h = ap (λ (t : List Write). toImage b ∷ t) (take-beyond k bs w (omega arith))
+
+pub length-stretches : (rs : List Pair) (new : Bytes) → length (stretches rs new) ≡ length rs
+unfolding stretches
+length-stretches [] new = refl
+length-stretches (r ∷ rs) new = ap suc (length-stretches rs new)
+
+-- ---- the first n writes
+
+module _ (old new j : Bytes) where
+  abbrev rs : List Pair
+  rs = runs 0 old new
+
+  abbrev full : Bytes
+  full = store j 0 (content rs new)
+
+  abbrev before : Disk
+  before = record { image = old; journal = j }
+
+  pub carried-none : allWritten (take 0 (updates old new j)) before ≡ before
+  unfolding allWritten
+  carried-none = refl
+
+  pub carried-content : allWritten (take 1 (updates old new j)) before ≡ record { image = old; journal = full }
+  unfolding allWritten updates written put
+  carried-content = refl
+
+  -- mark set, and k stretches written
+  pub carried-stretches : (n : ℕ) → 2 ≤ n → n - 2 ≤ length rs
+      → allWritten (take n (updates old new j)) before
+      ≡ record {
+        image = putAll old (take (n - 2) (stretches rs new));
+        journal = store full (markPlace j) (marked ∷ []);
+      }
+  unfolding updates allWritten written put setMark
+  carried-stretches n h f =
+      let more : n ≡ suc (suc (n - 2)) = omega arith in
+      ap (λ (k : ℕ). allWritten (take k (updates old new j)) before) more
+      ∙ ap (λ (ws : List Write). allWritten ws
+      (record { image = old; journal = store full (markPlace j) (marked ∷ []) }))
+      (take-images (n - 2) (stretches rs new) (setMark 0 j) (omega (arith, length-stretches rs new)))
+      ∙ images-only (take (n - 2) (stretches rs new)) old (store full (markPlace j) (marked ∷ []))
+
+  -- and the mark taken away
+  abbrev done : Disk
+  done =
+      record {
+        image = putAll old (stretches rs new);
+        journal = store (store full (markPlace j) (marked ∷ [])) (markPlace j) (0 ∷ []);
+      }
+
+  pub carried-updates : allWritten (updates old new j) before ≡ done
+  unfolding updates allWritten written put setMark
+  carried-updates =
+      images-then (stretches rs new) (setMark 0 j ∷ []) old (store full (markPlace j) (marked ∷ []))
+
+  -- all of them, and no more
+  pub taken-all : (n : ℕ) → length rs + 3 ≤ n → take n (updates old new j) ≡ updates old new j
+  unfolding updates
+  taken-all n h =
+      let more : n ≡ suc (suc (n - 2)) = omega arith in
+      ap (λ (k : ℕ). take k (updates old new j)) more
+      ∙ ap (λ (ws : List Write). toJournal (record { place = 0; bytes = content rs new }) ∷ setMark marked j ∷ ws)
+      (take-beyond (n - 2) (stretches rs new) (setMark 0 j) (omega (arith, length-stretches rs new)))
+
+  pub carried-all : (n : ℕ) → length rs + 3 ≤ n → allWritten (take n (updates old new j)) before ≡ done
+  carried-all n h = ap (λ (ws : List Write). allWritten ws before) (taken-all n h) ∙ carried-updates
+
+-- ---- a marked journal
+
+module _ (old new j : Bytes) (l : length old ≡ length new) (small : length old < 2 ^ 32)
+    (allowed : journalAllowed old new j ≡ true) where
+  abbrev c : Bytes
+  c = content (runs 0 old new) new
+
+  pub allowed-room : length (content (runs 0 old new) new) < length j
+  unfolding journalAllowed
+  allowed-room =
+      omega (
+        arith,
+        leb-true (length c + 1) (length j) (and-left (leb (length c + 1) (length j)) (eqb (mark j) 0) allowed),
+      )
+
+  abbrev filled : Bytes
+  filled = store (store j 0 c) (markPlace j) (marked ∷ [])
+
+  length-full : length (store j 0 c) ≡ length j
+  length-full = length-store j 0 c (omega (arith, allowed-room))
+
+  place-last : markPlace j + 1 ≡ length (store j 0 c)
+  unfolding markPlace
+  place-last = omega (arith, allowed-room, length-full)
+
+  holds : Holds c filled
+  holds = holds-mark c (store j 0 c) (markPlace j) marked (holds-content c j allowed-room) place-last
+
+  spread : Spread 0 (length new) (runs 0 old new)
+  spread = runs-spread old new l
+
+  few : length (runs 0 old new) < 256 ^ 4
+  few = omega (arith, runs-few 0 old new)
+
+  short : length new < 256 ^ 4
+  short = omega arith
+
+  pub marked-sound :
+      journalSound (length old) (store (store j 0 (content (runs 0 old new) new)) (markPlace j) (marked ∷ [])) ≡ true
+  marked-sound =
+      ap (λ (n : ℕ). journalSound n filled) l
+      ∙ content-sound (runs 0 old new) new filled holds spread few short
+
+  pub marked-count : pairCount (store (store j 0 (content (runs 0 old new) new)) (markPlace j) (marked ∷ []))
+      ≡ length (runs 0 old new)
+  marked-count = content-count (runs 0 old new) new filled holds spread few short
+
+  pub marked-blocks : blocksOf (store (store j 0 (content (runs 0 old new) new)) (markPlace j) (marked ∷ []))
+      ≡ stretches (runs 0 old new) new
+  marked-blocks = content-blocks (runs 0 old new) new filled holds spread few short
+
+-- ---- image and journal, as equations
+
+pub updates-as : {d : Disk} {x y img j : Bytes} → d ≡ record { image = x; journal = y } → img ≡ x → j ≡ y
+    → Updates d img j
+updates-as e p q =
+    record {
+      image-is = p ∙ sym (ap (λ (d : Disk). d .image) e);
+      journal-is = q ∙ sym (ap (λ (d : Disk). d .journal) e);
+    }
+
+-- a mark set in a journal that is as long as j
+pub mark-stored : (j j′ : Bytes) (m : ℕ) → length j′ ≡ length j → 1 ≤ length j
+    → set j′ (length j′ - 1) m ≡ store j′ (markPlace j) (m ∷ [])
+unfolding markPlace
+mark-stored j j′ m e h =
+    set-store j′ (length j′ - 1) m (omega arith) ∙ ap (λ (n : ℕ). store j′ (n - 1) (m ∷ [])) e
+
+-- all stretches
+pub all-stretches : (rs : List Pair) (new : Bytes) (n : ℕ) → n ≡ length rs
+    → take n (stretches rs new) ≡ stretches rs new
+all-stretches rs new n e = take-all n (stretches rs new) (omega (arith, length-stretches rs new))
+
+-- an update that is refused
+pub update-refused : (img new j x : Bytes) → journalAllowed img new j ≡ false
+    → _≡_ {A = ℕ} 17 (cond (journalAllowed img new j) 0 17) × (img ≡ settled 17 img new) × (j ≡ settled 17 j x)
+update-refused img new j x h = (
+  sym (ap (λ (b : Bool). cond b 0 17) h),
+  sym (settled-no 17 img new (λ z. omega arith)),
+  sym (settled-no 17 j x (λ z. omega arith)),
+)

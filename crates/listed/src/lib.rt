@@ -1,0 +1,74 @@
+// Add and delete in the form that also lists what they changed: the image before the call is kept in a working slice,
+// and compared with the image after it.
+use add::add;
+use changes::fill_list;
+use changes::put_part;
+use delete::delete;
+ghost use mathlib.Core.Path.{_≡_};
+ghost use mathlib.Core.Bool.{_&&_};
+ghost use lib.ListN.{length};
+ghost use Rattle.bhtf.specs.Bytes.{Bytes};
+ghost use Rattle.bhtf.specs.Calls.{add, delete};
+ghost use Rattle.updates.specs.Changes.{listAllowed, workAllowed};
+ghost use Rattle.listed.specs.Lists.{Lists};
+
+// Question 16, of a list and a working slice for an image of so many bytes.
+fn slices_allowed(size: usize, work: usize, list: usize) -> bool
+    ensures { λ r. ⌜ r ≡ (listAllowed list && workAllowed size work) ⌝ }
+{
+    (8 <= list) & (size <= work)
+}
+
+// Add, and the list of what it changed; `pairs` is how many pairs the list has now, 0 when refused.
+pub fn add_listed(
+    image: &mut [u8],
+    key: &[u8],
+    bytes: &[u8],
+    mode: u32,
+    work: &mut [u8],
+    list: &mut [u8],
+    pairs: &mut u32,
+) -> u32
+    ensures { λ r. ⌜ Lists (λ (img : Bytes). add img (now (key .entry)) (now (bytes .entry)) mode)
+        (now (image .entry)) (length (now (work .entry))) (now (list .entry))
+        (now (image .exit)) (now (list .exit)) r (now (pairs .exit)) ⌝ }
+{
+    *pairs = 0;
+    let size = image.len();
+    if !slices_allowed(size, work.len(), list.len()) {
+        return 16;
+    }
+    put_part(work, 0, image, 0, size);
+    let number = add(image, key, bytes, mode);
+    if number != 0 {
+        return number;
+    }
+    *pairs = fill_list(list, &work[0..size], image);
+    0
+}
+
+// Delete, and the list of what it changed; `pairs` is how many pairs the list has now, 0 when refused.
+pub fn delete_listed(
+    image: &mut [u8],
+    key: &[u8],
+    work: &mut [u8],
+    list: &mut [u8],
+    pairs: &mut u32,
+) -> u32
+    ensures { λ r. ⌜ Lists (λ (img : Bytes). delete img (now (key .entry)))
+        (now (image .entry)) (length (now (work .entry))) (now (list .entry))
+        (now (image .exit)) (now (list .exit)) r (now (pairs .exit)) ⌝ }
+{
+    *pairs = 0;
+    let size = image.len();
+    if !slices_allowed(size, work.len(), list.len()) {
+        return 16;
+    }
+    put_part(work, 0, image, 0, size);
+    let number = delete(image, key);
+    if number != 0 {
+        return number;
+    }
+    *pairs = fill_list(list, &work[0..size], image);
+    0
+}
