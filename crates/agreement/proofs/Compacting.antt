@@ -14,11 +14,11 @@ use lib.ListN.{length}
 use borrow.Author.Tests.{ne-eqb, not-true, not-false}
 use Rattle.bhtf.specs.Bytes.{Bytes}
 use Rattle.bhtf.specs.Image.{Layout, slot, offsetOf, slotBytes, vacant}
-use Rattle.bhtf.specs.Messages.{headSize, lengthAt, textAt, isActive, shown, bytesOf, held}
+use Rattle.bhtf.specs.Messages.{headSize, lengthAt, textAt, isActive, shown, bytesOf, isText, held}
 use Rattle.bhtf.specs.Questions.{nameAllowed}
 use Rattle.bhtf.specs.Inspect.{taken}
 use Rattle.bhtf.specs.Compact.{packed, packedOffset, compacted, compact}
-use Rattle.bhtf.specs.Book.{Entry, Terms, Book, find, isNote, trimmed, spaceFor, spaceForAll, compactedBook, bookCompact}
+use Rattle.bhtf.specs.Book.{Entry, Terms, Book, find, trimmed, spaceFor, spaceForAll, compactedBook, bookCompact}
 use Rattle.bhtf.specs.Reopened.{entryAt, entriesFrom, bookOf}
 use Rattle.bhtf.proofs.Tests.{by-bool}
 use Rattle.bhtf.proofs.Bytes.{part-length}
@@ -54,7 +54,7 @@ shown-inactive g img o a = rw a refl
 
 -- what an entry with a text is, and one without
 abbrev trimmedTo : Bytes → Option Bytes → Entry
-trimmedTo key t = record { name = key; text = t; held = length (bytesOf t); offset? = isNote t }
+trimmedTo key t = record { name = key; text = t; held = length (bytesOf t); offset? = isText t }
 
 -- ---- a point afterwards
 
@@ -64,7 +64,7 @@ module _ (g : Layout) (img : Bytes) (f : File g img) where
 
   value-compact : (key s : Bytes) → Allowed g key → entryOf g img key ≡ some s
       → valueOf g img′ key (packedOffset g img (offsetOf g s)) ≡ trimmed (valueOf g img key (offsetOf g s))
-  unfolding trimmed bytesOf isNote
+  unfolding trimmed bytesOf isText
   value-compact key s a e =
       let o = offsetOf g s in
       let p = packedOffset g img (offsetOf g s) in
@@ -76,7 +76,7 @@ module _ (g : Layout) (img : Bytes) (f : File g img) where
       let n : held g img′ p ≡ length (bytesOf (shown g img o)) =
       held-some g img′ p z ∙ lengthAt-moved g img o img′ p m ∙ sym (length-text g img o in′)
       ∙ ap (λ (x : Option Bytes). length (bytesOf x)) (sym (shown-active g img o h)) in
-      entry-is key t n (ap not (ne-eqb p 0 z) ∙ ap isNote (sym (shown-active g img o h))))
+      entry-is key t n (ap not (ne-eqb p 0 z) ∙ ap isText (sym (shown-active g img o h))))
       (λ h z.
       ap (valueOf g img′ key) z ∙ gone key ∙ ap (trimmedTo key) (sym (shown-inactive g img o h)))
     where
@@ -86,7 +86,7 @@ module _ (g : Layout) (img : Bytes) (f : File g img) where
       entry-is key q r s = cc
 
       gone : (key : Bytes) → valueOf g img′ key 0 ≡ trimmedTo key none
-      gone key = unfold shown held isActive bytesOf isNote in refl
+      gone key = unfold shown held isActive bytesOf isText in refl
 
   point-compact : (key : Bytes) → Allowed g key → pointOf g img′ key ≡ trimmedOf (pointOf g img key)
   point-compact key a =

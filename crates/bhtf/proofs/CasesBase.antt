@@ -19,14 +19,14 @@ use Rattle.bhtf.specs.Bytes.{Bytes, part, store, number, digits, zeros, 
 use Rattle.bhtf.specs.Image.{field, setField, roundUp, dataStart, lastPage, hashStep, hashFrom, scramble, hash, layoutOf, home, slotSize, slotStart, slot, putSlot, keyOf, offsetOf, slotBytes, blank, vacant}
 use Rattle.bhtf.specs.Create.{step, state, drawn, drawnBytes, slotsAsked, freshHeader, freshImage}
 use Rattle.bhtf.specs.Search.{next, dist, probe, search, readFrom, slotsRead, isMet, isEmpty, slotOf}
-use Rattle.bhtf.specs.Messages.{headSize, letterAt, lengthAt, textAt, isActive, shown, bytesOf, shownLength, held, message, setFree, takeSpace, retire, overwrite, freshText, renewedText, placedText, enter, inserted, relocated, renewed, renewedAt, addedAt, noted, added}
+use Rattle.bhtf.specs.Messages.{headSize, letterAt, lengthAt, textAt, isActive, shown, bytesOf, isText, shownLength, held, message, setFree, takeSpace, retire, overwrite, freshText, renewedText, placedText, enter, inserted, relocated, renewed, renewedAt, addedAt, noted, added}
 use Rattle.bhtf.specs.Delete.{among, moved, closeFrom, closed, deletedAt, deleted}
 use Rattle.bhtf.specs.Questions.{ask, firstNo, sizeAllowed, keyAllowed, slotsAllowed, tableFits, versionKnown, headerSound, nameAllowed, modeKnown, metInMode4, newInMode1, slotToTake, messageSound, metMessageSound, somePoint, lengthAllowed, spaceLeft, createAsks, opened, named, pointAsks, addAsks, lookupAsks, deleteAsks, createNumber, openNumber, seekNumber, addNumber, deleteNumber, lookupNumber}
 use Rattle.bhtf.specs.Calls.{Answer, plain, settled, create, add, delete, lookupOffset, lookupStart, lookupLength, lookupText, lookup, countOf, count, soughtRead, addRead, deleteRead, lookupRead}
 use Rattle.bhtf.specs.Compact.{beginsAt, blockAt, packedFrom, packedBelow, packed, packedOffset, packedSlot, packedSlots, packedEnd, packedData, lowerFree, compacted, isSound, compactNumber, compact}
 use Rattle.bhtf.specs.Lists.{Call, adding, perform, answers, stateAfter}
 use Rattle.bhtf.specs.Inspect.{lowest, taken, takenFrom, nextTaken, stopAt, keyWalk, stopNumber, keyStart, keyLength, keyShown, endsAt, entrySound, stretchStart, endAt, stretchEnd, meets, someBelow, meetsLower, slotSound, slotFails, countSound, verdictOf, check, verdictNumber}
-use Rattle.bhtf.specs.Book.{newBook, find, without, withEntry, stepOf, roomAsks, entered, noting, bare, placed, addAbsent, replace, append, withdrawn, addPresent, addFound, guarded, bookAdd, deleteFound, bookDelete, lookupFound, bookLookup, bookCount, isNote, trimmed, trimmedAll, spaceFor, spaceForAll, compactedBook, bookCompact, bookStep}
+use Rattle.bhtf.specs.Book.{newBook, find, without, withEntry, stepOf, roomAsks, entered, noting, bare, placed, addAbsent, replace, append, withdrawn, addPresent, addFound, guarded, bookAdd, deleteFound, bookDelete, lookupFound, bookLookup, bookCount, trimmed, trimmedAll, spaceFor, spaceForAll, compactedBook, bookCompact, bookStep}
 use Rattle.bhtf.specs.Demand.{fileText, textOf, bookText, termsOf, Agrees, Agreement}
 use Rattle.bhtf.specs.Reopened.{entryAt, entriesFrom, bookOf}
 
@@ -37,8 +37,8 @@ unfolding part store number digits zeros allZero same
     putSlot keyOf offsetOf slotBytes blank vacant
     step state drawn drawnBytes slotsAsked freshHeader freshImage
     next dist probe search readFrom slotsRead isMet isEmpty slotOf
-    headSize letterAt lengthAt textAt isActive shown bytesOf shownLength held message setFree takeSpace retire overwrite
-    freshText renewedText placedText enter inserted relocated renewed renewedAt addedAt noted added
+    headSize letterAt lengthAt textAt isActive shown bytesOf isText shownLength held message setFree takeSpace retire
+    overwrite freshText renewedText placedText enter inserted relocated renewed renewedAt addedAt noted added
     among moved closeFrom closed deletedAt deleted
     ask firstNo sizeAllowed keyAllowed slotsAllowed tableFits versionKnown headerSound nameAllowed modeKnown metInMode4
     newInMode1 slotToTake messageSound metMessageSound somePoint lengthAllowed spaceLeft createAsks opened named
@@ -66,7 +66,7 @@ unfoldable pub compact-definitions : ℕ
 unfolding book-definitions inspect-definitions
     beginsAt blockAt packedFrom packedBelow packed packedOffset packedSlot packedSlots packedEnd packedData lowerFree
     compacted isSound compactNumber compact
-    isNote trimmed trimmedAll spaceFor spaceForAll compactedBook bookCompact
+    trimmed trimmedAll spaceFor spaceForAll compactedBook bookCompact
     entryAt entriesFrom bookOf
 compact-definitions = 0
 

@@ -9,7 +9,7 @@ use mathlib.Core.Option.{Option, none, some}
 use lib.ListN.{length}
 use lib.Dec.{leb, ltb, eqb}
 use Rattle.bhtf.specs.Bytes.{Bytes, same}
-use Rattle.bhtf.specs.Messages.{bytesOf}
+use Rattle.bhtf.specs.Messages.{bytesOf, isText}
 use Rattle.bhtf.specs.Questions.{Question, ask, firstNo, nameAllowed, named}
 use Rattle.bhtf.specs.Calls.{Outcome, plain}
 use Rattle.bhtf.specs.Lists.{Call, adding, deleting, looking, counting, compacting}
@@ -151,13 +151,9 @@ bookCount b = record { after = b; answer = record { number = 0; amount = length 
 -- Document 02, Job 2, of compaction: "In the book this step makes held the text's length and U the sum of 4 + length
 -- over texts that are not empty", as Job 4 changes it: "after compaction an entry has an offset exactly when its text
 -- is not none, and U sums 4 + length over those".
-unfoldable pub isNote : Option Bytes → Bool
-isNote none = false
-isNote (some t) = true
-
 unfoldable pub trimmed : Entry → Entry
 trimmed e =
-    record { name = e .name; text = e .text; held = length (bytesOf (e .text)); offset? = isNote (e .text) }
+    record { name = e .name; text = e .text; held = length (bytesOf (e .text)); offset? = isText (e .text) }
 
 unfoldable pub trimmedAll : List Entry → List Entry
 trimmedAll [] = []
