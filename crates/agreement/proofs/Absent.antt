@@ -17,7 +17,7 @@ use Rattle.bhtf.specs.Search.{empty, exhausted, search, isMet}
 use Rattle.bhtf.specs.Messages.{shown, held, isActive, enter, inserted, freshText, addedAt, noted, added}
 use Rattle.bhtf.specs.Questions.{Question, ask, firstNo, nameAllowed, modeKnown, addNumber, placeNumber}
 use Rattle.bhtf.specs.Calls.{add}
-use Rattle.bhtf.specs.Book.{Terms, Book, find, stepOf, roomAsks, entered, bare, addAbsent, addFound}
+use Rattle.book.specs.Book.{Terms, Book, find, stepOf, roomAsks, entered, bare, addAbsent, addFound}
 use Rattle.bhtf.proofs.Tests.{by-bool, by-eq, not-both}
 use Rattle.bhtf.proofs.Opened.{firstNo-none, firstNo-yes, firstNo-no}
 use Rattle.bhtf.proofs.Outcomes.{room-none, add-14, add-10-exhausted, add-10-full, add-fresh}

@@ -9,7 +9,7 @@ use Rattle.bhtf.specs.Bytes.{Bytes}
 use Rattle.bhtf.specs.Image.{Layout}
 use Rattle.bhtf.specs.Questions.{Question, firstNo, nameAllowed, modeKnown, named, addNumber}
 use Rattle.bhtf.specs.Calls.{Outcome, add}
-use Rattle.bhtf.specs.Book.{Book, find, addFound, guarded, bookAdd}
+use Rattle.book.specs.Book.{Book, find, addFound, guarded, bookAdd}
 use Rattle.bhtf.proofs.Tests.{by-bool}
 use Rattle.bhtf.proofs.Opened.{firstNo-none, firstNo-yes, firstNo-no}
 use Rattle.bhtf.proofs.Outcomes.{add-7, add-8}

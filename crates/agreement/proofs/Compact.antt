@@ -24,7 +24,7 @@ use Rattle.bhtf.specs.Search.{search}
 use Rattle.bhtf.specs.Messages.{letterAt, isActive}
 use Rattle.bhtf.specs.Calls.{plain}
 use Rattle.bhtf.specs.Inspect.{taken, check}
-use Rattle.bhtf.specs.Compact.{packed, packedOffset, packedEnd, compacted, isSound, compactNumber, compact}
+use Rattle.compaction.specs.Compact.{packed, packedOffset, packedEnd, compacted, isSound, compactNumber, compact}
 use Rattle.bhtf.proofs.Tests.{by-bool, by-eq, and-right}
 use Rattle.bhtf.proofs.Bytes.{Apart}
 use Rattle.bhtf.proofs.Opened.{firstNo-none, firstNo-yes, firstNo-opened, facts-opened}
@@ -36,9 +36,9 @@ use Rattle.bhtf.proofs.Probe.{by-search, search-keys}
 use Rattle.bhtf.proofs.Insert.{entry-taken, findable-keys}
 use Rattle.bhtf.proofs.Stretch.{span, Lies, sound-lies, lies-sound, Stored, none-stored}
 use Rattle.bhtf.proofs.Effects.{active-some}
-use Rattle.bhtf.proofs.Packing.{startAt, Live, Stretches, sound-stretches, live-begins}
-use Rattle.bhtf.proofs.Packed.{live-apart, packed-end, activeSpan, packed-weight}
-use Rattle.bhtf.proofs.Compacted.{Moved, letterAt-moved, lengthAt-moved, compacted-length, compacted-kept, compacted-points, compacted-free, compacted-key, compacted-vacant, compacted-taken, compacted-entry, compacted-offset, compacted-moved, moved-inactive, moved-low, active-again, span-again, compacted-stretches, compacted-twice}
+use Rattle.compaction.proofs.Packing.{startAt, Live, Stretches, sound-stretches, live-begins}
+use Rattle.compaction.proofs.Packed.{live-apart, packed-end, activeSpan, packed-weight}
+use Rattle.compaction.proofs.Compacted.{Moved, letterAt-moved, lengthAt-moved, compacted-length, compacted-kept, compacted-points, compacted-free, compacted-key, compacted-vacant, compacted-taken, compacted-entry, compacted-offset, compacted-moved, moved-inactive, moved-low, active-again, span-again, compacted-stretches, compacted-twice}
 use Rattle.agreement.proofs.File.{Allowed, File, file-some, file-data}
 use Rattle.agreement.proofs.Checked.{taken-allowed, entry-slot, file-check}
 

@@ -17,9 +17,9 @@ use Rattle.bhtf.specs.Image.{Layout, slot, offsetOf, slotBytes, vacant}
 use Rattle.bhtf.specs.Messages.{headSize, lengthAt, textAt, isActive, shown, bytesOf, isText, held}
 use Rattle.bhtf.specs.Questions.{nameAllowed}
 use Rattle.bhtf.specs.Inspect.{taken}
-use Rattle.bhtf.specs.Compact.{packed, packedOffset, compacted, compact}
-use Rattle.bhtf.specs.Book.{Entry, Terms, Book, find, trimmed, spaceFor, spaceForAll, compactedBook, bookCompact}
-use Rattle.bhtf.specs.Reopened.{entryAt, entriesFrom, bookOf}
+use Rattle.compaction.specs.Compact.{packed, packedOffset, compacted, compact}
+use Rattle.book.specs.Book.{Entry, Terms, Book, find, trimmed, spaceFor, spaceForAll, compactedBook, bookCompact}
+use Rattle.book.specs.Reopened.{entryAt, entriesFrom, bookOf}
 use Rattle.bhtf.proofs.Tests.{by-bool}
 use Rattle.bhtf.proofs.Bytes.{part-length}
 use Rattle.bhtf.proofs.Total.{total}
@@ -27,9 +27,9 @@ use Rattle.bhtf.proofs.Table.{entryOf, weigh, weight}
 use Rattle.bhtf.proofs.Insert.{weigh-vacant}
 use Rattle.bhtf.proofs.Stretch.{span, held-some}
 use Rattle.bhtf.proofs.Effects.{active-some}
-use Rattle.bhtf.proofs.Packing.{startAt, Live}
-use Rattle.bhtf.proofs.Packed.{activeSpan}
-use Rattle.bhtf.proofs.Compacted.{textAt-moved, lengthAt-moved}
+use Rattle.compaction.proofs.Packing.{startAt, Live}
+use Rattle.compaction.proofs.Packed.{activeSpan}
+use Rattle.compaction.proofs.Compacted.{textAt-moved, lengthAt-moved}
 use Rattle.agreement.proofs.File.{Allowed, File, pointOf, pointOf-some, pointOf-none, valueOf, by-entry}
 use Rattle.agreement.proofs.Reflect.{Reflects}
 use Rattle.agreement.proofs.Simple.{Same}

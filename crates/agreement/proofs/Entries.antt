@@ -9,7 +9,7 @@ use mathlib.Core.List.{List, [], _∷_}
 use mathlib.Core.Option.{none, some, Option·none-ne-some, Option·some-injective}
 use lib.ListN.{length}
 use Rattle.bhtf.specs.Bytes.{Bytes, same}
-use Rattle.bhtf.specs.Book.{Entry, Book, find, without, withEntry}
+use Rattle.book.specs.Book.{Entry, Book, find, without, withEntry}
 use Rattle.bhtf.proofs.Tests.{by-bool}
 use Rattle.bhtf.proofs.Bytes.{same-refl, same-true, by-same}
 

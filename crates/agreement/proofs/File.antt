@@ -21,7 +21,7 @@ use Rattle.bhtf.specs.Limits.{pointsField, freeField, slotsField, dataField}
 use Rattle.bhtf.specs.Image.{field, Layout, layoutOf, offsetOf}
 use Rattle.bhtf.specs.Messages.{shown, held, isActive}
 use Rattle.bhtf.specs.Questions.{nameAllowed, versionKnown}
-use Rattle.bhtf.specs.Book.{Entry}
+use Rattle.book.specs.Book.{Entry}
 use Rattle.bhtf.proofs.Tests.{by-eq, and-left, and-right}
 use Rattle.bhtf.proofs.Bytes.{Apart, apart-sym, by-same}
 use Rattle.bhtf.proofs.Slots.{Room, layout-most}

@@ -18,8 +18,8 @@ use Rattle.bhtf.specs.Image.{field, dataStart, Layout, layoutOf, slotSize, slot
 use Rattle.bhtf.specs.Create.{drawnBytes, slotsAsked, freshHeader, freshImage}
 use Rattle.bhtf.specs.Messages.{headSize}
 use Rattle.bhtf.specs.Questions.{versionKnown}
-use Rattle.bhtf.specs.Book.{newBook}
-use Rattle.bhtf.specs.Demand.{termsOf}
+use Rattle.book.specs.Book.{newBook}
+use Rattle.book.specs.Demand.{termsOf}
 use Rattle.bhtf.proofs.Fresh.{length-drawnBytes}
 use Rattle.bhtf.proofs.Tests.{by-bool, by-eq, not-both}
 use Rattle.bhtf.proofs.Bytes.{number-digits-fits, length-zeros}

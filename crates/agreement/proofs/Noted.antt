@@ -14,7 +14,7 @@ use Rattle.bhtf.specs.Bytes.{Bytes, store, number}
 use Rattle.bhtf.specs.Limits.{major, minor, patch, versionField, pointsField, freeField}
 use Rattle.bhtf.specs.Image.{field, Layout, slot}
 use Rattle.bhtf.specs.Messages.{noted}
-use Rattle.bhtf.specs.Book.{Book}
+use Rattle.book.specs.Book.{Book}
 use Rattle.bhtf.proofs.Tests.{by-bool}
 use Rattle.bhtf.proofs.Slots.{slot-above}
 use Rattle.bhtf.proofs.Kept.{version-elsewhere, version-fixed, version-known}

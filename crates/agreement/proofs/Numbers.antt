@@ -15,8 +15,9 @@ use Rattle.bhtf.specs.Bytes.{Bytes}
 use Rattle.bhtf.specs.Messages.{bytesOf}
 use Rattle.bhtf.specs.Questions.{Question, ask, firstNo, nameAllowed, named}
 use Rattle.bhtf.specs.Calls.{Outcome, plain}
-use Rattle.bhtf.specs.Lists.{Call, adding, deleting, looking, counting, compacting}
-use Rattle.bhtf.specs.Book.{Entry, Book, find, stepOf, roomAsks, addAbsent, replace, append, addPresent, addFound, guarded, bookAdd, deleteFound, bookDelete, lookupFound, bookLookup, bookCount, bookCompact, bookStep}
+use Rattle.bhtf.specs.Lists.{adding, deleting, looking, counting}
+use Rattle.book.specs.Steps.{Step, calling, compacting}
+use Rattle.book.specs.Book.{Entry, Book, find, stepOf, roomAsks, addAbsent, replace, append, addPresent, addFound, guarded, bookAdd, deleteFound, bookDelete, lookupFound, bookLookup, bookCount, bookCompact, bookCall, bookStep}
 use Rattle.bhtf.proofs.Tests.{by-bool}
 use Rattle.bhtf.proofs.Opened.{firstNo-none, firstNo-yes, firstNo-no}
 
@@ -122,13 +123,13 @@ module _ (P : ℕ → Type 0) where
     shown-number (some e) = few 0 (omega arith)
 
     -- of any call, where room's questions answer such a number
-    pub call-number : ((m : ℕ) → P (firstNo (roomAsks b m))) → (c : Call) → P (bookStep c b .answer .number)
-    unfolding bookStep bookDelete bookLookup bookCount bookCompact plain
-    call-number room (adding name bytes mode) =
+    pub call-number : ((m : ℕ) → P (firstNo (roomAsks b m))) → (c : Step) → P (bookStep c b .answer .number)
+    unfolding bookStep bookCall bookDelete bookLookup bookCount bookCompact plain
+    call-number room (calling (adding name bytes mode)) =
         add-number b name bytes mode few absent (room (length bytes)) (λ e f n₁ n₂. room _)
-    call-number room (deleting name) = seven name _ (gone-number name (find name (b .entries)))
-    call-number room (looking name) = seven name _ (shown-number (find name (b .entries)))
-    call-number room counting = few 0 (omega arith)
+    call-number room (calling (deleting name)) = seven name _ (gone-number name (find name (b .entries)))
+    call-number room (calling (looking name)) = seven name _ (shown-number (find name (b .entries)))
+    call-number room (calling counting) = few 0 (omega arith)
     call-number room compacting = few 0 (omega arith)
 
 -- ---- 13

@@ -14,7 +14,7 @@ use Rattle.bhtf.specs.Bytes.{Bytes, part, store, zeros}
 use Rattle.bhtf.specs.Limits.{pointsField, freeField, tableStart}
 use Rattle.bhtf.specs.Image.{field, Layout, offsetOf, slot}
 use Rattle.bhtf.specs.Messages.{headSize, held, message, overwrite}
-use Rattle.bhtf.specs.Book.{noting}
+use Rattle.book.specs.Book.{noting}
 use Rattle.bhtf.proofs.Bytes.{part-store-inside, length-zeros}
 use Rattle.bhtf.proofs.Slots.{slot-store-data, field-store-other}
 use Rattle.bhtf.proofs.Kept.{Kept, kept-store, kept-known}

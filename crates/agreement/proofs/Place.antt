@@ -18,7 +18,7 @@ use Rattle.bhtf.specs.Image.{field, Layout, slot, putSlot, slotBytes, offsetOf}
 use Rattle.bhtf.specs.Search.{met, empty, search}
 use Rattle.bhtf.specs.Messages.{headSize, retire, takeSpace, enter, inserted, relocated}
 use Rattle.bhtf.specs.Questions.{ask, firstNo, lengthAllowed, spaceLeft, placeNumber}
-use Rattle.bhtf.specs.Book.{Terms, Book, find, roomAsks, entered, noting, placed}
+use Rattle.book.specs.Book.{Terms, Book, find, roomAsks, entered, noting, placed}
 use Rattle.bhtf.proofs.Tests.{by-le}
 use Rattle.bhtf.proofs.Opened.{firstNo-head, firstNo-tail}
 use Rattle.bhtf.proofs.Effects.{Spaced}

@@ -17,7 +17,7 @@ use Rattle.bhtf.specs.Search.{met, search}
 use Rattle.bhtf.specs.Messages.{shown, bytesOf, held, retire, overwrite, renewedText, renewedAt, addedAt, noted, added}
 use Rattle.bhtf.specs.Questions.{ask, firstNo, modeKnown, openNumber, addNumber, placeNumber}
 use Rattle.bhtf.specs.Calls.{add}
-use Rattle.bhtf.specs.Book.{Entry, Book, find, withEntry, stepOf, roomAsks, entered, noting, placed, replace, append, withdrawn, addPresent, addFound}
+use Rattle.book.specs.Book.{Entry, Book, find, withEntry, stepOf, roomAsks, entered, noting, placed, replace, append, withdrawn, addPresent, addFound}
 use Rattle.bhtf.proofs.Tests.{by-bool, by-eq}
 use Rattle.bhtf.proofs.Opened.{firstNo-none, firstNo-no}
 use Rattle.bhtf.proofs.Outcomes.{room-none, add-9, add-renewed}

@@ -16,9 +16,10 @@ use Rattle.bhtf.specs.Bytes.{Bytes}
 use Rattle.bhtf.specs.Image.{Layout, layoutOf}
 use Rattle.bhtf.specs.Search.{slotsRead}
 use Rattle.bhtf.specs.Calls.{Outcome, addRead, deleteRead, lookupRead}
-use Rattle.bhtf.specs.Lists.{perform, Call, stateAfter}
-use Rattle.bhtf.specs.Book.{Book, bookStep}
-use Rattle.bhtf.specs.Reopened.{bookOf, Starts}
+use Rattle.bhtf.specs.Lists.{stateAfter}
+use Rattle.book.specs.Steps.{Step, perform}
+use Rattle.book.specs.Book.{Book, bookStep}
+use Rattle.book.specs.Reopened.{bookOf, Starts}
 use Rattle.bhtf.specs.Inspect.{check, sound}
 use Rattle.bhtf.proofs.Bytes.{AreBytes}
 use Rattle.bhtf.proofs.Table.{Taken, keyAt}
@@ -33,7 +34,7 @@ pub record Reached (img : Bytes) (b : Book) : Type 0 where
   pub first : Bytes
   pub opening : Book
   pub starts : Starts first opening
-  pub calls : List Call
+  pub calls : List Step
   pub file-is : img ≡ stateAfter perform calls first
   pub book-is : b ≡ stateAfter bookStep calls opening
 
@@ -54,13 +55,13 @@ reached-reflects img b r =
 -- ---- more calls reach on
 
 -- one list of calls after another
-after-append : {S : Type 0} (do′ : Call → S → Outcome S) (cs ds : List Call) (s : S)
+after-append : {S : Type 0} (do′ : Step → S → Outcome S) (cs ds : List Step) (s : S)
     → stateAfter do′ (cs ++ ds) s ≡ stateAfter do′ ds (stateAfter do′ cs s)
 unfolding stateAfter
 after-append do′ [] ds s = refl
 after-append do′ (c ∷ cs) ds s = after-append do′ cs ds (do′ c s .after)
 
-pub reached-after : (img : Bytes) (b : Book) → Reached img b → (calls : List Call)
+pub reached-after : (img : Bytes) (b : Book) → Reached img b → (calls : List Step)
     → Reached (stateAfter perform calls img) (stateAfter bookStep calls b)
 reached-after img b r calls =
     record {

@@ -14,7 +14,7 @@ use Rattle.bhtf.specs.Limits.{pointsField, freeField}
 use Rattle.bhtf.specs.Image.{field, Layout}
 use Rattle.bhtf.specs.Messages.{headSize}
 use Rattle.bhtf.specs.Questions.{nameAllowed}
-use Rattle.bhtf.specs.Book.{Entry, Terms, Book, find, without, withEntry, entered}
+use Rattle.book.specs.Book.{Entry, Terms, Book, find, without, withEntry, entered}
 use Rattle.bhtf.proofs.Tests.{not-both}
 use Rattle.bhtf.proofs.Bytes.{by-same}
 use Rattle.agreement.proofs.File.{Allowed, pointOf, not-allowed, File, Change, file-change, point-other}

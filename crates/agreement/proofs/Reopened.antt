@@ -15,8 +15,8 @@ use Rattle.bhtf.specs.Image.{Layout, layoutOf, slot, offsetOf, vacant}
 use Rattle.bhtf.specs.Search.{met, search, isMet}
 use Rattle.bhtf.specs.Questions.{nameAllowed}
 use Rattle.bhtf.specs.Inspect.{taken, takenFrom}
-use Rattle.bhtf.specs.Book.{Entry, find}
-use Rattle.bhtf.specs.Reopened.{entryAt, entriesFrom, bookOf}
+use Rattle.book.specs.Book.{Entry, find}
+use Rattle.book.specs.Reopened.{entryAt, entriesFrom, bookOf}
 use Rattle.bhtf.proofs.Tests.{by-bool, by-eq, not-both}
 use Rattle.bhtf.proofs.Bytes.{by-same}
 use Rattle.bhtf.proofs.Table.{Taken, keyAt, entryOf, slotMet}

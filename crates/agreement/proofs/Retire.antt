@@ -16,7 +16,7 @@ use Rattle.bhtf.specs.Limits.{active, inactive, pointsField, freeField, tableSt
 use Rattle.bhtf.specs.Image.{field, Layout, layoutOf, offsetOf, slot}
 use Rattle.bhtf.specs.Messages.{headSize, letterAt, lengthAt, isActive, shown, held, retire}
 use Rattle.bhtf.specs.Questions.{messageSound}
-use Rattle.bhtf.specs.Book.{withdrawn}
+use Rattle.book.specs.Book.{withdrawn}
 use Rattle.bhtf.proofs.Tests.{by-eq}
 use Rattle.bhtf.proofs.Bytes.{Apart, apart-sym, apart-inside, part-store-same}
 use Rattle.bhtf.proofs.Kept.{kept-known}

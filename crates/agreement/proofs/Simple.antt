@@ -18,7 +18,7 @@ use Rattle.bhtf.specs.Messages.{shown, bytesOf, retire}
 use Rattle.bhtf.specs.Delete.{closed, deleted, deletedAt}
 use Rattle.bhtf.specs.Questions.{Question, ask, firstNo, nameAllowed, messageSound, somePoint, openNumber, lookupNumber, deleteNumber}
 use Rattle.bhtf.specs.Calls.{Outcome, plain, settled, delete, lookup, count, countOf}
-use Rattle.bhtf.specs.Book.{Terms, Book, find, without, stepOf, guarded, bookDelete, deleteFound, bookLookup, lookupFound, bookCount}
+use Rattle.book.specs.Book.{Terms, Book, find, without, stepOf, guarded, bookDelete, deleteFound, bookLookup, lookupFound, bookCount}
 use Rattle.bhtf.proofs.Tests.{by-bool, not-both}
 use Rattle.bhtf.proofs.Opened.{firstNo-none, firstNo-yes, firstNo-no, facts-opened}
 use Rattle.bhtf.proofs.Outcomes.{settled-yes, settled-no, lookup-7, lookup-14, lookup-shows, lookup-refused, delete-7, delete-14, delete-0}

@@ -18,7 +18,7 @@ use Rattle.bhtf.specs.Bytes.{Bytes, part, number, digits}
 use Rattle.bhtf.specs.Limits.{active, freeField}
 use Rattle.bhtf.specs.Image.{field, Layout, offsetOf}
 use Rattle.bhtf.specs.Messages.{headSize, letterAt, lengthAt, textAt, isActive, shown, held, message, takeSpace}
-use Rattle.bhtf.specs.Book.{noting}
+use Rattle.book.specs.Book.{noting}
 use Rattle.bhtf.proofs.Bytes.{Apart, part-part, length-digits, number-digits-fits}
 use Rattle.bhtf.proofs.Kept.{kept-known}
 use Rattle.bhtf.proofs.Effects.{Spaced, spaced}

@@ -19,9 +19,10 @@ use Rattle.bhtf.specs.Bytes.{Bytes}
 use Rattle.bhtf.specs.Messages.{bytesOf}
 use Rattle.bhtf.specs.Questions.{Question, ask, firstNo, nameAllowed}
 use Rattle.bhtf.specs.Calls.{Outcome, plain}
-use Rattle.bhtf.specs.Lists.{Call, adding, deleting, looking, counting, compacting}
-use Rattle.bhtf.specs.Book.{Entry, Book, find, withEntry, stepOf, guarded, entered, noting, bare, placed, addAbsent, replace, append, withdrawn, addPresent, addFound, bookAdd, deleteFound, bookDelete, lookupFound, bookLookup, bookCount, trimmed, compactedBook, bookCompact, bookStep}
-use Rattle.bhtf.specs.Demand.{bookText, textOf}
+use Rattle.bhtf.specs.Lists.{adding, deleting, looking, counting}
+use Rattle.book.specs.Steps.{Step, calling, compacting}
+use Rattle.book.specs.Book.{Entry, Book, find, withEntry, stepOf, guarded, entered, noting, bare, placed, addAbsent, replace, append, withdrawn, addPresent, addFound, bookAdd, deleteFound, bookDelete, lookupFound, bookLookup, bookCount, trimmed, compactedBook, bookCompact, bookCall, bookStep}
+use Rattle.book.specs.Demand.{bookText, textOf}
 use Rattle.bhtf.proofs.Tests.{by-bool, by-eq}
 use Rattle.bhtf.proofs.Bytes.{by-same}
 use Rattle.bhtf.proofs.Opened.{firstNo-none, firstNo-no}
@@ -231,34 +232,36 @@ module _ (b : Book) (name : Bytes) where
 
 -- nothing, or a text is put under the name that it adds, or the entry of the name that it deletes goes, or all entries
 -- are trimmed
-pub data Effect (b : Book) (c : Call) (b′ : Book) : Type 0 where
+pub data Effect (b : Book) (c : Step) (b′ : Book) : Type 0 where
   nothing : b′ ≡ b → Effect b c b′
-  enters : (name bytes : Bytes) (mode : ℕ) (text : Option Bytes) → c ≡ adding name bytes mode → Given name text b b′
+  enters : (name bytes : Bytes) (mode : ℕ) (text : Option Bytes) → c ≡ calling (adding name bytes mode)
+      → Given name text b b′
       → Effect b c b′
-  leaves : (name : Bytes) (e : Entry) → c ≡ deleting name → find name (b .entries) ≡ some e
+  leaves : (name : Bytes) (e : Entry) → c ≡ calling (deleting name) → find name (b .entries) ≡ some e
       → b′ ≡ removed name b → Effect b c b′
   trims : c ≡ compacting → b′ ≡ compactedBook b → Effect b c b′
 
-delete-effect : {b : Book} {name : Bytes} {o : Outcome Book} → Deleted b name o → Effect b (deleting name) (o .after)
+delete-effect : {b : Book} {name : Bytes} {o : Outcome Book} → Deleted b name o
+    → Effect b (calling (deleting name)) (o .after)
 delete-effect (refused z q) = nothing q
 delete-effect (gone e f q) = leaves _ e refl f q
 
 -- the one list of all calls: what follows goes by the effect
-pub call-effect : (c : Call) (b : Book) → Effect b c (bookStep c b .after)
-unfolding bookStep bookCount bookCompact
-call-effect (adding name bytes mode) b =
+pub call-effect : (c : Step) (b : Book) → Effect b c (bookStep c b .after)
+unfolding bookStep bookCall bookCount bookCompact
+call-effect (calling (adding name bytes mode)) b =
     by-put (book-add b name bytes mode) (λ q. nothing q) (λ text w. enters name bytes mode text refl w)
-call-effect (deleting name) b = delete-effect (book-delete b name)
-call-effect (looking name) b = nothing (book-lookup b name)
-call-effect counting b = nothing refl
+call-effect (calling (deleting name)) b = delete-effect (book-delete b name)
+call-effect (calling (looking name)) b = nothing (book-lookup b name)
+call-effect (calling counting) b = nothing refl
 call-effect compacting b = trims refl refl
 
 -- the call does not delete, or does not add, a point of that name
-abbrev pub NotDeleting : Bytes → Call → Type 0
-NotDeleting key c = c ≡ deleting key → ⊥
+abbrev pub NotDeleting : Bytes → Step → Type 0
+NotDeleting key c = c ≡ calling (deleting key) → ⊥
 
-abbrev pub NotAdding : Bytes → Call → Type 0
-NotAdding key c = (bytes : Bytes) (mode : ℕ) → c ≡ adding key bytes mode → ⊥
+abbrev pub NotAdding : Bytes → Step → Type 0
+NotAdding key c = (bytes : Bytes) (mode : ℕ) → c ≡ calling (adding key bytes mode) → ⊥
 
 -- a point of that name, or none
 abbrev pub Has : Bytes → Book → Type 0
@@ -284,16 +287,16 @@ trims-find : (b b′ : Book) (key : Bytes) → b′ ≡ compactedBook b
 unfolding compactedBook
 trims-find b b′ key is = ap (λ (x : Book). find key (x .entries)) is ∙ find-trimmed key (b .entries)
 
-module _ {b : Book} {c : Call} {b′ : Book} (key : Bytes) where
+module _ {b : Book} {c : Step} {b′ : Book} (key : Bytes) where
   -- a point that the call neither adds nor deletes keeps its text
   pub effect-other : Effect b c b′ → NotAdding key c → NotDeleting key c → bookText b′ key ≡ bookText b key
   effect-other (nothing q) na nd = ap (λ (x : Book). bookText x key) q
   effect-other (enters name bytes mode text q w) na nd =
       unfold bookText in
-      ap textOf (given-other w key (λ s. na bytes mode (q ∙ ap (λ (x : Bytes). adding x bytes mode) (sym s))))
+      ap textOf (given-other w key (λ s. na bytes mode (q ∙ ap (λ (x : Bytes). calling (adding x bytes mode)) (sym s))))
   effect-other (leaves name e q f is) na nd =
       ap (λ (x : Book). bookText x key) is
-      ∙ without-text name (λ s. nd (q ∙ ap deleting (sym s)))
+      ∙ without-text name (λ s. nd (q ∙ ap (λ (x : Bytes). calling (deleting x)) (sym s)))
     where
       without-text : (name : Bytes) → (key ≡ name → ⊥) → bookText (removed name b) key ≡ bookText b key
       without-text name n = unfold bookText in ap textOf (find-without-other name key (b .entries) n)
@@ -307,7 +310,8 @@ module _ {b : Book} {c : Call} {b′ : Book} (key : Bytes) where
       (λ s. (_, ap (λ (x : Bytes). find x (b′ .entries)) s ∙ given-find w))
       (λ n. (h .0, given-other w key n ∙ h .1))
   effect-has (leaves name e q f is) nd h =
-      let other = find-without-other name key (b .entries) (λ s. nd (q ∙ ap deleting (sym s))) in
+      let other =
+      find-without-other name key (b .entries) (λ s. nd (q ∙ ap (λ (x : Bytes). calling (deleting x)) (sym s))) in
       (h .0, ap (λ (x : Book). find key (x .entries)) is ∙ other ∙ h .1)
   effect-has (trims q is) nd h = (trimmed (h .0), trims-find b b′ key is ∙ ap trimmedOf (h .1))
 
@@ -315,7 +319,7 @@ module _ {b : Book} {c : Call} {b′ : Book} (key : Bytes) where
   pub effect-lacks : Effect b c b′ → NotAdding key c → Lacks key b → Lacks key b′
   effect-lacks (nothing q) na h = ap (λ (x : Book). find key (x .entries)) q ∙ h
   effect-lacks (enters name bytes mode text q w) na h =
-      given-other w key (λ s. na bytes mode (q ∙ ap (λ (x : Bytes). adding x bytes mode) (sym s))) ∙ h
+      given-other w key (λ s. na bytes mode (q ∙ ap (λ (x : Bytes). calling (adding x bytes mode)) (sym s))) ∙ h
   effect-lacks (leaves name e q f is) na h =
       let present : (key ≡ name → ⊥) =
       λ s. Option·none-ne-some e (sym h ∙ ap (λ (x : Bytes). find x (b .entries)) s ∙ f) in
@@ -323,10 +327,10 @@ module _ {b : Book} {c : Call} {b′ : Book} (key : Bytes) where
   effect-lacks (trims q is) na h = trims-find b b′ key is ∙ ap trimmedOf h
 
 -- the call gives no space back: every call but compaction
-abbrev pub Keeping : Call → Type 0
+abbrev pub Keeping : Step → Type 0
 Keeping c = c ≡ compacting → ⊥
 
-pub effect-used : {b : Book} {c : Call} {b′ : Book} → Effect b c b′ → Keeping c → b .used ≤ b′ .used
+pub effect-used : {b : Book} {c : Step} {b′ : Book} → Effect b c b′ → Keeping c → b .used ≤ b′ .used
 effect-used (nothing q) k = omega (arith, ap (λ (x : Book). x .used) q)
 effect-used (enters name bytes mode text q w) k = given-used w
 effect-used (leaves name e q f is) k = omega (arith, ap (λ (x : Book). x .used) is)

@@ -1,6 +1,6 @@
 -- Demand 3: on every list of calls, from every accepted create and from every sound image, file and book give the same
 -- answers, and after it the file finds exactly the book's points with the book's texts: `AgreementFrom` of
--- crates/bhtf/specs/Reopened.antt, and `Agreement` of Demand.antt, its case from create.
+-- crates/book/specs/Reopened.antt, and `Agreement` of Demand.antt, its case from create.
 --     step            one call keeps the relation, with equal answers; step-kept: and the layout
 --     same-answers, reflects-after    so does every list
 --     points-agree    files and books in the relation find the same points with the same texts
@@ -21,10 +21,11 @@ use Rattle.bhtf.specs.Search.{search, isMet}
 use Rattle.bhtf.specs.Questions.{nameAllowed, createNumber}
 use Rattle.bhtf.specs.Create.{slotsAsked, freshImage}
 use Rattle.bhtf.specs.Calls.{Answer, plain, create, lookup}
-use Rattle.bhtf.specs.Lists.{Call, adding, deleting, looking, counting, compacting, perform, answers, stateAfter}
-use Rattle.bhtf.specs.Book.{Book, newBook, bookStep}
-use Rattle.bhtf.specs.Demand.{fileText, textOf, bookText, termsOf, Agrees, Agreement}
-use Rattle.bhtf.specs.Reopened.{Starts, AgreementFrom}
+use Rattle.bhtf.specs.Lists.{adding, deleting, looking, counting, answers, stateAfter, call}
+use Rattle.book.specs.Steps.{Step, calling, compacting, perform}
+use Rattle.book.specs.Book.{Book, newBook, bookCall, bookStep}
+use Rattle.book.specs.Demand.{fileText, textOf, bookText, termsOf, Agrees, Agreement}
+use Rattle.book.specs.Reopened.{Starts, AgreementFrom}
 use Rattle.bhtf.proofs.Tests.{by-bool}
 use Rattle.bhtf.proofs.Accepted.{accepted-facts}
 use Rattle.bhtf.proofs.Outcomes.{settled-yes}
@@ -37,25 +38,25 @@ use Rattle.agreement.proofs.Compacting.{same-compact}
 use Rattle.agreement.proofs.Fresh.{slotsAsked-some, fresh-reflects}
 
 -- a call that keeps the layout, as every one does
-pub step-kept : (g : Layout) (img : Bytes) (b : Book) → Reflects g img b → (c : Call)
+pub step-kept : (g : Layout) (img : Bytes) (b : Book) → Reflects g img b → (c : Step)
     → Same g (perform c img) (bookStep c b)
-unfolding perform bookStep
-step-kept g img b r (adding key bytes mode) = same-add g img b r key bytes mode
-step-kept g img b r (deleting key) = same-delete g img b r key
-step-kept g img b r (looking key) = same-lookup g img b r key
-step-kept g img b r counting = same-count g img b r
+unfolding perform call bookStep bookCall
+step-kept g img b r (calling (adding key bytes mode)) = same-add g img b r key bytes mode
+step-kept g img b r (calling (deleting key)) = same-delete g img b r key
+step-kept g img b r (calling (looking key)) = same-lookup g img b r key
+step-kept g img b r (calling counting) = same-count g img b r
 step-kept g img b r compacting = same-compact g img b r
 
-pub step : (img : Bytes) (b : Book) → Reflected img b → (c : Call) → Alike (perform c img) (bookStep c b)
+pub step : (img : Bytes) (b : Book) → Reflected img b → (c : Step) → Alike (perform c img) (bookStep c b)
 step img b (g, r) c = (g, step-kept g img b r c)
 
 -- ---- lists of calls
 
-pub reflects-step : (img : Bytes) (b : Book) → Reflected img b → (c : Call)
+pub reflects-step : (img : Bytes) (b : Book) → Reflected img b → (c : Step)
     → Reflected (perform c img .after) (bookStep c b .after)
 reflects-step img b r c = (step img b r c .0, step img b r c .1 .after)
 
-pub same-answers : (calls : List Call) (img : Bytes) (b : Book) → Reflected img b
+pub same-answers : (calls : List Step) (img : Bytes) (b : Book) → Reflected img b
     → answers perform calls img ≡ answers bookStep calls b
 unfolding answers
 same-answers [] img b r = refl
@@ -63,7 +64,7 @@ same-answers (c ∷ cs) img b r =
     ap₂ _∷_ (step img b r c .1 .answer)
     (same-answers cs (perform c img .after) (bookStep c b .after) (reflects-step img b r c))
 
-pub reflects-after : (calls : List Call) (img : Bytes) (b : Book) → Reflected img b
+pub reflects-after : (calls : List Step) (img : Bytes) (b : Book) → Reflected img b
     → Reflected (stateAfter perform calls img) (stateAfter bookStep calls b)
 unfolding stateAfter
 reflects-after [] img b r = r
@@ -87,7 +88,7 @@ points-agree img b (g, r) name =
 
 -- ---- the theorem
 
-pub from-reflected : (img : Bytes) (b : Book) → Reflected img b → (calls : List Call) → Agrees img b calls
+pub from-reflected : (img : Bytes) (b : Book) → Reflected img b → (calls : List Step) → Agrees img b calls
 unfolding Agrees
 from-reflected img b r calls = (
   same-answers calls img b r,

@@ -27,10 +27,11 @@ use Rattle.bhtf.specs.Limits.{freeField}
 use Rattle.bhtf.specs.Image.{field, Layout, layoutOf}
 use Rattle.bhtf.specs.Messages.{headSize, bytesOf}
 use Rattle.bhtf.specs.Calls.{Answer, Outcome, plain, add, delete, count}
-use Rattle.bhtf.specs.Compact.{compacted, compact}
-use Rattle.bhtf.specs.Lists.{Call, adding, deleting, compacting, perform, stateAfter}
-use Rattle.bhtf.specs.Book.{Entry, Terms, Book, find, bookDelete, bookCount, spaceForAll, compactedBook, bookCompact, bookStep}
-use Rattle.bhtf.specs.Demand.{fileText, bookText, textOf}
+use Rattle.compaction.specs.Compact.{compacted, compact}
+use Rattle.bhtf.specs.Lists.{adding, deleting, stateAfter, call}
+use Rattle.book.specs.Steps.{Step, calling, compacting, perform}
+use Rattle.book.specs.Book.{Entry, Terms, Book, find, bookDelete, bookCount, spaceForAll, compactedBook, bookCompact, bookCall, bookStep}
+use Rattle.book.specs.Demand.{fileText, bookText, textOf}
 use Rattle.agreement.proofs.Entries.{Distinct, find-without-same, length-without}
 use Rattle.agreement.proofs.Reflect.{Reflects, Reflected}
 use Rattle.agreement.proofs.Simple.{same-count}
@@ -76,13 +77,13 @@ count-is img b (g, r) = ap (λ (x : Answer). x .amount) (same-count g img b r .a
 
 -- ---- calls that are equal
 
-same-deleted : {a b : Bytes} → deleting a ≡ deleting b → a ≡ b
+same-deleted : {a b : Bytes} → calling (deleting a) ≡ calling (deleting b) → a ≡ b
 same-deleted q = cc
 
-same-added : {a b c d : Bytes} {m n : ℕ} → adding a b m ≡ adding c d n → a ≡ c
+same-added : {a b c d : Bytes} {m n : ℕ} → calling (adding a b m) ≡ calling (adding c d n) → a ≡ c
 same-added q = cc
 
-differ : {a b c : Bytes} {m : ℕ} → deleting a ≡ adding b c m → ⊥
+differ : {a b c : Bytes} {m : ℕ} → calling (deleting a) ≡ calling (adding b c m) → ⊥
 differ q =
     let y : _≡_ {A = ℕ} 0 1 = cc in
     omega arith
@@ -186,20 +187,20 @@ module _ (img : Bytes) (b : Book) (r : Reached img b) where
   book-has key t h = sym (points-agree img b rel key) ∙ h
 
   -- the book accepts too
-  number-too : (c : Call) → perform c img .answer .number ≡ 0 → bookStep c b .answer .number ≡ 0
+  number-too : (c : Step) → perform c img .answer .number ≡ 0 → bookStep c b .answer .number ≡ 0
   number-too c ok = sym (ap (λ (x : Answer). x .number) (step img b rel c .1 .answer)) ∙ ok
 
-  text-after : (c : Call) (name : Bytes) → fileText (perform c img .after) name ≡ bookText (bookStep c b .after) name
+  text-after : (c : Step) (name : Bytes) → fileText (perform c img .after) name ≡ bookText (bookStep c b .after) name
   text-after c = points-agree _ _ (reflects-step img b rel c)
 
   count-now : count img .answer .amount ≡ length (b .entries)
   count-now = count-is img b rel
 
-  count-after : (c : Call) → count (perform c img .after) .answer .amount ≡ length (bookStep c b .after .entries)
+  count-after : (c : Step) → count (perform c img .after) .answer .amount ≡ length (bookStep c b .after .entries)
   count-after c = count-is _ _ (reflects-step img b rel c)
 
   -- a call that neither adds nor deletes a point changes nothing of it
-  pub call-others : (c : Call) (other : Bytes) → NotAdding other c → NotDeleting other c
+  pub call-others : (c : Step) (other : Bytes) → NotAdding other c → NotDeleting other c
       → fileText (perform c img .after) other ≡ fileText img other
   unfolding bookText
   call-others c other na nd =
@@ -207,94 +208,95 @@ module _ (img : Bytes) (b : Book) (r : Reached img b) where
 
   pub delete-others : (key other : Bytes) → (other ≡ key → ⊥)
       → fileText (delete img key .after) other ≡ fileText img other
-  unfolding perform
+  unfolding perform call
   delete-others key other n =
-      call-others (deleting key) other (λ bytes mode q. differ q) (λ q. n (sym (same-deleted q)))
+      call-others (calling (deleting key)) other (λ bytes mode q. differ q) (λ q. n (sym (same-deleted q)))
 
   pub add-others : (key bytes other : Bytes) (mode : ℕ) → (other ≡ key → ⊥)
       → fileText (add img key bytes mode .after) other ≡ fileText img other
-  unfolding perform
+  unfolding perform call
   add-others key bytes other mode n =
-      call-others (adding key bytes mode) other (λ bytes′ mode′ q. n (sym (same-added q))) (λ q. differ (sym q))
+      call-others (calling (adding key bytes mode)) other (λ bytes′ mode′ q. n (sym (same-added q)))
+      (λ q. differ (sym q))
 
   -- an accepted add, in its four modes
   pub added-found : (key bytes : Bytes) → add img key bytes 1 .answer .number ≡ 0
       → fileText (add img key bytes 1 .after) key ≡ some (some bytes)
-  unfolding perform bookStep
+  unfolding perform call bookStep bookCall
   added-found key bytes ok =
-      let c = adding key bytes 1 in
+      let c = calling (adding key bytes 1) in
       text-after c key ∙ book-added (book-add b key bytes 1) (number-too c ok)
 
   pub replaced-found : (key bytes : Bytes) → add img key bytes 2 .answer .number ≡ 0
       → fileText (add img key bytes 2 .after) key ≡ some (some bytes)
-  unfolding perform bookStep
+  unfolding perform call bookStep bookCall
   replaced-found key bytes ok =
-      let c = adding key bytes 2 in
+      let c = calling (adding key bytes 2) in
       text-after c key ∙ book-replaced (book-add b key bytes 2) (number-too c ok)
 
   pub appended-found : (key bytes : Bytes) (old : Option Bytes) → (bytes ≡ [] → ⊥) → fileText img key ≡ some old
       → add img key bytes 3 .answer .number ≡ 0
       → fileText (add img key bytes 3 .after) key ≡ some (some (bytesOf old ++ bytes))
-  unfolding perform bookStep
+  unfolding perform call bookStep bookCall
   appended-found key bytes old d h ok =
-      let c = adding key bytes 3 in
+      let c = calling (adding key bytes 3) in
       text-after c key ∙ book-appended old d (book-has key _ h) (book-add b key bytes 3) (number-too c ok)
 
   -- no data: the text is as it was, or there is none as before
   pub appended-same : (key : Bytes) (old : Option Bytes) → fileText img key ≡ some old
       → fileText (add img key [] 3 .after) key ≡ some old
-  unfolding perform bookStep
+  unfolding perform call bookStep bookCall
   appended-same key old h =
-      text-after (adding key [] 3) key ∙ book-same old refl (book-has key _ h) (book-add b key [] 3)
+      text-after (calling (adding key [] 3)) key ∙ book-same old refl (book-has key _ h) (book-add b key [] 3)
 
   pub appended-new : (key bytes : Bytes) → (bytes ≡ [] → ⊥) → fileText img key ≡ none
       → add img key bytes 3 .answer .number ≡ 0
       → fileText (add img key bytes 3 .after) key ≡ some (some bytes)
-  unfolding perform bookStep
+  unfolding perform call bookStep bookCall
   appended-new key bytes d h ok =
-      let c = adding key bytes 3 in
+      let c = calling (adding key bytes 3) in
       text-after c key ∙ book-new (book-has key _ h) (book-add b key bytes 3) (number-too c ok) .0 d
 
   -- no data for a point that was absent: it is found, without a message
   pub appended-bare : (key : Bytes) → fileText img key ≡ none → add img key [] 3 .answer .number ≡ 0
       → fileText (add img key [] 3 .after) key ≡ some none
-  unfolding perform bookStep
+  unfolding perform call bookStep bookCall
   appended-bare key h ok =
-      let c = adding key [] 3 in
+      let c = calling (adding key [] 3) in
       text-after c key ∙ book-new (book-has key _ h) (book-add b key [] 3) (number-too c ok) .1 refl
 
   -- whatever the data
   pub withdrawn-found : (key bytes : Bytes) → add img key bytes 4 .answer .number ≡ 0
       → fileText (add img key bytes 4 .after) key ≡ some none
-  unfolding perform bookStep
+  unfolding perform call bookStep bookCall
   withdrawn-found key bytes ok =
-      let c = adding key bytes 4 in
+      let c = calling (adding key bytes 4) in
       text-after c key ∙ book-withdrawn (book-add b key bytes 4) (number-too c ok)
 
   -- an accepted delete
   pub deleted-gone : (key : Bytes) → delete img key .answer .number ≡ 0 → fileText (delete img key .after) key ≡ none
-  unfolding perform bookStep
+  unfolding perform call bookStep bookCall
   deleted-gone key ok =
-      let c = deleting key in
+      let c = calling (deleting key) in
       text-after c key ∙ book-gone (rel .1 .distinct) (book-delete b key) (number-too c ok) .0
 
   -- what count answers
   pub count-added : (key bytes : Bytes) (mode : ℕ) → fileText img key ≡ none
       → add img key bytes mode .answer .number ≡ 0
       → count (add img key bytes mode .after) .answer .amount ≡ count img .answer .amount + 1
-  unfolding perform bookStep
+  unfolding perform call bookStep bookCall
   count-added key bytes mode h ok =
-      let c = adding key bytes mode in
+      let c = calling (adding key bytes mode) in
       let new = book-more mode (book-has key _ h) (book-add b key bytes mode) (number-too c ok) in
       omega (arith, count-after c, count-now, new)
 
   -- accepted or refused
   pub count-replaced : (key bytes : Bytes) (old : Option Bytes) (mode : ℕ) → fileText img key ≡ some old
       → count (add img key bytes mode .after) .answer .amount ≡ count img .answer .amount
-  unfolding perform bookStep
+  unfolding perform call bookStep bookCall
   count-replaced key bytes old mode h =
       let e = found-entry b key old (book-has key _ h) in
-      count-after (adding key bytes mode)
+      count-after (calling (adding key bytes mode))
       ∙ by-put (book-add b key bytes mode)
       (λ q. ap (λ (x : Book). length (x .entries)) q)
       (λ t w. given-old w (e .0) (e .1))
@@ -302,27 +304,27 @@ module _ (img : Bytes) (b : Book) (r : Reached img b) where
 
   pub count-deleted : (key : Bytes) → delete img key .answer .number ≡ 0
       → count (delete img key .after) .answer .amount + 1 ≡ count img .answer .amount
-  unfolding perform bookStep
+  unfolding perform call bookStep bookCall
   count-deleted key ok =
-      let c = deleting key in
+      let c = calling (deleting key) in
       let gone = book-gone (rel .1 .distinct) (book-delete b key) (number-too c ok) in
       omega (arith, count-after c, count-now, gone .1)
 
 -- ---- lists of calls
 
 -- every call of the list is such a call
-abbrev pub Each : (Call → Type 0) → List Call → Type 0
+abbrev pub Each : (Step → Type 0) → List Step → Type 0
 Each p [] = Unit {0}
 Each p (c ∷ cs) = p c × Each p cs
 
 -- what each such call keeps, the list keeps
-book-keeps : (p : Call → Type 0) (P : Book → Type 0) → ((c : Call) (b : Book) → p c → P b → P (bookStep c b .after))
-    → (calls : List Call) (b : Book) → Each p calls → P b → P (stateAfter bookStep calls b)
+book-keeps : (p : Step → Type 0) (P : Book → Type 0) → ((c : Step) (b : Book) → p c → P b → P (bookStep c b .after))
+    → (calls : List Step) (b : Book) → Each p calls → P b → P (stateAfter bookStep calls b)
 unfolding stateAfter
 book-keeps p P one [] b a h = h
 book-keeps p P one (c ∷ cs) b a h = book-keeps p P one cs (bookStep c b .after) (a .1) (one c b (a .0) h)
 
-free-keeps : (calls : List Call) (img : Bytes) (b : Book) → Reflected img b → Each Keeping calls
+free-keeps : (calls : List Step) (img : Bytes) (b : Book) → Reflected img b → Each Keeping calls
     → field img freeField ≤ field (stateAfter perform calls img) freeField
 unfolding stateAfter
 free-keeps [] img b r k = omega arith
@@ -336,12 +338,12 @@ free-keeps (c ∷ cs) img b (g, r) k =
     )
 
 module _ (img : Bytes) (b : Book) (r : Reached img b) where
-  text-after-all : (calls : List Call) (name : Bytes)
+  text-after-all : (calls : List Step) (name : Bytes)
       → fileText (stateAfter perform calls img) name ≡ bookText (stateAfter bookStep calls b) name
   text-after-all calls = points-agree _ _ (reflects-after calls img b (reached-reflects img b r))
 
   -- a point that is found stays found until it is deleted, whatever else is called
-  pub stays-found : (key : Bytes) (text : Option Bytes) → fileText img key ≡ some text → (calls : List Call)
+  pub stays-found : (key : Bytes) (text : Option Bytes) → fileText img key ≡ some text → (calls : List Step)
       → Each (NotDeleting key) calls
       → (text′ : Option Bytes) × (fileText (stateAfter perform calls img) key ≡ some text′)
   stays-found key text h calls n =
@@ -350,7 +352,7 @@ module _ (img : Bytes) (b : Book) (r : Reached img b) where
       (e .0 .text, text-after-all calls key ∙ the-text (stateAfter bookStep calls b) key (e .0) (e .1))
 
   -- a point that is not found stays so until it is added
-  pub stays-gone : (key : Bytes) → fileText img key ≡ none → (calls : List Call) → Each (NotAdding key) calls
+  pub stays-gone : (key : Bytes) → fileText img key ≡ none → (calls : List Step) → Each (NotAdding key) calls
       → fileText (stateAfter perform calls img) key ≡ none
   stays-gone key h calls n =
       text-after-all calls key
@@ -359,7 +361,7 @@ module _ (img : Bytes) (b : Book) (r : Reached img b) where
       (found-no b key (book-has img b r key _ h)))
 
   -- between compactions space once taken is never handed out again: new space is taken at X, and X does not fall
-  pub free-grows : (calls : List Call) → Each Keeping calls
+  pub free-grows : (calls : List Step) → Each Keeping calls
       → field img freeField ≤ field (stateAfter perform calls img) freeField
   free-grows calls k = free-keeps calls img b (reached-reflects img b r) k
 
@@ -368,11 +370,11 @@ module _ (img : Bytes) (b : Book) (r : Reached img b) where
 module _ (img : Bytes) (b : Book) (r : Reached img b) where
   -- "15 .. if the image isn't sound" never comes in a list: compaction is accepted
   pub compact-accepted : compact img .answer .number ≡ 0
-  unfolding perform bookStep bookCompact plain
+  unfolding perform call bookStep bookCall bookCompact plain
   compact-accepted = ap (λ (x : Answer). x .number) (step img b (rel img b r) compacting .1 .answer)
 
   -- no call in a list answers 15
-  pub no-fifteen : (c : Call) → perform c img .answer .number ≡ 15 → ⊥
+  pub no-fifteen : (c : Step) → perform c img .answer .number ≡ 15 → ⊥
   no-fifteen c q =
       call-number (λ (n : ℕ). n ≡ 15 → ⊥) b (λ n l e. omega arith) (λ e. omega arith)
       (λ m. room-number (λ (n : ℕ). n ≡ 15 → ⊥) b m (λ e. omega arith) (λ e. omega arith) (λ e. omega arith)) c
@@ -380,14 +382,14 @@ module _ (img : Bytes) (b : Book) (r : Reached img b) where
 
   -- it changes no point's text, and finds no other points
   pub compact-texts : (name : Bytes) → fileText (compact img .after) name ≡ fileText img name
-  unfolding perform bookStep bookCompact
+  unfolding perform call bookStep bookCall bookCompact
   compact-texts name =
       text-after img b r compacting name ∙ compacted-text b name ∙ sym (points-agree img b (rel img b r) name)
 
   -- "U the sum of 4 + length" over the texts: so far X stands above D
   pub compact-free : field (compact img .after) freeField
       ≡ layoutOf img .D + spaceForAll (headSize (layoutOf img)) (b .entries)
-  unfolding perform bookStep bookCompact compactedBook
+  unfolding perform call bookStep bookCall bookCompact compactedBook
   compact-free =
       let s = rel img b r .1 in
       let g = rel img b r .0 in
@@ -402,10 +404,10 @@ module _ (img : Bytes) (b : Book) (r : Reached img b) where
       → length (bytesOf text) + length bytes ≤ m)
       → layoutOf img .D + spaceForAll (headSize (layoutOf img)) (b .entries) + headSize (layoutOf img) + m ≤ length img
       → add (compact img .after) key bytes mode .answer .number ≡ 13 → ⊥
-  unfolding perform bookStep bookCompact compactedBook
+  unfolding perform call bookStep bookCall bookCompact compactedBook
   compact-room key bytes mode m short long fits q =
       let b′ = compactedBook b in
-      let at-name = adding key bytes mode in
+      let at-name = calling (adding key bytes mode) in
       add-number (λ (n : ℕ). n ≡ 13 → ⊥) b′ key bytes mode (λ n l e. omega arith) (λ e. omega arith)
       (room-left b′ (length bytes) (omega (arith, left, short)))
       (λ e f n₁ n₂.
@@ -442,9 +444,9 @@ module _ (img : Bytes) (b : Book) (r : Reached img b) where
 
 -- a point that was deleted stays so until it is added again
 pub deleted-stays-gone : (img : Bytes) (b : Book) → Reached img b → (key : Bytes) → delete img key .answer .number ≡ 0
-    → (calls : List Call) → Each (NotAdding key) calls
+    → (calls : List Step) → Each (NotAdding key) calls
     → fileText (stateAfter perform calls (delete img key .after)) key ≡ none
 deleted-stays-gone img b r key ok calls n =
     stays-gone (delete img key .after) (bookDelete b key .after)
-    (unfold stateAfter perform bookStep in reached-after img b r (deleting key ∷ [])) key
+    (unfold stateAfter perform call bookStep bookCall in reached-after img b r (calling (deleting key) ∷ [])) key
     (deleted-gone img b r key ok) calls n

@@ -1,6 +1,6 @@
 -- Document 01, "The proved table", line by line, as theorems about the definitions. Each holds by computation.
 -- `CasesBase` names the modules with more cases.
---     used, bookTold     the space that calls take in a new book with K = 1, N = 4, L = 8,192; their numbers there
+-- The book's part of it stands in crates/book/proofs/CasesBook.antt.
 -- Assumes nothing.
 use mathlib.Core.Path.{_≡_, refl}
 use Prim.Native.Nat.{ℕ, _+_}
@@ -9,18 +9,8 @@ use mathlib.Core.Bool.{false}
 use Rattle.bhtf.specs.Limits.{minusOne, pointsField, freeField}
 use Rattle.bhtf.specs.Bytes.{Bytes, store, zeros, same}
 use Rattle.bhtf.specs.Image.{field, setField, roundUp, dataStart, lastPage, hash, slotBytes}
-use Rattle.bhtf.specs.Lists.{Call, adding, deleting, looking, answers, stateAfter}
-use Rattle.bhtf.specs.Book.{newBook, bookStep}
-use Rattle.bhtf.specs.Demand.{termsOf}
-use Rattle.bhtf.proofs.CasesBase.{book-definitions, fresh, after, keys, point, numbers, told}
-
-unfoldable pub used : List Call → ℕ
-unfolding book-definitions
-used calls = stateAfter bookStep calls (newBook (termsOf 8192 1 4)) .used
-
-unfoldable pub bookTold : List Call → List ℕ
-unfolding book-definitions numbers
-bookTold calls = numbers (answers bookStep calls (newBook (termsOf 8192 1 4)))
+use Rattle.bhtf.specs.Lists.{Call, adding, deleting, looking}
+use Rattle.bhtf.proofs.CasesBase.{fresh, after, keys, point, told}
 
 -- ---- the table
 
@@ -98,15 +88,7 @@ pub room-4093 : told (adding (1 ∷ []) (zeros 4093) 1 ∷ []) (fresh 8192 4) �
 unfolding told fresh
 room-4093 = refl
 
-pub book-4092 : bookTold (adding (1 ∷ []) (zeros 4092) 1 ∷ []) ≡ 0 ∷ []
-unfolding bookTold
-book-4092 = refl
-
-pub book-4093 : bookTold (adding (1 ∷ []) (zeros 4093) 1 ∷ []) ≡ 13 ∷ []
-unfolding bookTold
-book-4093 = refl
-
--- "Replacing 5 bytes by 3, then 4: U is 9, 9, 17." U of the book, and X − D of the file.
+-- "Replacing 5 bytes by 3, then 4: U is 9, 9, 17." X − D of the file.
 abbrev pub five : Call
 five = adding (1 ∷ []) (1 ∷ 2 ∷ 3 ∷ 4 ∷ 5 ∷ []) 1
 
@@ -115,18 +97,6 @@ by-three = adding (1 ∷ []) (6 ∷ 7 ∷ 8 ∷ []) 2
 
 abbrev pub by-four : Call
 by-four = adding (1 ∷ []) (6 ∷ 7 ∷ 8 ∷ 9 ∷ []) 2
-
-pub used-5 : used (five ∷ []) ≡ 9
-unfolding used
-used-5 = refl
-
-pub used-3 : used (five ∷ by-three ∷ []) ≡ 9
-unfolding used
-used-3 = refl
-
-pub used-4 : used (five ∷ by-three ∷ by-four ∷ []) ≡ 17
-unfolding used
-used-4 = refl
 
 pub free-4 : field (after (five ∷ by-three ∷ by-four ∷ []) (fresh 8192 4)) freeField ≡ 4096 + 17
 unfolding after fresh

@@ -1,20 +1,20 @@
 -- What the cases compute with and look at. The cases stand in `Cases` (01's proved table), `CasesHeader` (create, hash
--- and header), `CasesFile` (opened images and messages), `CasesRead` (slots read), `CasesBook` (file and book side by
--- side), `CasesInspect` (walk and check), `CasesStretches` (two points on one message), `CasesReopened` (books read
--- off images), `CasesNotes` (empty notes) and `CasesCompact` (compaction).
---     definitions        unfolding it unfolds all of `specs` that a file's calls compute with; book-definitions the
---                        book's too, inspect-definitions those of walk and check too, compact-definitions all of
---                        these and compaction's
+-- and header), `CasesFile` (opened images and messages), `CasesCalls` (calls and their answers), `CasesNotes` (empty
+-- notes), `CasesInspect` (walk and check), `CasesStretches` (two points on one message) and `CasesOthers` (images that
+-- no call of ours made). Those of compaction, of the book and more of both stand in the crates above.
+--     definitions        unfolding it unfolds all of `specs` that a file's calls compute with; inspect-definitions
+--                        those of walk and check too
 --     fresh L N          the image that create leaves of L bytes: K = 1, seed 0
 --     headed K N L       create's header and zeros behind it, for names of bytes below 32, which are not scrambled
 --     after, told, answered     the image after a list of calls; the numbers, or the whole answers, that they gave
+--     filed, Files       the answers, and then the file's data area
 --     keys n i img       the keys of the n slots from i on; table img, all bytes of the slots
 -- Assumes nothing.
 use mathlib.Core.Path.{_≡_}
 use Prim.Native.Nat.{ℕ, zero, suc, _-_, _*_}
 use mathlib.Core.List.{List, [], _∷_, _++_}
 use mathlib.Core.Option.{none, some}
-use Rattle.bhtf.specs.Limits.{tableStart}
+use Rattle.bhtf.specs.Limits.{tableStart, dataField, freeField}
 use Rattle.bhtf.specs.Bytes.{Bytes, part, store, number, digits, zeros, allZero, same}
 use Rattle.bhtf.specs.Image.{field, setField, roundUp, dataStart, lastPage, hashStep, hashFrom, scramble, hash, layoutOf, home, slotSize, slotStart, slot, putSlot, keyOf, offsetOf, slotBytes, blank, vacant}
 use Rattle.bhtf.specs.Create.{step, state, drawn, drawnBytes, slotsAsked, freshHeader, freshImage}
@@ -23,12 +23,8 @@ use Rattle.bhtf.specs.Messages.{headSize, letterAt, lengthAt, textAt, is
 use Rattle.bhtf.specs.Delete.{among, moved, closeFrom, closed, deletedAt, deleted}
 use Rattle.bhtf.specs.Questions.{ask, firstNo, sizeAllowed, keyAllowed, slotsAllowed, tableFits, versionKnown, headerSound, nameAllowed, modeKnown, metInMode4, newInMode1, slotToTake, messageSound, metMessageSound, somePoint, lengthAllowed, spaceLeft, createAsks, opened, named, pointAsks, addAsks, lookupAsks, deleteAsks, createNumber, openNumber, seekNumber, addNumber, deleteNumber, lookupNumber}
 use Rattle.bhtf.specs.Calls.{Answer, plain, settled, create, add, delete, lookupOffset, lookupStart, lookupLength, lookupText, lookup, countOf, count, soughtRead, addRead, deleteRead, lookupRead}
-use Rattle.bhtf.specs.Compact.{beginsAt, blockAt, packedFrom, packedBelow, packed, packedOffset, packedSlot, packedSlots, packedEnd, packedData, lowerFree, compacted, isSound, compactNumber, compact}
-use Rattle.bhtf.specs.Lists.{Call, adding, perform, answers, stateAfter}
+use Rattle.bhtf.specs.Lists.{Call, adding, call, answers, stateAfter}
 use Rattle.bhtf.specs.Inspect.{lowest, taken, takenFrom, nextTaken, stopAt, keyWalk, stopNumber, keyStart, keyLength, keyShown, endsAt, entrySound, stretchStart, endAt, stretchEnd, meets, someBelow, meetsLower, slotSound, slotFails, countSound, verdictOf, check, verdictNumber}
-use Rattle.bhtf.specs.Book.{newBook, find, without, withEntry, stepOf, roomAsks, entered, noting, bare, placed, addAbsent, replace, append, withdrawn, addPresent, addFound, guarded, bookAdd, deleteFound, bookDelete, lookupFound, bookLookup, bookCount, trimmed, trimmedAll, spaceFor, spaceForAll, compactedBook, bookCompact, bookStep}
-use Rattle.bhtf.specs.Demand.{fileText, textOf, bookText, termsOf, Agrees, Agreement}
-use Rattle.bhtf.specs.Reopened.{entryAt, entriesFrom, bookOf}
 
 -- file by file of `specs`, in its order
 unfoldable pub definitions : ℕ
@@ -44,16 +40,8 @@ unfolding part store number digits zeros allZero same
     newInMode1 slotToTake messageSound metMessageSound somePoint lengthAllowed spaceLeft createAsks opened named
     pointAsks addAsks lookupAsks deleteAsks createNumber openNumber seekNumber addNumber deleteNumber lookupNumber
     plain settled create add delete lookupOffset lookupStart lookupLength lookupText lookup countOf count
-    soughtRead addRead deleteRead lookupRead perform answers stateAfter
+    soughtRead addRead deleteRead lookupRead call answers stateAfter
 definitions = 0
-
-unfoldable pub book-definitions : ℕ
-unfolding definitions
-    newBook find without withEntry stepOf roomAsks entered noting bare placed addAbsent replace append withdrawn
-    addPresent addFound guarded
-    bookAdd deleteFound bookDelete lookupFound bookLookup bookCount bookStep
-    fileText textOf bookText termsOf Agrees Agreement
-book-definitions = 0
 
 unfoldable pub inspect-definitions : ℕ
 unfolding definitions
@@ -61,14 +49,6 @@ unfolding definitions
     entrySound stretchStart endAt stretchEnd meets someBelow meetsLower slotSound slotFails
     countSound verdictOf check verdictNumber
 inspect-definitions = 0
-
-unfoldable pub compact-definitions : ℕ
-unfolding book-definitions inspect-definitions
-    beginsAt blockAt packedFrom packedBelow packed packedOffset packedSlot packedSlots packedEnd packedData lowerFree
-    compacted isSound compactNumber compact
-    trimmed trimmedAll spaceFor spaceForAll compactedBook bookCompact
-    entryAt entriesFrom bookOf
-compact-definitions = 0
 
 -- ---- images
 
@@ -82,7 +62,7 @@ headed K N L = freshHeader K N ++ zeros (L - 60)
 
 unfoldable pub after : List Call → Bytes → Bytes
 unfolding definitions
-after calls img = stateAfter perform calls img
+after calls img = stateAfter call calls img
 
 unfoldable pub keys : ℕ → ℕ → Bytes → List Bytes
 unfolding definitions
@@ -125,7 +105,7 @@ counts n = record { number = 0; amount = n; text = none }
 
 unfoldable pub answered : List Call → Bytes → List Answer
 unfolding definitions
-answered calls img = answers perform calls img
+answered calls img = answers call calls img
 
 unfoldable pub numbers : List Answer → List ℕ
 numbers [] = []
@@ -134,3 +114,17 @@ numbers (a ∷ more) = a .number ∷ numbers more
 unfoldable pub told : List Call → Bytes → List ℕ
 unfolding answered numbers
 told calls img = numbers (answered calls img)
+
+-- a list of calls as a file answers it, and behind the answers how the file then stands: X − D, and the bytes from D to
+-- X
+unfoldable pub filed : List Call → Bytes → List Answer
+unfolding definitions
+filed [] img =
+    let m : ℕ = field img freeField - field img dataField in
+    shows m (part img (field img dataField) m) ∷ []
+filed (c ∷ calls) img = call c img .answer ∷ filed calls (call c img .after)
+
+-- A new file of L bytes with N slots gives these answers to the calls; then X − D is so much, and these are its bytes
+-- from D to X.
+abbrev pub Files : ℕ → ℕ → List Call → List Answer → ℕ → Bytes → Type 0
+Files L N calls expected n bytes = filed calls (headed 1 N L) ≡ expected ++ (shows n bytes ∷ [])

@@ -32,20 +32,13 @@ pub mod Effects  -- the effects of a call, one by one
 pub mod Sought  -- the questions that every call on a name puts first
 pub mod CallsRead  -- how many slots a call's search read
 pub mod Outcomes  -- each call's number, case by case, and the image that it leaves
--- ---- document 02
-pub mod Packing  -- compaction: what is packed, and how far it reaches
-pub mod OldLimits  -- an image within the old limits keeps every byte
-pub mod Packed  -- what stands in the image that a compaction leaves
-pub mod Compacted  -- that image, byte by byte, and compacting twice
 -- ---- cases, by computation
 pub mod CasesBase  -- what they compute with and look at
 pub mod Cases  -- document 01's proved table
 pub mod CasesHeader  -- create, the hash, the header
 pub mod CasesFile  -- messages, the table, images that no create left
-pub mod CasesRead  -- how many slots a call's search read
-pub mod CasesBook  -- the book, and file and book side by side
+pub mod CasesCalls  -- lists of calls and their answers
+pub mod CasesNotes  -- empty notes, and the version bytes
 pub mod CasesInspect  -- walk and check
 pub mod CasesStretches  -- two points on one message
-pub mod CasesReopened  -- images that no call of ours made, and the books read off them
-pub mod CasesNotes  -- empty notes, and the version bytes
-pub mod CasesCompact  -- compaction, of file and book
+pub mod CasesOthers  -- images that no call of ours made

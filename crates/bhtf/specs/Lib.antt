@@ -8,8 +8,4 @@ pub mod Delete
 pub mod Questions
 pub mod Calls
 pub mod Inspect
-pub mod Compact
 pub mod Lists
-pub mod Book
-pub mod Demand
-pub mod Reopened

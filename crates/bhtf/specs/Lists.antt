@@ -1,13 +1,12 @@
--- Lists of calls. Document 02, Job 2, of compaction: "Lists of calls may now contain it".
---     Call                    a call with its arguments, as lists have it
---     perform                 what it does to a file
+-- Lists of calls: "every list of add, delete, lookup and count calls", as document 01's third demand has them. Document
+-- 02 lets lists hold more: crates/book/specs/Steps.antt.
+--     Call, call              a call with its arguments, and what it does to a file
 --     answers, stateAfter     of a list of calls, each on the state that the last one left
 -- Assumes nothing.
 use Prim.Native.Nat.{ℕ}
 use mathlib.Core.List.{List, [], _∷_}
 use Rattle.bhtf.specs.Bytes.{Bytes}
 use Rattle.bhtf.specs.Calls.{Answer, Outcome, add, delete, lookup, count}
-use Rattle.bhtf.specs.Compact.{compact}
 
 -- keys and data of any length, modes any number
 pub data Call : Type 0 where
@@ -15,20 +14,18 @@ pub data Call : Type 0 where
   deleting : Bytes → Call
   looking : Bytes → Call
   counting : Call
-  compacting : Call
 
-unfoldable pub perform : Call → Bytes → Outcome Bytes
-perform (adding key data′ mode) img = add img key data′ mode
-perform (deleting key) img = delete img key
-perform (looking key) img = lookup img key
-perform counting img = count img
-perform compacting img = compact img
+unfoldable pub call : Call → Bytes → Outcome Bytes
+call (adding key data′ mode) img = add img key data′ mode
+call (deleting key) img = delete img key
+call (looking key) img = lookup img key
+call counting img = count img
 
--- the answers of a list of calls, in order, and the state after the last; of the file and of the book alike
-unfoldable pub answers : {S : Type 0} → (Call → S → Outcome S) → List Call → S → List Answer
+-- the answers of a list, in order, and the state after the last; of the file and of the book alike
+unfoldable pub answers : {A S : Type 0} → (A → S → Outcome S) → List A → S → List Answer
 answers do′ [] s = []
 answers do′ (c ∷ cs) s = do′ c s .answer ∷ answers do′ cs (do′ c s .after)
 
-unfoldable pub stateAfter : {S : Type 0} → (Call → S → Outcome S) → List Call → S → S
+unfoldable pub stateAfter : {A S : Type 0} → (A → S → Outcome S) → List A → S → S
 stateAfter do′ [] s = s
 stateAfter do′ (c ∷ cs) s = stateAfter do′ cs (do′ c s .after)

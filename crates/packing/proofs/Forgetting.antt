@@ -16,13 +16,13 @@ use Rattle.bhtf.specs.Limits.{tableStart, freeField}
 use Rattle.bhtf.specs.Image.{field, Layout, layoutOf, slotSize, slotStart, slot, putSlot, keyOf, offsetOf, slotBytes, vacant}
 use Rattle.bhtf.specs.Messages.{headSize, letterAt, lengthAt, isActive}
 use Rattle.bhtf.specs.Inspect.{taken}
-use Rattle.bhtf.specs.Compact.{packedBelow}
+use Rattle.compaction.specs.Compact.{packedBelow}
 use Rattle.bhtf.proofs.Tests.{by-bool, by-eq, by-le, and-left, and-right, and-true, not-both}
 use Rattle.bhtf.proofs.Slots.{Room, length-slot, length-keyOf, length-entry, length-putSlot, slot-putSlot-same, slot-putSlot-other, part-putSlot-outside}
 use Rattle.bhtf.proofs.Opened.{Opened, opened-facts}
 use Rattle.bhtf.proofs.Stretch.{span, Lies, sound-lies}
 use Rattle.bhtf.proofs.Verdict.{check-messages}
-use Rattle.bhtf.proofs.Packing.{startAt, Live, Stretches, sound-stretches, below-start}
+use Rattle.compaction.proofs.Packing.{startAt, Live, Stretches, sound-stretches, below-start}
 use Rattle.layout.specs.Shapes.{Open}
 use Rattle.layout.specs.declared.shape.Shape.{Shape}
 use Rattle.packing.specs.Stages.{offsetIn, keyIn, offsetNow, slotNow, tableEnd, deadIn, withOffset, Stage, Sound}

@@ -17,14 +17,14 @@ use Rattle.bhtf.specs.Limits.{versionField, word, tableStart, pointsField, free
 use Rattle.bhtf.specs.Image.{field, Layout, layoutOf, slotSize, slot, keyOf, offsetOf, slotBytes, vacant}
 use Rattle.bhtf.specs.Messages.{headSize, lengthAt, isActive}
 use Rattle.bhtf.specs.Inspect.{taken, stretchStart}
-use Rattle.bhtf.specs.Compact.{packedBelow}
+use Rattle.compaction.specs.Compact.{packedBelow}
 use Rattle.bhtf.proofs.Tests.{by-bool, by-eq, by-le}
 use Rattle.bhtf.proofs.Bytes.{part-part}
 use Rattle.bhtf.proofs.Slots.{Room, length-slot, length-keyOf, length-entry, keyOf-entry, offsetOf-entry}
 use Rattle.bhtf.proofs.Opened.{Opened, opened-facts, facts-opened}
 use Rattle.bhtf.proofs.Kept.{Kept, kept-layout, opened-kept, kept-multiplier, kept-start, kept-first, kept-last, middleSize, restSize}
 use Rattle.bhtf.proofs.Stretch.{span}
-use Rattle.bhtf.proofs.Packing.{startAt, stopAt, Live, Stretches, packed-below}
+use Rattle.compaction.proofs.Packing.{startAt, stopAt, Live, Stretches, packed-below}
 use Rattle.layout.specs.Shapes.{shapeOf, Open}
 use Rattle.layout.specs.declared.shape.Shape.{Shape}
 use Rattle.packing.specs.Stages.{offsetNow, slotNow, Stage}

@@ -11,7 +11,7 @@ use Rattle.bhtf.specs.Image.{layoutOf}
 use Rattle.bhtf.specs.Questions.{ask, firstNo, openNumber}
 use Rattle.bhtf.specs.Calls.{plain, settled}
 use Rattle.bhtf.specs.Inspect.{lowest, slotFails, countSound, Verdict, sound, verdictOf, tableVerdict, check}
-use Rattle.bhtf.specs.Compact.{isSound, compactNumber, compacted, compact}
+use Rattle.compaction.specs.Compact.{isSound, compactNumber, compacted, compact}
 use Rattle.bhtf.proofs.Tests.{by-eq, zero-yes, zero-no}
 use Rattle.bhtf.proofs.Opened.{firstNo-none, firstNo-yes, firstNo-no, firstNo-opened, firstNo-refused}
 use Rattle.bhtf.proofs.Verdict.{check-open}

@@ -16,7 +16,7 @@ use Rattle.bhtf.specs.Limits.{tableStart}
 use Rattle.bhtf.specs.Image.{Layout, layoutOf, slotSize, slot, putSlot, keyOf, offsetOf, slotBytes}
 use Rattle.bhtf.specs.Messages.{headSize, lengthAt, isActive}
 use Rattle.bhtf.specs.Inspect.{taken, check, sound}
-use Rattle.bhtf.specs.Compact.{packedBelow, packedOffset, lowerFree}
+use Rattle.compaction.specs.Compact.{packedBelow, packedOffset, lowerFree}
 use Rattle.layout.specs.Shapes.{Open}
 use Rattle.layout.specs.declared.shape.Shape.{Shape}
 

@@ -14,7 +14,7 @@ ghost use Rattle.bhtf.specs.Inspect.{keyWalk, stopNumber, keyStart, check, verd
 ghost use Rattle.walk.specs.Stops.{stopSlot};
 ghost use Rattle.station.specs.Codes.{verdictCode, verdictSlot};
 ghost use Rattle.bhtf.specs.Calls.{create, add, delete, lookup, lookupStart, lookupLength, count, addRead, deleteRead, lookupRead};
-ghost use Rattle.bhtf.specs.Compact.{compact};
+ghost use Rattle.compaction.specs.Compact.{compact};
 
 // Makes the slice an empty file: keys of `size` bytes, `slots` slots (0 for 5,507), the scramble of the seed.
 #[no_mangle]

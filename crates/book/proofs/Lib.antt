@@ -1,0 +1,5 @@
+-- Cases of the book, by computation.
+pub mod CasesBook  -- the book, what file and book find, and what `Agreement` says
+pub mod CasesNoted  -- empty notes
+pub mod CasesReopened  -- books read off images that no call of ours made
+pub mod CasesTrimmed  -- compaction

@@ -1,0 +1,17 @@
+-- What a list of calls may hold: document 01's calls, and those that document 02 adds.
+--     Step        a step of a list, with its arguments
+--     perform     what it does to a file
+-- Assumes nothing.
+use Rattle.bhtf.specs.Bytes.{Bytes}
+use Rattle.bhtf.specs.Calls.{Outcome}
+use Rattle.bhtf.specs.Lists.{Call, call}
+use Rattle.compaction.specs.Compact.{compact}
+
+-- Job 2, of compaction: "Lists of calls may now contain it"
+pub data Step : Type 0 where
+  calling : Call → Step
+  compacting : Step
+
+unfoldable pub perform : Step → Bytes → Outcome Bytes
+perform (calling c) img = call c img
+perform compacting img = compact img

@@ -1,0 +1,3 @@
+pub mod OldLimits
+pub mod CasesRead
+pub mod CasesMore
