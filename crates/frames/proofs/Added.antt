@@ -3,6 +3,7 @@
 --     Elsewhere img i at m p n     the n bytes from p on are none of those of slot i, of the message at the offset, and
 --                                  of m bytes of new space, if there are so many
 --     taken g t                    how many bytes of new space a text takes, if there is one
+--     fresh-takes, add-takes       no more than a header, the text that is there, and the bytes
 --     add-met, add-empty           such bytes are as they were, of a point that is present in slot i, and of a new one
 --     add-sound, add-exhausted     a message is sound, and a slot was found, where the call is accepted
 -- Assumes nothing.
@@ -10,7 +11,7 @@ use mathlib.Core.Path.{_≡_, refl, sym, ap, ap₂, _∙_}
 use Prim.Native.Nat.{ℕ, _+_, _-_, _≤_, _<_}
 use native.Mathlib.Omega.{arith}
 use mathlib.Core.Logic.{inl, inr}
-use mathlib.Core.Bool.{true, false, _&&_, _||_}
+use mathlib.Core.Bool.{true, false, not, _&&_, _||_}
 use mathlib.Core.List.{[], _∷_, _++_}
 use mathlib.Core.Option.{Option, none, some}
 use lib.ListN.{length, length-append}
@@ -20,11 +21,11 @@ use Rattle.bhtf.specs.Bytes.{Bytes, part, store, digits, zeros, allZero}
 use Rattle.bhtf.specs.Limits.{inactive, major, minor, patch, versionField, pointsField, freeField, pageField, headerSize, tableStart}
 use Rattle.bhtf.specs.Image.{field, setField, lastPage, Layout, layoutOf, slotSize, slotStart, slot, putSlot, offsetOf, slotBytes}
 use Rattle.bhtf.specs.Search.{met, empty, exhausted, search, isMet}
-use Rattle.bhtf.specs.Messages.{headSize, held, message, setFree, takeSpace, retire, overwrite, freshText, renewedText, enter, inserted, relocated, renewed, renewedAt, addedAt, noted, added}
+use Rattle.bhtf.specs.Messages.{headSize, lengthAt, textAt, isActive, shown, bytesOf, shownLength, held, message, setFree, takeSpace, retire, overwrite, freshText, renewedText, enter, inserted, relocated, renewed, renewedAt, addedAt, noted, added}
 use Rattle.bhtf.specs.Questions.{nameAllowed, modeKnown, messageSound, lengthAllowed, spaceLeft, openNumber, addNumber, placeNumber}
 use Rattle.bhtf.specs.Calls.{add}
 use Rattle.bhtf.proofs.Tests.{by-bool, by-eq, by-either, and-left}
-use Rattle.bhtf.proofs.Bytes.{Apart, length-store, part-store-other, part-store-behind, length-digits, length-zeros}
+use Rattle.bhtf.proofs.Bytes.{Apart, part-length, length-store, part-store-other, part-store-behind, length-digits, length-zeros}
 use Rattle.bhtf.proofs.Slots.{Room, slot-end, length-setField, length-entry}
 use Rattle.bhtf.proofs.Opened.{Opened, opened-facts, opened-room, firstNo-head, firstNo-tail}
 use Rattle.bhtf.proofs.Outcomes.{settled-yes, add-closed, add-7, add-8, add-9, add-10-exhausted, add-10-full, add-11, add-14, add-renewed, add-fresh}
@@ -121,6 +122,42 @@ pub record Elsewhere (img : Bytes) (i at m p n : ℕ) : Type 0 where
 pub taken : Layout → Option Bytes → ℕ
 taken g none = 0
 taken g (some t) = headSize g + length t
+
+pub fresh-takes : (g : Layout) (img bytes : Bytes) (mode : ℕ)
+    → taken g (freshText bytes mode) ≤ headSize g + shownLength g img 0 + length bytes
+unfolding taken freshText
+fresh-takes g img bytes mode =
+    by-bool (eqb mode 3 && eqb (length bytes) 0) (λ y. rw y (omega arith)) (λ no′. rw no′ (omega arith))
+
+module _ (img : Bytes) (o : Opened img) (at : ℕ) (s : messageSound (layoutOf img) img at ≡ true) where
+  shown-bytes : length (bytesOf (shown (layoutOf img) img at)) ≤ shownLength (layoutOf img) img at
+  unfolding shown bytesOf shownLength textAt
+  shown-bytes =
+      by-bool (isActive img at)
+      (λ y. rw y
+      (let e = message-end img o at s (active-some img at y) in
+      let long = part-length img (at + headSize (layoutOf img)) (lengthAt (layoutOf img) img at)
+      (omega (arith, e, o .free-high)) in
+      omega (arith, long)))
+      (λ no′. rw no′ (omega arith))
+
+  renewed-takes : (bytes : Bytes) (mode : ℕ)
+      → taken (layoutOf img) (renewedText (layoutOf img) img at bytes mode)
+      ≤ headSize (layoutOf img) + shownLength (layoutOf img) img at + length bytes
+  unfolding taken renewedText
+  renewed-takes bytes mode =
+      by-bool (eqb mode 2)
+      (λ two. rw two
+      (by-bool (not (eqb at 0) && leb (length bytes) (held (layoutOf img) img at))
+      (λ y. rw y (omega arith)) (λ no′. rw no′ (omega arith))))
+      (λ two. rw two
+      (by-bool (eqb mode 3)
+      (λ three. rw three
+      (by-bool (eqb (length bytes) 0)
+      (λ y. rw y (omega arith))
+      (λ no′. rw no′
+      (omega (arith, length-append (bytesOf (shown (layoutOf img) img at)) bytes, shown-bytes)))))
+      (λ three. rw three (omega arith))))
 
 module _ (img : Bytes) (o : Opened img) (i : ℕ) (l : i < layoutOf img .N) (key : Bytes)
     (named : length key ≡ layoutOf img .K) (at : ℕ) (p n : ℕ) where
@@ -240,6 +277,11 @@ module _ (img key bytes : Bytes) (mode : ℕ) (z : addNumber img key bytes mode 
       (λ one. by-bool (messageSound H img at)
       (λ s. s)
       (λ s. absurd (other 11 (add-11 img key opens bytes mode a k i m one s) (λ w. omega arith)))))
+
+  -- how much new space it takes
+  pub add-takes : search H img key ≡ met i
+      → taken H (renewedText H img at bytes mode) ≤ headSize H + shownLength H img at + length bytes
+  add-takes m = renewed-takes img o at (add-sound m) bytes mode
 
   pub add-met : search H img key ≡ met i → Elsewhere img i at (taken H (renewedText H img at bytes mode)) p n
       → part (add img key bytes mode .after) p n ≡ part img p n
