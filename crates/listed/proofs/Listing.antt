@@ -1,21 +1,24 @@
 -- The listed form of any call, by its number.
 --     lists-16, lists-refused, lists-done      16; refused by the call itself; accepted
---     work-holds                               the working slice and the image after the call tell the image before it
+--     work-holds                               the working slice begins with the image as it was
+--     windows-hold                             the working slice and the image after the call tell the image before it
 --     add-leaves, add-small, and so for delete      a refused call leaves the image; an accepted one's is below 2^32
 -- Assumes nothing.
 use mathlib.Core.Path.{_≡_, refl, sym, ap, _∙_}
-use Prim.Native.Nat.{ℕ, _^_, _≤_, _<_}
+use Prim.Native.Nat.{ℕ, _-_, _^_, _≤_, _<_}
 use native.Mathlib.Omega.{arith}
 use mathlib.Core.Bool.{Bool, true, false, cond, _&&_}
 use mathlib.Core.List.{List}
-use lib.ListN.{length, getD}
+use lib.ListN.{length, take, drop, getD}
+use lib.Seq.{take-length}
 use lib.Dec.{leb, eqb}
 use borrow.Author.Tests.{leb-true}
-use Rattle.bhtf.specs.Bytes.{Bytes, store}
+use Rattle.bhtf.specs.Bytes.{Bytes, part, store}
 use Rattle.bhtf.specs.Questions.{openNumber, addNumber, deleteNumber}
 use Rattle.bhtf.specs.Calls.{Outcome, plain, settled, add, delete}
 use Rattle.updates.specs.Changes.{Pair, pairBytes, copied, changesIn, listAllowed, workAllowed, workedNumber, Listed, listed}
 use Rattle.bhtf.proofs.Tests.{by-eq, and-left, and-right, zero-yes, zero-no}
+use Rattle.bhtf.proofs.Bytes.{part-store-same}
 use Rattle.bhtf.proofs.Opened.{opened-facts}
 use Rattle.updates.proofs.Changes.{copied-changes}
 use Rattle.updates.proofs.Copied.{copied-back}
@@ -100,12 +103,28 @@ pub allowed-work : (L work list : ℕ) → (listAllowed list && workAllowed L wo
 unfolding workAllowed
 allowed-work L work list h = leb-true L work (and-right (listAllowed list) (leb L work) h)
 
+-- ---- the image, copied to the front of the working slice
+
+pub work-holds : (work img work′ : Bytes) → length img ≤ length work
+    → work′ ≡ store work 0 (part img 0 (length img - 0))
+    → take (length img - 0) (drop 0 work′) ≡ img
+unfolding part
+work-holds work img work′ h e =
+    let n : length img - 0 ≡ length img = omega arith in
+    let is : take (length img) img ≡ img = take-length img in
+    let size : length img ≡ length (take (length img) img) = ap (λ (t : Bytes). length t) (sym is) in
+    ap (λ (k : ℕ). take k work′) n
+    ∙ ap (take (length img)) (e ∙ ap (λ (k : ℕ). store work 0 (take k img)) n)
+    ∙ ap (λ (k : ℕ). take k (store work 0 (take (length img) img))) size
+    ∙ part-store-same work 0 (take (length img) img) (omega arith)
+    ∙ is
+
 -- ---- the image, kept in the working slice where the call may write
 
-pub work-holds : (call : Bytes → Outcome Bytes) (img work new work′ : Bytes) (w : Windows) → Sorted w (length img)
+pub windows-hold : (call : Bytes → Outcome Bytes) (img work new work′ : Bytes) (w : Windows) → Sorted w (length img)
     → Only call img w → length img ≤ length work → call img .answer .number ≡ 0 → new ≡ call img .after
     → length new ≡ length img → work′ ≡ copied (windowsOf w) img work → before w work′ new ≡ img
-work-holds call img work new work′ w s only room z is size e =
+windows-hold call img work new work′ w s only room z is size e =
     ap (λ (b : Bytes). before w b new) e
     ∙ copied-back (windowsOf w) img work new (windows-within w (length img) s) room
     (record { size = size; outside = λ i c. ap (λ (b : Bytes). getD b i 0) is ∙ only z i c })

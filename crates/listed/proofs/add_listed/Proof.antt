@@ -10,7 +10,7 @@ use Rattle.bhtf.specs.Calls.{Outcome, add}
 use Rattle.updates.specs.Changes.{pairBytes, changesIn, listAllowed, workAllowed}
 use Rattle.changes.specs.Windows.{before, Sorted}
 use Rattle.bhtf.proofs.Tests.{was-no, was-yes}
-use Rattle.listed.proofs.Listing.{lists-16, lists-refused, lists-done, allowed-list, allowed-work, work-holds, add-leaves, add-small}
+use Rattle.listed.proofs.Listing.{lists-16, lists-refused, lists-done, allowed-list, allowed-work, windows-hold, add-leaves, add-small}
 use Rattle.listed.proofs.add_listed.Statement.{statement}
 use Rattle.listed.proofs.add_listed.Tie as tie
 
@@ -88,7 +88,7 @@ held E =
     let D = done E in
     let S = start (asked D .before) in
     let w = found D .of-add in
-    work-holds (call S) (S .args .image .now) (S .args .work .now) (D .add .last .0) (kept D .keep .last .0) (w .result)
+    windows-hold (call S) (S .args .image .now) (S .args .work .now) (D .add .last .0) (kept D .keep .last .0) (w .result)
     (w .ensures .0) (w .ensures .1) (roomy (asked D)) (accepted E) (D .add .ensures .1) (D .add .kept .0)
     (kept D .keep .ensures)
 
