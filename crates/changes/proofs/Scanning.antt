@@ -1,5 +1,5 @@
 -- A scan of two images, place by place, and what it writes, piece by piece.
---     rest-same, rest-end, rest-run      equal bytes passed over; nothing left at the end; a run and what is left
+--     rest-to, rest-end, run-to      equal bytes passed over; nothing left at the end; a run and what is left
 --     Counting      runs counted up to a place, with its turns
 --     Writing       what f makes of the runs, written up to a place, with its turns; of pairs and of new bytes
 -- Assumes nothing.
@@ -31,7 +31,7 @@ module _ (old new : Bytes) (l : length old ≡ length new) where
   next-is : (i : ℕ) → runs (suc i) (drop (suc i) old) (drop (suc i) new) ≡ rest old new (i + 1)
   next-is i = ap (rest old new) (sym (add-one i))
 
-  pub rest-same : (i : ℕ) → i < length old → getD old i 0 ≡ getD new i 0 → rest old new i ≡ rest old new (i + 1)
+  rest-same : (i : ℕ) → i < length old → getD old i 0 ≡ getD new i 0 → rest old new i ≡ rest old new (i + 1)
   rest-same i h e =
       opened i h ∙ runs-same i (getD old i 0) (getD new i 0) (drop (suc i) old) (drop (suc i) new) e ∙ next-is i
 
@@ -49,7 +49,7 @@ module _ (old new : Bytes) (l : length old ≡ length new) where
   rest-spread i = spread-runs i (drop i old) (drop i new)
 
   -- where a run stops
-  abbrev Stops : ℕ → Type 0
+  abbrev pub Stops : ℕ → Type 0
   Stops i = (i ≡ length old) ⊎ ((i < length old) × (getD old i 0 ≡ getD new i 0))
 
   joined-alone : (k : ℕ) (rs : List Pair) (top : ℕ) → Spread (suc (suc k)) top rs
@@ -57,7 +57,7 @@ module _ (old new : Bytes) (l : length old ≡ length new) where
   joined-alone k [] top s = unfold joined in refl
   joined-alone k (r ∷ rs) top s = joined-apart k r rs (λ e. omega (arith, s .0))
 
-  pub rest-run : (n from : ℕ) → from + n < length old → ((j : ℕ) → from ≤ j → j < from + suc n → Differ old new j)
+  rest-run : (n from : ℕ) → from + n < length old → ((j : ℕ) → from ≤ j → j < from + suc n → Differ old new j)
       → Stops (from + suc n)
       → rest old new from ≡ record { at = from; size = suc n } ∷ rest old new (from + suc n)
   rest-run zero from h d (inl e) =
@@ -100,15 +100,37 @@ module _ (old new : Bytes) (l : length old ≡ length new) where
             ∙ ap₂ (λ (s t : ℕ). record { at = from; size = s } ∷ rest old new t) size place;
       }
 
-  -- one place that differs, and one more
-  pub differ-one : (from : ℕ) → Differ old new from → (j : ℕ) → from ≤ j → j < from + 1 → Differ old new j
-  differ-one from d j a b = let k : j ≡ from = omega arith in subst (Differ old new) (sym k) d
+  -- equal bytes passed over
+  pub rest-passed : (n i : ℕ) → i + n ≤ length old
+      → ((j : ℕ) → i ≤ j → j < i + n → getD old j 0 ≡ getD new j 0)
+      → rest old new i ≡ rest old new (i + n)
+  rest-passed zero i h e = ap (rest old new) (omega arith)
+  rest-passed (suc n) i h e =
+      rest-same i (omega arith) (e i (omega arith) (omega arith))
+      ∙ rest-passed n (i + 1) (omega arith) (λ j a b. e j (omega arith) (omega arith))
+      ∙ ap (rest old new) (omega arith)
 
-  pub differ-more : (from i : ℕ) → ((j : ℕ) → from ≤ j → j < i → Differ old new j) → Differ old new i
-      → (j : ℕ) → from ≤ j → j < i + 1 → Differ old new j
-  differ-more from i d e j a b =
-      by-le (suc j) i (λ h. d j a h)
-      (λ h. let k : j ≡ i = omega arith in subst (Differ old new) (sym k) e)
+  -- the same, by the place where it ends
+  pub rest-to : (i r : ℕ) → i ≤ r → r ≤ length old → ((j : ℕ) → i ≤ j → j < r → getD old j 0 ≡ getD new j 0)
+      → rest old new i ≡ rest old new r
+  rest-to i r l h e =
+      let place : i + (r - i) ≡ r = omega arith in
+      rest-passed (r - i) i (omega arith) (λ j a b. e j a (omega arith)) ∙ ap (rest old new) place
+
+  -- a run does not stop where it begins
+  pub stops-later : (from i : ℕ) → from < length old → Differ old new from → from ≤ i → Stops i → from < i
+  stops-later from i h d l (inl e) = omega arith
+  stops-later from i h d l (inr e) =
+      by-le i from
+      (λ k.
+      let same : i ≡ from = omega arith in
+      absurd (d (subst (λ (n : ℕ). getD old n 0 ≡ getD new n 0) same (e .1))))
+      (λ k. k)
+
+-- what holds of each place from `from` up to i, and of i
+pub so-far : (P : ℕ → Type 0) (from i : ℕ) → ((j : ℕ) → from ≤ j → j < i → P j) → P i
+    → (j : ℕ) → from ≤ j → j < i + 1 → P j
+so-far P from i d e j a b = by-le (suc j) i (λ h. d j a h) (λ h. let k : j ≡ i = omega arith in subst P (sym k) e)
 
 -- ---- counted
 

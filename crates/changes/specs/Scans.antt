@@ -15,6 +15,20 @@ rest old new k = runs k (drop k old) (drop k new)
 abbrev pub Differ : Bytes → Bytes → ℕ → Type 0
 Differ old new i = getD old i 0 ≡ getD new i 0 → ⊥
 
+-- r is the lowest place from `from` up to `to` where they differ, or `to`
+pub record Passed (old new : Bytes) (from to r : ℕ) : Type 0 where
+  pub low : from ≤ r
+  pub high : r ≤ to
+  pub same : (j : ℕ) → from ≤ j → j < r → getD old j 0 ≡ getD new j 0
+  pub differ : r < to → Differ old new r
+
+-- r is the lowest place from `from` up to `to` where they are equal, or `to`
+pub record Changed (old new : Bytes) (from to r : ℕ) : Type 0 where
+  pub low : from ≤ r
+  pub high : r ≤ to
+  pub differ : (j : ℕ) → from ≤ j → j < r → Differ old new j
+  pub same : r < to → getD old r 0 ≡ getD new r 0
+
 -- r is the lowest place at or above `from` where they differ, or their end
 pub record ToChange (old new : Bytes) (from r : ℕ) : Type 0 where
   pub low : from ≤ r

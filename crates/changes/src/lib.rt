@@ -1,5 +1,12 @@
 // What a call changed: the runs of bytes that differ between an image before it and after it, counted, and written into
-// a slice as pairs of offset and length, or their new bytes one behind the other.
+// a slice as pairs of offset and length, or their new bytes one behind the other. The image before the call stands in a
+// working slice, at its own places, as far as the windows go; outside of them the call wrote nothing.
+//     windows   the stretches of an image that are kept and compared
+pub mod windows;
+
+use crate::windows::Windows;
+use crate::windows::ahead;
+use crate::windows::whole;
 use runs::copy;
 use words::fields::write_u32;
 ghost use mathlib.Core.Path.{_≡_};
@@ -7,9 +14,10 @@ ghost use mathlib.Core.List.{_++_};
 ghost use Prim.Native.Nat.{_+_, _-_, _^_, _≤_, _<_};
 ghost use lib.ListN.{length};
 ghost use Rattle.bhtf.specs.Bytes.{part, store, digits};
-ghost use Rattle.updates.specs.Changes.{runs, pairBytes, changesIn};
+ghost use Rattle.updates.specs.Changes.{runs, pairBytes, changesIn, copied};
 ghost use Rattle.updates.specs.Journal.{newBytes};
-ghost use Rattle.changes.specs.Scans.{Differ, ToChange, RunTo, Measured};
+ghost use Rattle.changes.specs.Scans.{Differ, Passed, Changed, ToChange, RunTo, Measured};
+ghost use Rattle.changes.specs.Windows.{windowsOf, before, Kept};
 
 // How many runs there are, and how many bytes they have together.
 pub struct Tally {
@@ -17,13 +25,13 @@ pub struct Tally {
     pub bytes: usize,
 }
 
-// The lowest place at or above `from` where the two differ, or their end.
-fn next_change(old: &[u8], new: &[u8], from: usize) -> usize
-    requires { ⌜ (length (now old) ≡ length (now new)) × (from ≤ length (now old)) ⌝ }
-    ensures { λ r. ⌜ ToChange (now (old .entry)) (now (new .entry)) from r ⌝ }
+// The lowest place from `from` up to `to` where the two differ, or `to`.
+fn next_difference(old: &[u8], new: &[u8], from: usize, to: usize) -> usize
+    requires { ⌜ (from ≤ to) × (to ≤ length (now old)) × (to ≤ length (now new)) ⌝ }
+    ensures { λ r. ⌜ Passed (now (old .entry)) (now (new .entry)) from to r ⌝ }
 {
     let mut i = from;
-    while i < old.len() {
+    while i < to {
         if old[i] != new[i] {
             return i;
         }
@@ -32,13 +40,13 @@ fn next_change(old: &[u8], new: &[u8], from: usize) -> usize
     i
 }
 
-// The end of the run that begins at `from`.
-fn run_end(old: &[u8], new: &[u8], from: usize) -> usize
-    requires { ⌜ (length (now old) ≡ length (now new)) × (from < length (now old)) × Differ (now old) (now new) from ⌝ }
-    ensures { λ r. ⌜ RunTo (now (old .entry)) (now (new .entry)) from r ⌝ }
+// The lowest place from `from` up to `to` where the two are equal, or `to`.
+fn next_equal(old: &[u8], new: &[u8], from: usize, to: usize) -> usize
+    requires { ⌜ (from ≤ to) × (to ≤ length (now old)) × (to ≤ length (now new)) ⌝ }
+    ensures { λ r. ⌜ Changed (now (old .entry)) (now (new .entry)) from to r ⌝ }
 {
-    let mut i = from + 1;
-    while i < old.len() {
+    let mut i = from;
+    while i < to {
         if old[i] == new[i] {
             return i;
         }
@@ -47,20 +55,60 @@ fn run_end(old: &[u8], new: &[u8], from: usize) -> usize
     i
 }
 
+// The lowest place at or above `from` where the image before the call and the one after it differ, or their end.
+fn next_change(work: &[u8], new: &[u8], w: Windows, from: usize) -> usize
+    requires { ⌜ Kept w (now work) (now new) × (from ≤ length (now new)) ⌝ }
+    ensures { λ r. ⌜ ToChange (before w (now (work .entry)) (now (new .entry))) (now (new .entry)) from r ⌝ }
+{
+    let size = new.len();
+    let mut i = from;
+    while i < size {
+        let window = ahead(w, i, size);
+        let end = window.end;
+        i = next_difference(work, new, window.from, end);
+        if i < end {
+            return i;
+        }
+    }
+    i
+}
+
+// The end of the run that begins at `from`.
+fn run_end(work: &[u8], new: &[u8], w: Windows, from: usize) -> usize
+    requires { ⌜ Kept w (now work) (now new) × (from < length (now new))
+        × Differ (before w (now work) (now new)) (now new) from ⌝ }
+    ensures { λ r. ⌜ RunTo (before w (now (work .entry)) (now (new .entry))) (now (new .entry)) from r ⌝ }
+{
+    let size = new.len();
+    let mut i = from;
+    while i < size {
+        let window = ahead(w, i, size);
+        let end = window.end;
+        if i < window.from {
+            return i;
+        }
+        i = next_equal(work, new, i, end);
+        if i < end {
+            return i;
+        }
+    }
+    i
+}
+
 // The runs and their bytes, counted.
-pub fn measure(old: &[u8], new: &[u8]) -> Tally
-    requires { ⌜ length (now old) ≡ length (now new) ⌝ }
-    ensures { λ r. ⌜ Measured (runs 0 (now (old .entry)) (now (new .entry))) (length (now (old .entry)))
-        (r .pairs) (r .bytes) ⌝ }
+fn measure_within(work: &[u8], new: &[u8], w: Windows) -> Tally
+    requires { ⌜ Kept w (now work) (now new) ⌝ }
+    ensures { λ r. ⌜ Measured (runs 0 (before w (now (work .entry)) (now (new .entry))) (now (new .entry)))
+        (length (now (new .entry))) (r .pairs) (r .bytes) ⌝ }
 {
     let mut pairs = 0;
     let mut bytes = 0;
-    let mut at = next_change(old, new, 0);
-    while at < old.len() {
-        let end = run_end(old, new, at);
+    let mut at = next_change(work, new, w, 0);
+    while at < new.len() {
+        let end = run_end(work, new, w, at);
         pairs += 1;
         bytes += end - at;
-        at = next_change(old, new, end);
+        at = next_change(work, new, w, end);
     }
     Tally {
         pairs: pairs,
@@ -78,20 +126,21 @@ fn put_pair(list: &mut [u8], to: usize, at: usize, size: usize)
 }
 
 // Writes the pairs of all runs from `place` on.
-pub fn write_pairs(list: &mut [u8], place: usize, old: &[u8], new: &[u8])
-    requires { ⌜ (length (now old) ≡ length (now new))
-        × (length (now old) < 2 ^ 32)
-        × (place + length (pairBytes (runs 0 (now old) (now new))) ≤ length (now list)) ⌝ }
+fn write_pairs_within(list: &mut [u8], place: usize, work: &[u8], new: &[u8], w: Windows)
+    requires { ⌜ Kept w (now work) (now new)
+        × (length (now new) < 2 ^ 32)
+        × (place + length (pairBytes (runs 0 (before w (now work) (now new)) (now new))) ≤ length (now list)) ⌝ }
     ensures { λ _. ⌜ now (list .exit)
-        ≡ store (now (list .entry)) place (pairBytes (runs 0 (now (old .entry)) (now (new .entry)))) ⌝ }
+        ≡ store (now (list .entry)) place
+        (pairBytes (runs 0 (before w (now (work .entry)) (now (new .entry))) (now (new .entry)))) ⌝ }
 {
     let mut to = place;
-    let mut at = next_change(old, new, 0);
-    while at < old.len() {
-        let end = run_end(old, new, at);
+    let mut at = next_change(work, new, w, 0);
+    while at < new.len() {
+        let end = run_end(work, new, w, at);
         put_pair(list, to, at, end - at);
         to += 8;
-        at = next_change(old, new, end);
+        at = next_change(work, new, w, end);
     }
 }
 
@@ -106,7 +155,77 @@ pub fn put_part(out: &mut [u8], to: usize, new: &[u8], at: usize, end: usize) ->
     stop
 }
 
+// Keeps the image's bytes in the windows, at their own places in the working slice.
+pub fn keep(work: &mut [u8], image: &[u8], w: Windows)
+    requires { ⌜ Kept w (now work) (now image) ⌝ }
+    ensures { λ _. ⌜ now (work .exit) ≡ copied (windowsOf w) (now (image .entry)) (now (work .entry)) ⌝ }
+{
+    put_part(work, 0, image, 0, w.end1);
+    put_part(work, w.from2, image, w.from2, w.end2);
+    put_part(work, w.from3, image, w.from3, w.end3);
+    put_part(work, w.from4, image, w.from4, w.end4);
+}
+
 // Writes the new bytes of all runs from `place` on.
+fn write_bytes_within(out: &mut [u8], place: usize, work: &[u8], new: &[u8], w: Windows)
+    requires { ⌜ Kept w (now work) (now new)
+        × (place + length (newBytes (runs 0 (before w (now work) (now new)) (now new)) (now new))
+        ≤ length (now out)) ⌝ }
+    ensures { λ _. ⌜ now (out .exit)
+        ≡ store (now (out .entry)) place
+        (newBytes (runs 0 (before w (now (work .entry)) (now (new .entry))) (now (new .entry))) (now (new .entry))) ⌝ }
+{
+    let mut to = place;
+    let mut at = next_change(work, new, w, 0);
+    while at < new.len() {
+        let end = run_end(work, new, w, at);
+        to = put_part(out, to, new, at, end);
+        at = next_change(work, new, w, end);
+    }
+}
+
+// Fills the list with the pairs, or, where they don't fit, with the single pair 0, L; answers how many it wrote.
+// Whether they fit is known before the first is written.
+pub fn fill_list_within(list: &mut [u8], work: &[u8], new: &[u8], w: Windows) -> u32
+    requires { ⌜ Kept w (now work) (now new)
+        × (length (now new) < 2 ^ 32)
+        × (8 ≤ length (now list)) ⌝ }
+    ensures { λ r. ⌜ (r ≡ length (changesIn (length (now (list .entry)))
+        (before w (now (work .entry)) (now (new .entry))) (now (new .entry))))
+        × (now (list .exit)
+        ≡ store (now (list .entry)) 0
+        (pairBytes (changesIn (length (now (list .entry)))
+        (before w (now (work .entry)) (now (new .entry))) (now (new .entry))))) ⌝ }
+{
+    let tally = measure_within(work, new, w);
+    let pairs = tally.pairs;
+    if 8 * pairs <= list.len() {
+        write_pairs_within(list, 0, work, new, w);
+        return pairs as u32;
+    }
+    put_pair(list, 0, 0, new.len());
+    1
+}
+
+// The same of two whole images.
+pub fn measure(old: &[u8], new: &[u8]) -> Tally
+    requires { ⌜ length (now old) ≡ length (now new) ⌝ }
+    ensures { λ r. ⌜ Measured (runs 0 (now (old .entry)) (now (new .entry))) (length (now (old .entry)))
+        (r .pairs) (r .bytes) ⌝ }
+{
+    measure_within(old, new, whole(new.len()))
+}
+
+pub fn write_pairs(list: &mut [u8], place: usize, old: &[u8], new: &[u8])
+    requires { ⌜ (length (now old) ≡ length (now new))
+        × (length (now old) < 2 ^ 32)
+        × (place + length (pairBytes (runs 0 (now old) (now new))) ≤ length (now list)) ⌝ }
+    ensures { λ _. ⌜ now (list .exit)
+        ≡ store (now (list .entry)) place (pairBytes (runs 0 (now (old .entry)) (now (new .entry)))) ⌝ }
+{
+    write_pairs_within(list, place, old, new, whole(new.len()));
+}
+
 pub fn write_bytes(out: &mut [u8], place: usize, old: &[u8], new: &[u8])
     requires { ⌜ (length (now old) ≡ length (now new))
         × (place + length (newBytes (runs 0 (now old) (now new)) (now new)) ≤ length (now out)) ⌝ }
@@ -114,17 +233,9 @@ pub fn write_bytes(out: &mut [u8], place: usize, old: &[u8], new: &[u8])
         ≡ store (now (out .entry)) place
         (newBytes (runs 0 (now (old .entry)) (now (new .entry))) (now (new .entry))) ⌝ }
 {
-    let mut to = place;
-    let mut at = next_change(old, new, 0);
-    while at < old.len() {
-        let end = run_end(old, new, at);
-        to = put_part(out, to, new, at, end);
-        at = next_change(old, new, end);
-    }
+    write_bytes_within(out, place, old, new, whole(new.len()));
 }
 
-// Fills the list with the pairs, or, where they don't fit, with the single pair 0, L; answers how many it wrote.
-// Whether they fit is known before the first is written.
 pub fn fill_list(list: &mut [u8], old: &[u8], new: &[u8]) -> u32
     requires { ⌜ (length (now old) ≡ length (now new))
         × (length (now old) < 2 ^ 32)
@@ -134,12 +245,5 @@ pub fn fill_list(list: &mut [u8], old: &[u8], new: &[u8]) -> u32
         ≡ store (now (list .entry)) 0
         (pairBytes (changesIn (length (now (list .entry))) (now (old .entry)) (now (new .entry))))) ⌝ }
 {
-    let tally = measure(old, new);
-    let pairs = tally.pairs;
-    if 8 * pairs <= list.len() {
-        write_pairs(list, 0, old, new);
-        return pairs as u32;
-    }
-    put_pair(list, 0, 0, new.len());
-    1
+    fill_list_within(list, old, new, whole(new.len()))
 }

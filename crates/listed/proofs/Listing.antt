@@ -1,6 +1,7 @@
 -- The listed form of any call, by its number.
 --     lists-16, lists-refused, lists-done      16; refused by the call itself; accepted
 --     work-holds                               the working slice begins with the image as it was
+--     windows-hold                             the working slice and the image after the call tell the image before it
 --     add-leaves, add-small, and so for delete      a refused call leaves the image; an accepted one's is below 2^32
 -- Assumes nothing.
 use mathlib.Core.Path.{_≡_, refl, sym, ap, _∙_}
@@ -8,18 +9,23 @@ use Prim.Native.Nat.{ℕ, _-_, _^_, _≤_, _<_}
 use native.Mathlib.Omega.{arith}
 use mathlib.Core.Bool.{Bool, true, false, cond, _&&_}
 use mathlib.Core.List.{List}
-use lib.ListN.{length, take, drop}
+use lib.ListN.{length, take, drop, getD}
 use lib.Seq.{take-length}
 use lib.Dec.{leb, eqb}
 use borrow.Author.Tests.{leb-true}
 use Rattle.bhtf.specs.Bytes.{Bytes, part, store}
 use Rattle.bhtf.specs.Questions.{openNumber, addNumber, deleteNumber}
 use Rattle.bhtf.specs.Calls.{Outcome, plain, settled, add, delete}
-use Rattle.updates.specs.Changes.{Pair, pairBytes, changesIn, listAllowed, workAllowed, workedNumber, Listed, listed}
+use Rattle.updates.specs.Changes.{Pair, pairBytes, copied, changesIn, listAllowed, workAllowed, workedNumber, Listed, listed}
 use Rattle.bhtf.proofs.Tests.{by-eq, and-left, and-right, zero-yes, zero-no}
 use Rattle.bhtf.proofs.Bytes.{part-store-same}
 use Rattle.bhtf.proofs.Opened.{opened-facts}
 use Rattle.updates.proofs.Changes.{copied-changes}
+use Rattle.updates.proofs.Copied.{copied-back}
+use Rattle.changes.specs.Windows.{windowsOf, before, Sorted}
+use Rattle.changes.specs.declared.windows.Windows.{Windows}
+use Rattle.changes.proofs.Windowed.{windows-within}
+use Rattle.reach.specs.Reaches.{Only}
 use Rattle.bhtf.proofs.Outcomes.{settled-yes, settled-no, add-closed, add-refused, delete-closed, delete-refused}
 use Rattle.listed.specs.Lists.{Lists}
 
@@ -112,6 +118,16 @@ work-holds work img work′ h e =
     ∙ ap (λ (k : ℕ). take k (store work 0 (take (length img) img))) size
     ∙ part-store-same work 0 (take (length img) img) (omega arith)
     ∙ is
+
+-- ---- the image, kept in the working slice where the call may write
+
+pub windows-hold : (call : Bytes → Outcome Bytes) (img work new work′ : Bytes) (w : Windows) → Sorted w (length img)
+    → Only call img w → length img ≤ length work → call img .answer .number ≡ 0 → new ≡ call img .after
+    → length new ≡ length img → work′ ≡ copied (windowsOf w) img work → before w work′ new ≡ img
+windows-hold call img work new work′ w s only room z is size e =
+    ap (λ (b : Bytes). before w b new) e
+    ∙ copied-back (windowsOf w) img work new (windows-within w (length img) s) room
+    (record { size = size; outside = λ i c. ap (λ (b : Bytes). getD b i 0) is ∙ only z i c })
 
 -- ---- a refused call leaves the image
 

@@ -1,9 +1,11 @@
-// Add and delete in the form that also lists what they changed: the image before the call is kept in a working slice,
-// and compared with the image after it.
+// Add and delete in the form that also lists what they changed: the image's bytes before the call are kept in a working
+// slice where the call may write, and compared with those after it.
 use add::add;
-use changes::fill_list;
-use changes::put_part;
+use changes::fill_list_within;
+use changes::keep;
 use delete::delete;
+use reach::of_add;
+use reach::of_delete;
 ghost use mathlib.Core.Path.{_≡_};
 ghost use mathlib.Core.Bool.{_&&_};
 ghost use lib.ListN.{length};
@@ -34,16 +36,16 @@ pub fn add_listed(
         (now (image .exit)) (now (list .exit)) r (now (pairs .exit)) ⌝ }
 {
     *pairs = 0;
-    let size = image.len();
-    if !slices_allowed(size, work.len(), list.len()) {
+    if !slices_allowed(image.len(), work.len(), list.len()) {
         return 16;
     }
-    put_part(work, 0, image, 0, size);
+    let windows = of_add(image, key, bytes, mode);
+    keep(work, image, windows);
     let number = add(image, key, bytes, mode);
     if number != 0 {
         return number;
     }
-    *pairs = fill_list(list, &work[0..size], image);
+    *pairs = fill_list_within(list, work, image, windows);
     0
 }
 
@@ -60,15 +62,15 @@ pub fn delete_listed(
         (now (image .exit)) (now (list .exit)) r (now (pairs .exit)) ⌝ }
 {
     *pairs = 0;
-    let size = image.len();
-    if !slices_allowed(size, work.len(), list.len()) {
+    if !slices_allowed(image.len(), work.len(), list.len()) {
         return 16;
     }
-    put_part(work, 0, image, 0, size);
+    let windows = of_delete(image, key);
+    keep(work, image, windows);
     let number = delete(image, key);
     if number != 0 {
         return number;
     }
-    *pairs = fill_list(list, &work[0..size], image);
+    *pairs = fill_list_within(list, work, image, windows);
     0
 }

@@ -24,7 +24,7 @@ use Rattle.bhtf.proofs.Bytes.{part-length, length-store, part-store-inside, par
 
 -- ---- a byte after a store
 
-byte-part : (b : Bytes) (p n i : ℕ) → i < n → getD (part b p n) i 0 ≡ getD b (p + i) 0
+pub byte-part : (b : Bytes) (p n i : ℕ) → i < n → getD (part b p n) i 0 ≡ getD b (p + i) 0
 unfolding part
 byte-part b p n i h = getD-take n (drop p b) i 0 h ∙ getD-drop p b i 0
 
@@ -120,16 +120,16 @@ spread-runs k (a ∷ old) (b ∷ new) =
 pub inside : Pair → ℕ → Bool
 inside r i = leb (r .at) i && ltb i (r .at + r .size)
 
-inside-yes : (r : Pair) (i : ℕ) → r .at ≤ i → i < r .at + r .size → inside r i ≡ true
+pub inside-yes : (r : Pair) (i : ℕ) → r .at ≤ i → i < r .at + r .size → inside r i ≡ true
 inside-yes r i h f = unfold inside in ap₂ _&&_ (le-leb (r .at) i h) (lt-ltb i (r .at + r .size) f)
 
-inside-below : (r : Pair) (i : ℕ) → i < r .at → inside r i ≡ false
+pub inside-below : (r : Pair) (i : ℕ) → i < r .at → inside r i ≡ false
 inside-below r i h = unfold inside in ap (λ (b : Bool). b && ltb i (r .at + r .size)) (lt-leb (r .at) i h)
 
-inside-above : (r : Pair) (i : ℕ) → r .at + r .size ≤ i → inside r i ≡ false
+pub inside-above : (r : Pair) (i : ℕ) → r .at + r .size ≤ i → inside r i ≡ false
 inside-above r i h = unfold inside in ap₂ _&&_ (le-leb (r .at) i (omega arith)) (le-ltb i (r .at + r .size) h)
 
-covered-cons : (r : Pair) (rs : List Pair) (i : ℕ) → covered (r ∷ rs) i ≡ (inside r i || covered rs i)
+pub covered-cons : (r : Pair) (rs : List Pair) (i : ℕ) → covered (r ∷ rs) i ≡ (inside r i || covered rs i)
 unfolding covered inside
 covered-cons r rs i = refl
 

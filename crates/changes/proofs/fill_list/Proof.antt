@@ -1,97 +1,51 @@
--- The pairs fit, or the single pair stands for them. Assumes nothing.
-use Prim.Native.Nat.{ℕ, _*_, _≤_, _<_}
+-- One window, the whole image. Assumes nothing.
 use native.Mathlib.Omega.{arith}
-use mathlib.Core.Path.{_≡_, sym, ap, _∙_}
-use mathlib.Core.List.{List}
+use mathlib.Core.Path.{_≡_, ap, _∙_}
 use lib.ListN.{length}
 use borrow.Author.Needs.{needs}
 use Rattle.bhtf.specs.Bytes.{Bytes, store}
-use Rattle.updates.specs.Changes.{Pair, runs, pairBytes, whole, changesIn}
-use Rattle.updates.proofs.Journal.{length-pairBytes}
-use Rattle.changes.proofs.Scanning.{changes-fit, changes-whole, whole-bytes}
+use Rattle.updates.specs.Changes.{pairBytes, changesIn}
+use Rattle.changes.specs.Windows.{before}
+use Rattle.changes.proofs.Windowed.{kept-whole, before-whole}
 use Rattle.changes.proofs.fill_list.Statement.{statement}
 use Rattle.changes.proofs.fill_list.Tie as tie
 
-measure-requires : tie.Need-measure-requires
-measure-requires c κs = search needs
+whole-requires : tie.Need-whole-requires
+whole-requires c κs = search needs
 
-mul-if1 : tie.Need-mul-if1
-mul-if1 c =
-    let S = c .before .before .before .before in
-    omega (arith, c .measure .ensures .few, S .pre .1)
+-- the function's start, and that the image before is the old one
+abbrev start : tie.After-whole → tie.Start
+start W = W .before .before .before .before .before
 
-write-pairs-requires : tie.Need-write-pairs-requires
-write-pairs-requires c κs =
-    let M = c .before .before in
-    let S = M .before .before .before .before in (
-      S .pre .0,
-      S .pre .1,
-      omega (
-        arith,
-        length-pairBytes (runs 0 (S .args .old .now) (S .args .new .now)),
-        M .measure .ensures .counted,
-        c .before .if1 .taken,
-      ),
+is-old : (W : tie.After-whole)
+    → let S : tie.Start = start W in
+    before (W .whole .result) (S .args .old .now) (S .args .new .now) ≡ S .args .old .now
+is-old W =
+    let S = start W in
+    before-whole (W .whole .result) (S .args .old .now) (S .args .new .now) (S .pre .0) (W .whole .ensures)
+
+fill-list-within-requires : tie.Need-fill-list-within-requires
+fill-list-within-requires c κs =
+    let S = start c in (
+      kept-whole _ _ _ (S .pre .0) (c .whole .ensures),
+      omega (arith, S .pre .0, S .pre .1),
+      S .pre .2,
     )
-
-cast-result : tie.Need-cast-result
-cast-result c =
-    let M = c .before .before .before .before .before in
-    omega (arith, M .measure .ensures .few, M .before .before .before .before .pre .1)
 
 same-length : tie.Need-same-length
 same-length c = search needs
 
 returns : tie.Need-returns
 returns c =
-    let W = c .before .before in
-    let T = W .before .before in
-    let M = T .before in
-    let S = M .before .before .before .before in
+    let C = c .before .before in
+    let W = C .before in
+    let S = start W in
     let list = S .args .list .now in
-    let old = S .args .old .now in
-    let new = S .args .new .now in
-    let fits : changesIn (length list) old new ≡ runs 0 old new =
-    changes-fit (length list) old new (omega (arith, M .measure .ensures .counted, T .if1 .taken)) in (
-      M .measure .ensures .counted ∙ ap (λ (l : List Pair). length l) (sym fits),
-      W .write-pairs .ensures ∙ ap (λ (l : List Pair). store list 0 (pairBytes l)) (sym fits),
-    )
-
-put-pair-requires : tie.Need-put-pair-requires
-put-pair-requires c κs =
-    let S = c .before .before .before .before .before .before in
-    (omega (arith, S .pre .2), omega arith, omega (arith, S .pre .0, S .pre .1))
-
-same-length-2 : tie.Need-same-length-2
-same-length-2 c = search needs
-
-returns-2 : tie.Need-returns-2
-returns-2 c =
-    let P = c .before .before in
-    let T = P .before .before in
-    let M = T .before in
-    let S = M .before .before .before .before in
-    let list = S .args .list .now in
-    let old = S .args .old .now in
-    let new = S .args .new .now in
-    let fails : changesIn (length list) old new ≡ whole (length new) =
-    changes-whole (length list) old new (omega (arith, M .measure .ensures .counted, T .if1 .left)) in (
-      ap (λ (l : List Pair). length l) (sym fails),
-      P .put-pair .ensures
-          ∙ ap (store list 0) (whole-bytes (length new))
-          ∙ ap (λ (l : List Pair). store list 0 (pairBytes l)) (sym fails),
+    let new = S .args .new .now in (
+      C .fill-list-within .ensures .0 ∙ ap (λ (b : Bytes). length (changesIn (length list) b new)) (is-old W),
+      C .fill-list-within .ensures .1
+          ∙ ap (λ (b : Bytes). store list 0 (pairBytes (changesIn (length list) b new))) (is-old W),
     )
 
 pub fill-list-spec : {M : Type 1} → statement M
-fill-list-spec =
-    tie.close
-    (tie.spec
-    measure-requires
-    mul-if1
-    write-pairs-requires
-    cast-result
-    same-length
-    returns
-    put-pair-requires
-    same-length-2
-    returns-2)
+fill-list-spec = tie.close (tie.spec whole-requires fill-list-within-requires same-length returns)

@@ -1,76 +1,30 @@
--- The runs up to `at` are counted, the others are left. Assumes nothing.
-use Prim.Native.Nat.{_-_}
-use native.Mathlib.Omega.{arith}
+-- One window, the whole image. Assumes nothing.
+use Prim.Native.Nat.{ℕ}
+use mathlib.Core.Path.{sym, ap₂, subst}
 use lib.ListN.{length}
 use borrow.Author.Needs.{needs}
-use Rattle.changes.proofs.Scanning.{Counting, counting-start, counting-more, counting-end}
+use Rattle.bhtf.specs.Bytes.{Bytes}
+use Rattle.updates.specs.Changes.{runs}
+use Rattle.changes.specs.Scans.{Measured}
+use Rattle.changes.proofs.Windowed.{kept-whole, before-whole}
 use Rattle.changes.proofs.measure.Statement.{statement}
 use Rattle.changes.proofs.measure.Tie as tie
 
-abbrev Inv-loop : tie.InvT-loop
-Inv-loop old new pairs₀ bytes₀ at₀ pairs bytes at = Counting old new pairs bytes at
+whole-requires : tie.Need-whole-requires
+whole-requires c κs = search needs
 
-abbrev μ-loop : tie.MeasureT-loop
-μ-loop old new pairs₀ bytes₀ at₀ pairs bytes at = length old - at
+measure-within-requires : tie.Need-measure-within-requires
+measure-within-requires c κs = kept-whole _ _ _ (c .before .before .before .pre) (c .whole .ensures)
 
-abbrev start : tie.At-loop Inv-loop μ-loop → tie.Start Inv-loop μ-loop
-start L = L .before .before .before .before
-
-next-change-requires : tie.Need-next-change-requires Inv-loop μ-loop
-next-change-requires c κs = (c .before .before .pre, omega arith)
-
-loop-holds : tie.Need-loop-holds Inv-loop μ-loop
-loop-holds c = counting-start _ _ _ (c .next-change .ensures)
-
-run-end-requires : tie.Need-run-end-requires Inv-loop μ-loop
-run-end-requires c κs =
-    let L = c .before in
-    (start L .pre, c .loop-test .taken, L .loop .inv .change (c .loop-test .taken))
-
-add-pairs : tie.Need-add-pairs Inv-loop μ-loop
-add-pairs c =
-    let L = c .before .before in
-    omega (arith, L .loop .inv .few, L .loop .inv .high)
-
-sub-bytes : tie.Need-sub-bytes Inv-loop μ-loop
-sub-bytes c = omega (arith, c .run-end .ensures .low)
-
-add-bytes : tie.Need-add-bytes Inv-loop μ-loop
-add-bytes c =
-    let L = c .before .before in
-    omega (arith, L .loop .inv .small, c .run-end .ensures .low, c .run-end .ensures .high)
-
-next-change-requires-2 : tie.Need-next-change-requires-2 Inv-loop μ-loop
-next-change-requires-2 c κs = (start (c .before .before) .pre, c .run-end .ensures .high)
-
-loop-less : tie.Need-loop-less Inv-loop μ-loop
-loop-less c =
-    let R = c .before in
-    omega (arith, R .run-end .ensures .low, R .run-end .ensures .high, c .next-change2 .ensures .low)
-
-loop-again : tie.Need-loop-again Inv-loop μ-loop
-loop-again c =
-    let R = c .before in
-    counting-more _ _ _ _ _ _ _ (R .before .before .loop .inv) (R .run-end .ensures) (c .next-change2 .ensures)
-
-returns : tie.Need-returns Inv-loop μ-loop
+returns : tie.Need-returns
 returns c =
-    let L = c .before in
-    counting-end _ _ _ _ _ (start L .pre) (L .loop .inv) (c .loop-test .left)
+    let W = c .before in
+    let S = W .before .before .before in
+    let r = c .measure-within .result in
+    subst (λ (n : ℕ). Measured (runs 0 (S .args .old .now) (S .args .new .now)) n (r .pairs) (r .bytes)) (sym (S .pre))
+    (subst (λ (b : Bytes). Measured (runs 0 b (S .args .new .now)) (length (S .args .new .now)) (r .pairs) (r .bytes))
+    (before-whole (W .whole .result) (S .args .old .now) (S .args .new .now) (S .pre) (W .whole .ensures))
+    (c .measure-within .ensures))
 
 pub measure-spec : {M : Type 1} → statement M
-measure-spec =
-    tie.close
-    (tie.spec
-    Inv-loop
-    μ-loop
-    next-change-requires
-    loop-holds
-    run-end-requires
-    add-pairs
-    sub-bytes
-    add-bytes
-    next-change-requires-2
-    loop-less
-    loop-again
-    returns)
+measure-spec = tie.close (tie.spec whole-requires measure-within-requires returns)

@@ -1,123 +1,52 @@
--- The new bytes of the runs up to `at` are written, the others are to be written behind them. Assumes nothing.
-use Prim.Native.Nat.{ℕ, _+_, _-_, _≤_}
+-- One window, the whole image. Assumes nothing.
 use native.Mathlib.Omega.{arith}
-use mathlib.Core.Path.{_≡_, sym, ap, _∙_}
-use mathlib.Core.List.{List}
+use mathlib.Core.Path.{_≡_, ap, _∙_}
 use lib.ListN.{length}
 use borrow.Author.Needs.{needs}
-use Rattle.bhtf.specs.Bytes.{Bytes, part, store}
-use Rattle.updates.specs.Changes.{Pair}
+use Rattle.bhtf.specs.Bytes.{Bytes, store}
+use Rattle.updates.specs.Changes.{runs}
 use Rattle.updates.specs.Journal.{newBytes}
-use Rattle.bhtf.proofs.Bytes.{part-length}
-use Rattle.changes.proofs.Scanning.{Writing, writing-start, writing-room, writing-more, writing-end, part-piece, part-step, part-is, bytes-nil}
+use Rattle.changes.specs.Windows.{before}
+use Rattle.changes.proofs.Windowed.{kept-whole, before-whole}
 use Rattle.changes.proofs.write_bytes.Statement.{statement}
 use Rattle.changes.proofs.write_bytes.Tie as tie
 
-abbrev Inv-loop : tie.InvT-loop
-Inv-loop out₀ place old new to₀ at₀ out to at =
-    Writing (λ (rs : List Pair). newBytes rs new) out₀ place old new out to at
+whole-requires : tie.Need-whole-requires
+whole-requires c κs = search needs
 
-abbrev μ-loop : tie.MeasureT-loop
-μ-loop out₀ place old new to₀ at₀ out to at = length old - at
+-- the function's start, and that the image before is the old one
+abbrev start : tie.After-whole → tie.Start
+start W = W .before .before .before .before .before
 
-abbrev start : tie.At-loop Inv-loop μ-loop → tie.Start Inv-loop μ-loop
-start L = L .before .before .before .before .before
+is-old : (W : tie.After-whole)
+    → let S : tie.Start = start W in
+    before (W .whole .result) (S .args .old .now) (S .args .new .now) ≡ S .args .old .now
+is-old W =
+    let S = start W in
+    before-whole (W .whole .result) (S .args .old .now) (S .args .new .now) (S .pre .0) (W .whole .ensures)
 
-next-change-requires : tie.Need-next-change-requires Inv-loop μ-loop
-next-change-requires c κs = (c .before .before .before .pre .0, omega arith)
-
-loop-holds : tie.Need-loop-holds Inv-loop μ-loop
-loop-holds c =
-    let A = c .before .before .before .before .args in
-    writing-start (λ (rs : List Pair). newBytes rs (A .new .now)) _ _ _ _ _ (c .next-change .ensures)
-
-run-end-requires : tie.Need-run-end-requires Inv-loop μ-loop
-run-end-requires c κs =
-    let L = c .before in
-    (start L .pre .0, c .loop-test .taken, L .loop .inv .change (c .loop-test .taken))
-
--- how long the run's bytes are
-long : (R : tie.After-run-end Inv-loop μ-loop)
-    → let L : tie.At-loop Inv-loop μ-loop = R .before .before in
-    let size : ℕ = R .run-end .result - L .loop .at in
-    length (part-piece (start L .args .new .now) (record { at = L .loop .at; size = size })) ≡ size
-long R =
-    let L = R .before .before in
-    let S = start L in
-    let at = L .loop .at in
-    let size : ℕ = R .run-end .result - at in
-    ap (λ (t : Bytes). length t) (sym (part-is (S .args .new .now) at size))
-    ∙ part-length (S .args .new .now) at size
-    (omega (arith, S .pre .0, R .run-end .ensures .low, R .run-end .ensures .high))
-
-put-part-requires : tie.Need-put-part-requires Inv-loop μ-loop
-put-part-requires c κs =
-    let R = c .before in
-    let L = R .before .before in
-    let S = start L in
-    let new = S .args .new .now in
-    let r = R .run-end .result in
-    let at = L .loop .at in (
-      omega (arith, R .run-end .ensures .low),
-      omega (arith, S .pre .0, R .run-end .ensures .high),
+write-bytes-within-requires : tie.Need-write-bytes-within-requires
+write-bytes-within-requires c κs =
+    let S = start c in (
+      kept-whole _ _ _ (S .pre .0) (c .whole .ensures),
       omega (
         arith,
-        writing-room (λ (rs : List Pair). newBytes rs new) (part-piece new) (part-step new) (S .args .out .now)
-            (S .args .place) (S .args .old .now) new (S .pre .1) (L .loop .out) (L .loop .to) at r (L .loop .inv)
-            (R .run-end .ensures),
-        long R,
+        ap (λ (b : Bytes). length (newBytes (runs 0 b (S .args .new .now)) (S .args .new .now))) (is-old c),
+        S .pre .1,
       ),
     )
 
-next-change-requires-2 : tie.Need-next-change-requires-2 Inv-loop μ-loop
-next-change-requires-2 c κs =
-    let R = c .before .before .before .before in
-    (start (R .before .before) .pre .0, R .run-end .ensures .high)
+same-length : tie.Need-same-length
+same-length c = search needs
 
-loop-less : tie.Need-loop-less Inv-loop μ-loop
-loop-less c =
-    let R = c .before .before .before .before .before in
-    omega (arith, R .run-end .ensures .low, R .run-end .ensures .high, c .next-change2 .ensures .low)
-
-loop-again : tie.Need-loop-again Inv-loop μ-loop
-loop-again c =
-    let P = c .before .before .before in
-    let R = P .before .before in
-    let L = R .before .before in
-    let S = start L in
-    let new = S .args .new .now in
-    let r = R .run-end .result in
-    let at = L .loop .at in
-    writing-more (λ (rs : List Pair). newBytes rs new) (part-piece new) (part-step new) (S .args .out .now)
-    (S .args .place) (S .args .old .now) new (S .pre .1) (L .loop .out) (L .loop .to) at r (P .put-part .last .0)
-    (P .put-part .result) (c .next-change2 .result) (L .loop .inv) (R .run-end .ensures) (c .next-change2 .ensures)
-    (P .put-part .ensures .0 ∙ ap (store (L .loop .out) (L .loop .to)) (part-is new at (r - at)))
-    (P .put-part .ensures .1 ∙ ap (λ (n : ℕ). L .loop .to + n) (sym (long R)))
-
-same-length : tie.Need-same-length Inv-loop μ-loop
-same-length c = c .before .loop .inv .size
-
-returns : tie.Need-returns Inv-loop μ-loop
+returns : tie.Need-returns
 returns c =
-    let L = c .before in
-    let S = start L in
+    let C = c .before .before in
+    let W = C .before in
+    let S = start W in
     let new = S .args .new .now in
-    writing-end (λ (rs : List Pair). newBytes rs new) (part-piece new) (part-step new) (S .args .out .now)
-    (S .args .place) (S .args .old .now) new (S .pre .1) (bytes-nil new) (L .loop .out) (L .loop .to) (L .loop .at)
-    (S .pre .0) (L .loop .inv) (c .loop-test .left)
+    C .write-bytes-within .ensures
+    ∙ ap (λ (b : Bytes). store (S .args .out .now) (S .args .place) (newBytes (runs 0 b new) new)) (is-old W)
 
 pub write-bytes-spec : {M : Type 1} → statement M
-write-bytes-spec =
-    tie.close
-    (tie.spec
-    Inv-loop
-    μ-loop
-    next-change-requires
-    loop-holds
-    run-end-requires
-    put-part-requires
-    next-change-requires-2
-    loop-less
-    loop-again
-    same-length
-    returns)
+write-bytes-spec = tie.close (tie.spec whole-requires write-bytes-within-requires same-length returns)
