@@ -68,6 +68,11 @@ extern "C" {
 #define BHTF_ABSENT 14u        /* the key is not there: lookup, delete, and add
                                   in mode 4, where it is asked after 8 */
 #define BHTF_UNSOUND 15u       /* compact: bhtf_check does not say sound */
+#define BHTF_SHORT_SLICE 16u   /* list below 8 bytes, or working slice shorter
+                                  than the image */
+#define BHTF_BAD_JOURNAL 17u   /* journal too short, or its mark is not 0 */
+#define BHTF_UNRECOVERABLE 18u /* recover: the journal is empty, or marked and
+                                  not one of an update of this image */
 
 /* ---- verdicts of bhtf_check ---- */
 
@@ -192,6 +197,45 @@ uint32_t bhtf_check(const uint8_t *image, size_t image_len,
  * Stack: up to 1,344 KiB (1,376,256 bytes), which a small thread may not
  * have. */
 uint32_t bhtf_compact(uint8_t *image, size_t image_len);
+
+/* ---- what a call changed ----
+ *
+ * Add and delete, which also fill a list with what they changed: pairs of
+ * offset and length, each a number of 4 bytes with the most significant byte
+ * first, sorted by offset, one for each unbroken run of bytes whose value
+ * changed. *pairs is how many pairs were written, 0 when refused. work is a
+ * working slice of at least image_len bytes, list one of at least 8; else the
+ * call is refused with 16, before any other question. */
+
+uint32_t bhtf_add_listed(uint8_t *image, size_t image_len, const uint8_t *key,
+                         size_t key_len, const uint8_t *data, size_t data_len,
+                         uint32_t mode, uint8_t *work, size_t work_len,
+                         uint8_t *list, size_t list_len, uint32_t *pairs);
+
+uint32_t bhtf_delete_listed(uint8_t *image, size_t image_len,
+                            const uint8_t *key, size_t key_len, uint8_t *work,
+                            size_t work_len, uint8_t *list, size_t list_len,
+                            uint32_t *pairs);
+
+/* ---- calls that a cut does not harm ----
+ *
+ * Add and delete by way of a journal, and recovery. work is as above. Refused
+ * with 17 where the journal is too short, or where its mark, the last byte, is
+ * not 0; recovery only with 18. */
+
+uint32_t bhtf_add_journaled(uint8_t *image, size_t image_len,
+                            const uint8_t *key, size_t key_len,
+                            const uint8_t *data, size_t data_len,
+                            uint32_t mode, uint8_t *work, size_t work_len,
+                            uint8_t *journal, size_t journal_len);
+
+uint32_t bhtf_delete_journaled(uint8_t *image, size_t image_len,
+                               const uint8_t *key, size_t key_len,
+                               uint8_t *work, size_t work_len,
+                               uint8_t *journal, size_t journal_len);
+
+uint32_t bhtf_recover(uint8_t *image, size_t image_len, uint8_t *journal,
+                      size_t journal_len);
 
 /* What an answer means, in one sentence. Never NULL; not to be freed. */
 const char *bhtf_message(uint32_t number);
