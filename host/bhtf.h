@@ -217,6 +217,10 @@ uint32_t bhtf_delete_listed(uint8_t *image, size_t image_len,
                             size_t work_len, uint8_t *list, size_t list_len,
                             uint32_t *pairs);
 
+uint32_t bhtf_compact_listed(uint8_t *image, size_t image_len, uint8_t *work,
+                             size_t work_len, uint8_t *list, size_t list_len,
+                             uint32_t *pairs);
+
 /* ---- calls that a cut does not harm ----
  *
  * Add and delete by way of a journal, and recovery. work is as above. Refused
@@ -233,6 +237,10 @@ uint32_t bhtf_delete_journaled(uint8_t *image, size_t image_len,
                                const uint8_t *key, size_t key_len,
                                uint8_t *work, size_t work_len,
                                uint8_t *journal, size_t journal_len);
+
+uint32_t bhtf_compact_journaled(uint8_t *image, size_t image_len,
+                                uint8_t *work, size_t work_len,
+                                uint8_t *journal, size_t journal_len);
 
 uint32_t bhtf_recover(uint8_t *image, size_t image_len, uint8_t *journal,
                       size_t journal_len);

@@ -1,5 +1,8 @@
 // Add and delete in the form that also lists what they changed: the image before the call is kept in a working slice,
 // and compared with the image after it.
+//     packed    compaction in this form
+pub mod packed;
+
 use add::add;
 use changes::fill_list;
 use changes::put_part;

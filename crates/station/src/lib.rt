@@ -224,6 +224,21 @@ pub extern "C" fn bhtf_delete_listed(
     listed::delete_listed(image, key, work, list, pairs)
 }
 
+// Compacts as `bhtf_compact` does, and lists what changed; `pairs` is how many pairs the list has now, 0 when refused.
+#[no_mangle]
+pub extern "C" fn bhtf_compact_listed(
+    image: &mut [u8],
+    work: &mut [u8],
+    list: &mut [u8],
+    pairs: &mut u32,
+) -> u32
+    ensures { λ r. ⌜ Lists compact
+        (now (image .entry)) (length (now (work .entry))) (now (list .entry))
+        (now (image .exit)) (now (list .exit)) r (now (pairs .exit)) ⌝ }
+{
+    listed::packed::compact_listed(image, work, list, pairs)
+}
+
 // Stores as `bhtf_add` does, by way of the journal.
 #[no_mangle]
 pub extern "C" fn bhtf_add_journaled(
@@ -254,6 +269,20 @@ pub extern "C" fn bhtf_delete_journaled(
         (now (image .exit)) (now (journal .exit)) r ⌝ }
 {
     journaled::delete_journaled(image, key, work, journal)
+}
+
+// Compacts as `bhtf_compact` does, by way of the journal.
+#[no_mangle]
+pub extern "C" fn bhtf_compact_journaled(
+    image: &mut [u8],
+    work: &mut [u8],
+    journal: &mut [u8],
+) -> u32
+    ensures { λ r. ⌜ Journals compact
+        (now (image .entry)) (length (now (work .entry))) (now (journal .entry))
+        (now (image .exit)) (now (journal .exit)) r ⌝ }
+{
+    journaled::packed::compact_journaled(image, work, journal)
 }
 
 // Rewrites the image from a journal that is marked, and takes the mark away.
