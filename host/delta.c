@@ -259,8 +259,7 @@ const char *delta_words(enum delta_answer answer)
         "the delta is of a version that this command does not know",
         "the delta was cut short or damaged; send it again",
         "the delta was damaged; send it again",
-        "the delta was made wrongly: it does not say what its length and its "
-            "pairs ask for"
+        "the delta was made wrongly: its pairs and its length do not fit"
     };
 
     return words[answer];
