@@ -106,6 +106,10 @@ refused "one that was lost in front" 1 'record 1 of step2 does not go on from he
 gives "and is told in a dry run" 1 'Send the missing ones first' bhtf apply copy step2 -n
 refused "out of order" 1 'record 2 of standard input does not go on' sh -c 'cat step2 step | bhtf apply copy'
 refused "one missing between" 1 'record 2 of standard input' sh -c 'bhtf delta wednesday monday | cat step - | bhtf apply copy'
+cp wednesday thursday
+bhtf add thursday CP-5 'still more'
+bhtf delta wednesday thursday >step3
+refused "a later one in front of one that the copy has" 1 'record 2 of' sh -c 'cat step3 still | bhtf apply copy'
 refused "something behind the record" 2 'record 2: this is no delta' sh -c '(cat step; echo) | bhtf apply copy'
 refused "a good one in front of a damaged one" 2 'record 2: .*damaged' sh -c '(cat step; head -c 150 step2) | bhtf apply copy'
 refused "good ones in front of one that is missing" 1 'record 2 of' sh -c 'cat step still | bhtf apply copy'
