@@ -122,7 +122,9 @@ module _ (old new : Bytes) (l : length old ≡ length new) where
   stops-later from i h d l (inl e) = omega arith
   stops-later from i h d l (inr e) =
       by-le i from
-      (λ k. let same : i ≡ from = omega arith in absurd (d (subst (λ (n : ℕ). getD old n 0 ≡ getD new n 0) same (e .1))))
+      (λ k.
+      let same : i ≡ from = omega arith in
+      absurd (d (subst (λ (n : ℕ). getD old n 0 ≡ getD new n 0) same (e .1))))
       (λ k. k)
 
 -- what holds of each place from `from` up to i, and of i

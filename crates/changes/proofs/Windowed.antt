@@ -165,7 +165,8 @@ module _ (w : Windows) (work new : Bytes) (k : Kept w work new) where
   byte-same i c = byte-left (length new) (windowsOf w) work new within (k .roomy) (omega arith) i c
 
 -- one window, the whole of two images
-module _ (w : Windows) (old new : Bytes) (l : length old ≡ length new) (r : (w .end1 ≡ length new) × Sorted w (length new))
+module _ (w : Windows) (old new : Bytes) (l : length old ≡ length new)
+    (r : (w .end1 ≡ length new) × Sorted w (length new))
   where
     pub kept-whole : Kept w old new
     kept-whole = record { sorted = r .1; roomy = omega arith }

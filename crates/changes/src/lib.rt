@@ -169,7 +169,8 @@ pub fn keep(work: &mut [u8], image: &[u8], w: Windows)
 // Writes the new bytes of all runs from `place` on.
 fn write_bytes_within(out: &mut [u8], place: usize, work: &[u8], new: &[u8], w: Windows)
     requires { ⌜ Kept w (now work) (now new)
-        × (place + length (newBytes (runs 0 (before w (now work) (now new)) (now new)) (now new)) ≤ length (now out)) ⌝ }
+        × (place + length (newBytes (runs 0 (before w (now work) (now new)) (now new)) (now new))
+        ≤ length (now out)) ⌝ }
     ensures { λ _. ⌜ now (out .exit)
         ≡ store (now (out .entry)) place
         (newBytes (runs 0 (before w (now (work .entry)) (now (new .entry))) (now (new .entry))) (now (new .entry))) ⌝ }

@@ -295,8 +295,8 @@ module _ (img key bytes : Bytes) (mode : ℕ) (z : addNumber img key bytes mode 
           (by-bool (eqb mode 1)
           (λ one. absurd (other 9 (add-9 img key opens bytes mode a k i m one) (λ w. omega arith)))
           (λ one.
-          renew-keeps img o i (search-met H img key some-slot i m .0) key (name-length (H .K) key a) at p n (add-sound m)
-          bytes mode _ refl (sym (add-renewed img key opens bytes mode a k i m one (add-sound m)) ∙ z) e))
+          renew-keeps img o i (search-met H img key some-slot i m .0) key (name-length (H .K) key a) at p n
+          (add-sound m) bytes mode _ refl (sym (add-renewed img key opens bytes mode a k i m one (add-sound m)) ∙ z) e))
 
   -- mode 4 finds a point
   not-four : isMet (search H img key) ≡ false → nameAllowed (H .K) key ≡ true → modeKnown mode ≡ true

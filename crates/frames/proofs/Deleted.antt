@@ -104,7 +104,8 @@ module _ (g : Layout) (p n : ℕ) where
             move = λ b h j w s t y ih hole here ve.
                 let at : dist (g .N) i j < d = before-e b j (s .slot-lt) ve t here in
                 ih at (after-it j (s .slot-lt) at)
-                (ap (vacant g) (slot-moved-other g b (s .room) h j (s .hole-lt) (s .slot-lt) e (not-e h hole) (not-e j at))
+                (ap (vacant g)
+                (slot-moved-other g b (s .room) h j (s .hole-lt) (s .slot-lt) e (not-e h hole) (not-e j at))
                 ∙ ve)
                 ∙ moved-keeps b h j s (a h (s .hole-lt) hole) (a j (s .slot-lt) at);
           })
@@ -157,7 +158,8 @@ module _ (img key : Bytes) (z : deleteNumber img key ≡ 0) (p n i e : ℕ) wher
       let room : Room H (length off) = rw size (opened-room img o) in
       closed-keeps H p n fewer (rw len room) i l e le
       (λ q. ap (vacant H)
-      (slot-setField H off room pointsField (field img pointsField - 1) e (omega arith) le ∙ retire-slot img o at s e le)
+      (slot-setField H off room pointsField (field img pointsField - 1) e (omega arith) le
+      ∙ retire-slot img o at s e le)
       ∙ v q)
       a
       ∙ field-keeps p n off pointsField (field img pointsField - 1) (omega arith)

@@ -67,7 +67,8 @@ module _ (img : Bytes) (s : Shape) (o : Open img s) (at : ℕ) (sound : messageS
     pub of-entry : (n m shown free from3 end3 end : ℕ) → free ≡ field img freeField → m ≡ lengthAt (layoutOf img) img at
         → shown ≡ shownLength (layoutOf img) img at
         → OnMessage (s .area .0) at (s .head + m) from3 end3
-        → (free ≤ end) × (end ≤ length img) × ((k : ℕ) → k ≤ s .head + shown + n → free + k ≤ length img → free + k ≤ end)
+        → (free ≤ end) × (end ≤ length img)
+        × ((k : ℕ) → k ≤ s .head + shown + n → free + k ≤ length img → free + k ≤ end)
         → let w : Windows = record {
           end1 = 60;
           from2 = start;

@@ -111,7 +111,8 @@ fn of_entry(image: &[u8], shape: Shape, i: Slot, o: Offset, m: usize) -> Windows
 fn of_present(image: &[u8], shape: Shape, i: Slot, m: usize) -> Windows
     requires { ⌜ Open (now image) shape × (i .0 < shape .slots) ⌝ }
     ensures { λ r. ⌜ Sorted r (length (now (image .entry)))
-        × (messageSound (layoutOf (now (image .entry))) (now (image .entry)) (offsetIn (now (image .entry)) (i .0)) ≡ true
+        × (messageSound (layoutOf (now (image .entry))) (now (image .entry)) (offsetIn (now (image .entry)) (i .0))
+        ≡ true
         → Entry (now (image .entry)) (i .0) (offsetIn (now (image .entry)) (i .0)) m r) ⌝ }
 {
     let o = offset_of(image, shape, i);

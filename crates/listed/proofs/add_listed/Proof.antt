@@ -88,8 +88,8 @@ held E =
     let D = done E in
     let S = start (asked D .before) in
     let w = found D .of-add in
-    windows-hold (call S) (S .args .image .now) (S .args .work .now) (D .add .last .0) (kept D .keep .last .0) (w .result)
-    (w .ensures .0) (w .ensures .1) (roomy (asked D)) (accepted E) (D .add .ensures .1) (D .add .kept .0)
+    windows-hold (call S) (S .args .image .now) (S .args .work .now) (D .add .last .0) (kept D .keep .last .0)
+    (w .result) (w .ensures .0) (w .ensures .1) (roomy (asked D)) (accepted E) (D .add .ensures .1) (D .add .kept .0)
     (kept D .keep .ensures)
 
 returns-2 : tie.Need-returns-2

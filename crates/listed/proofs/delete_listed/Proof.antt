@@ -88,9 +88,9 @@ held E =
     let D = done E in
     let S = start (asked D .before) in
     let w = found D .of-delete in
-    windows-hold (call S) (S .args .image .now) (S .args .work .now) (D .delete .last .0) (kept D .keep .last .0) (w .result)
-    (w .ensures .0) (w .ensures .1) (roomy (asked D)) (accepted E) (D .delete .ensures .1) (D .delete .kept .0)
-    (kept D .keep .ensures)
+    windows-hold (call S) (S .args .image .now) (S .args .work .now) (D .delete .last .0) (kept D .keep .last .0)
+    (w .result) (w .ensures .0) (w .ensures .1) (roomy (asked D)) (accepted E) (D .delete .ensures .1)
+    (D .delete .kept .0) (kept D .keep .ensures)
 
 returns-2 : tie.Need-returns-2
 returns-2 c =

@@ -24,8 +24,9 @@ enum-known-sought-2 c = search needs
 
 of-found-requires : tie.Need-of-found-requires
 of-found-requires c κs =
-    let S = c .before .before .before .before .before .before .before .before in
-    let k = c .before .before .before .before .mode-known in
+    let K = c .before .before .before .before in
+    let S = K .before .before .before .before in
+    let k = K .mode-known in
     let r =
     reached-is (S .args .image .now) (S .args .key .now) (k .result) (c .before .before .before .seek .ensures)
     (c .before .sought2 .given .1) in

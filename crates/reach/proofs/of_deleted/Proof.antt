@@ -29,7 +29,8 @@ returns : tie.Need-returns
 returns c =
     let A = c .before .before .before .args in (
       c .none .ensures (length (A .image .now)),
-      delete-none (A .image .now) (c .none .result) (probeOf (A .found)) (other-met (A .found) (c .before .match .keys2)),
+      delete-none (A .image .now) (c .none .result) (probeOf (A .found))
+          (other-met (A .found) (c .before .match .keys2)),
     )
 
 offset-of-requires : tie.Need-offset-of-requires
@@ -62,7 +63,8 @@ present O w h key e =
     let l = met-within (m .1) (S .pre .1) in
     delete-present (S .args .image .now) w (slot-of O)
     (omega (arith, l, layout-slots (S .args .image .now) (S .args .shape) (S .pre .0 .shape)))
-    (opened-room (S .args .image .now) (opened-facts (S .args .image .now) (S .pre .0 .accepted))) h key (e ∙ met-is (m .1))
+    (opened-room (S .args .image .now) (opened-facts (S .args .image .now) (S .pre .0 .accepted)))
+    h key (e ∙ met-is (m .1))
 
 returns-2 : tie.Need-returns-2
 returns-2 c =

@@ -77,7 +77,13 @@ shown-length-requires c κs =
 add-space-end : tie.Need-add-space-end
 add-space-end c =
     let S = start (c .before .before) in
-    omega (arith, c .shown-length .ensures, shown-few (S .args .image .now) (S .args .o .0), bound (c .before .before), head-width (S .pre .0))
+    omega (
+      arith,
+      c .shown-length .ensures,
+      shown-few (S .args .image .now) (S .args .o .0),
+      bound (c .before .before),
+      head-width (S .pre .0),
+    )
 
 space-end-requires : tie.Need-space-end-requires
 space-end-requires c κs =
@@ -102,8 +108,8 @@ returns c =
     let L = c .before .before .before in
     let A = L .before .before in
     let S = start L in
-    of-entry (S .args .image .now) (S .args .shape) (S .pre .0) (S .args .o .0) (S .pre .2) (S .args .i .0) (S .pre .1) _
-    (A .at .ensures ∙ A .before .start .ensures) (S .args .m) _ _ _ _ _ _ (L .before .read-u32 .ensures)
+    of-entry (S .args .image .now) (S .args .shape) (S .pre .0) (S .args .o .0) (S .pre .2) (S .args .i .0)
+    (S .pre .1) _ (A .at .ensures ∙ A .before .start .ensures) (S .args .m) _ _ _ _ _ _ (L .before .read-u32 .ensures)
     (L .length-at .ensures) (c .before .shown-length .ensures) (c .before .before .of-message .ensures)
     (c .space-end .ensures)
 

@@ -26,7 +26,8 @@ returns c =
     let O = T .before .before in
     let A = O .before .before .args in (
       c .none .ensures (length (A .image .now)),
-      λ s. absurd (not-both (messageSound (layoutOf (A .image .now)) (A .image .now) (offsetIn (A .image .now) (A .i .0))) s
+      λ s. absurd (not-both
+          (messageSound (layoutOf (A .image .now)) (A .image .now) (offsetIn (A .image .now) (A .i .0))) s
           (ap (messageSound (layoutOf (A .image .now)) (A .image .now)) (sym (O .offset-of .ensures))
           ∙ was-no (T .before .message-sound .ensures) (T .if1 .taken))),
     )

@@ -43,9 +43,10 @@ returns c =
     let W = E .before .before in
     let A = W .before in
     let S = start W in
-    of-walk-up (S .args .image .now) (S .args .shape) (S .pre .0) (S .args .o .0) (S .pre .2) (S .args .i .0) (S .pre .1) _
-    (A .at .ensures ∙ A .before .start .ensures) _ (W .walk-end .ensures .0) _
-    (E .at2 .ensures ∙ E .before .start2 .ensures) (W .walk-end .ensures .1) _ _ (M .of-message .ensures) (c .if1 .taken)
+    of-walk-up (S .args .image .now) (S .args .shape) (S .pre .0) (S .args .o .0) (S .pre .2) (S .args .i .0)
+    (S .pre .1) _ (A .at .ensures ∙ A .before .start .ensures) _ (W .walk-end .ensures .0) _
+    (E .at2 .ensures ∙ E .before .start2 .ensures) (W .walk-end .ensures .1) _ _ (M .of-message .ensures)
+    (c .if1 .taken)
 
 at-requires-3 : tie.Need-at-requires-3
 at-requires-3 c κs = search needs

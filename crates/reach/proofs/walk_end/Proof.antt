@@ -70,7 +70,8 @@ loop-again c =
 returns-2 : tie.Need-returns-2 Inv-loop μ-loop
 returns-2 c =
     let L = c .before .before .before in
-    (L .loop .inv, λ z. absurd (z (sym (c .before .before .number .ensures) ∙ c .if1 .left ∙ c .before .number2 .ensures)))
+    let same = sym (c .before .before .number .ensures) ∙ c .if1 .left ∙ c .before .number2 .ensures in
+    (L .loop .inv, λ z. absurd (z same))
 
 pub walk-end-spec : {M : Type 1} → statement M
 walk-end-spec =
