@@ -3,20 +3,21 @@
  * An image is a whole file in memory. Every call takes the image and its
  * length, and answers a number: BHTF_ACCEPTED (0), or the number of the first
  * question that was answered "no". A refused call changes no byte of the
- * image, and nothing but the results it hands back through pointers.
+ * image, a list or a journal, and nothing but the results it hands back through
+ * pointers; what a working slice holds after any call is of no use.
  *
  * What the caller must see to:
  *
- * - A pointer with a length stands for that many bytes, readable and, for the
- *   image of create, add and delete, writable. A key or data of length 0 may
- *   be NULL; the image may not.
+ * - A pointer with a length stands for that many bytes, readable and, where
+ *   it is not to const, writable. What has the length 0 may be NULL, but for
+ *   the image.
  * - Pointers to results (uint32_t *) are not NULL and are aligned.
- * - What a call writes (the image of create, add and delete; the results)
- *   overlaps nothing else that is handed to the same call. Two slices that
- *   are only read may overlap: lookup's key may be a part of its image.
- * - From the start of a call to its end nobody else writes to its image, key
- *   or data, and nobody else reads an image that it writes. The calls take no
- *   lock; the command bhtf shows one way (see LOCKS in bhtf(1)).
+ * - What a call writes (what is not const, and the results) overlaps nothing
+ *   else that is handed to the same call. Two slices that are only read may
+ *   overlap: lookup's key may be a part of its image.
+ * - From the start of a call to its end nobody else writes to what it was
+ *   handed, and nobody else reads what it writes. The calls take no lock; the
+ *   command bhtf shows one way (see LOCKS in bhtf(1)).
  *
  * The calls allocate nothing, keep nothing between calls and always return.
  */
@@ -39,6 +40,7 @@ extern "C" {
 #define BHTF_SLOTS_DEFAULT 5507u    /* what create makes of 0 slots */
 #define BHTF_MESSAGE_MAX 16777215u  /* bytes in the longest message */
 #define BHTF_MESSAGE_HEADER 4u      /* bytes that a message takes besides */
+#define BHTF_PAIR 8u                /* bytes that a pair takes in a list */
 
 /* ---- modes of bhtf_add ---- */
 
@@ -68,6 +70,8 @@ extern "C" {
 #define BHTF_ABSENT 14u        /* the key is not there: lookup, delete, and add
                                   in mode 4, where it is asked after 8 */
 #define BHTF_UNSOUND 15u       /* compact: bhtf_check does not say sound */
+#define BHTF_SHORT_SLICE 16u   /* list shorter than BHTF_PAIR, or working slice
+                                  than the image; asked before 1 */
 
 /* ---- verdicts of bhtf_check ---- */
 
@@ -192,6 +196,50 @@ uint32_t bhtf_check(const uint8_t *image, size_t image_len,
  * Stack: up to 1,344 KiB (1,376,256 bytes), which a small thread may not
  * have. */
 uint32_t bhtf_compact(uint8_t *image, size_t image_len);
+
+/* ---- what a call changed ----
+ *
+ * Add, delete and compact, with the same numbers and bytes, which also list
+ * what they changed, so that a copy of the image elsewhere is refreshed with
+ * little to send: copying the listed stretches of the image into a copy of it
+ * as it was before the call gives it as it is now.
+ *   work    a working slice of at least image_len bytes, for what the call
+ *           itself has to remember. It need not be cleared before.
+ *   list    at least BHTF_PAIR bytes. It takes from its start a pair for each
+ *           unbroken run of bytes whose value changed, sorted by offset: the
+ *           offset in the image, then the length, 4 bytes each, the most
+ *           significant byte first. Bytes that were written with the value that
+ *           they had are in no pair, and two pairs never touch. The rest of the
+ *           list stays as it was.
+ *   *pairs  how many pairs were written: 0 when nothing changed, and when
+ *           refused.
+ * A shorter working slice or list is refused with 16, before any other
+ * question. Where the pairs do not fit, the list is the single pair 0,
+ * image_len, and the whole image is to be sent. A list of 4 * image_len bytes
+ * always suffices, since there are at most image_len / 2 pairs. An add or a
+ * delete needs few as a rule: it changes some numbers of the header, slots, and
+ * bytes of the message. A compaction may need one for every few bytes of what
+ * it moves.
+ * Time: an add or a delete takes the plain call's and a second search, and
+ * keeps and compares only where it may write: the header, its slots (a delete's
+ * are those from the key's up to the next empty one) and its message; the
+ * image's length does not matter. bhtf_compact_listed copies the image once and
+ * reads it twice. Stack: as the plain call, so bhtf_compact_listed up to
+ * 1,344 KiB. */
+
+uint32_t bhtf_add_listed(uint8_t *image, size_t image_len, const uint8_t *key,
+                         size_t key_len, const uint8_t *data, size_t data_len,
+                         uint32_t mode, uint8_t *work, size_t work_len,
+                         uint8_t *list, size_t list_len, uint32_t *pairs);
+
+uint32_t bhtf_delete_listed(uint8_t *image, size_t image_len,
+                            const uint8_t *key, size_t key_len, uint8_t *work,
+                            size_t work_len, uint8_t *list, size_t list_len,
+                            uint32_t *pairs);
+
+uint32_t bhtf_compact_listed(uint8_t *image, size_t image_len, uint8_t *work,
+                             size_t work_len, uint8_t *list, size_t list_len,
+                             uint32_t *pairs);
 
 /* What an answer means, in one sentence. Never NULL; not to be freed. */
 const char *bhtf_message(uint32_t number);

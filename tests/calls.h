@@ -37,7 +37,30 @@ struct calls {
                              uint32_t *offset, uint32_t *length,
                              uint32_t *slots_read);
     uint32_t (*compact)(uint8_t *image, size_t image_len);
+
+    /* Those that write a file, with the list of what they changed. */
+    uint32_t (*add_listed)(uint8_t *image, size_t image_len,
+                           const uint8_t *key, size_t key_len,
+                           const uint8_t *data, size_t data_len,
+                           uint32_t mode, uint8_t *work, size_t work_len,
+                           uint8_t *list, size_t list_len, uint32_t *pairs);
+    uint32_t (*remove_listed)(uint8_t *image, size_t image_len,
+                              const uint8_t *key, size_t key_len,
+                              uint8_t *work, size_t work_len, uint8_t *list,
+                              size_t list_len, uint32_t *pairs);
+    uint32_t (*compact_listed)(uint8_t *image, size_t image_len,
+                               uint8_t *work, size_t work_len, uint8_t *list,
+                               size_t list_len, uint32_t *pairs);
 };
+
+/* All of them, by the names that begin with p. */
+#define CALLS_OF(p)                                                         \
+    {                                                                       \
+        p##_create, p##_add, p##_delete, p##_lookup, p##_count, p##_walk,   \
+            p##_check, p##_add_slots, p##_delete_slots, p##_lookup_slots,   \
+            p##_compact, p##_add_listed, p##_delete_listed,                 \
+            p##_compact_listed,                                             \
+    }
 
 /* The code under test. */
 extern const struct calls subject;

@@ -580,5 +580,79 @@ fault "shared bytes behind 2 MiB are passed over" \
     'if (m.offset != 0)' \
     'if (m.offset != 0 && m.offset < v->data + 2097152)'
 
+# The list of what changed.
+fault "runs with a byte between them are one pair" \
+    'size_t end = run_end(old, new, at, length);' \
+    'size_t end = run_end(old, new, at, length); if (length - end > 1 && old[end + 1] != new[end + 1]) end = run_end(old, new, end + 1, length);'
+fault "a run cut short" \
+    'to = write_pair(to, at, end - at);' \
+    'to = write_pair(to, at, end - at - (end - at > 4));'
+fault "a run is two pairs where a page begins" \
+    'size_t end = run_end(old, new, at, length);' \
+    'size_t end = run_end(old, new, at, length); if (end / PAGE > at / PAGE) end = (at / PAGE + 1) * PAGE;'
+fault "a byte that kept its value is listed, behind a run" \
+    'to = write_pair(to, at, end - at);' \
+    'to = write_pair(to, at, end - at + (end < length));'
+fault "a byte that kept its value is listed, before a run" \
+    'to = write_pair(to, at, end - at);' \
+    'to = write_pair(to, at - (at % 4 == 3), end - at + (at % 4 == 3));'
+fault "pairs are offset and end" \
+    'to = write_pair(to, at, end - at);' 'to = write_pair(to, at, end);'
+fault "the pairs stand the other way round" \
+    'to = write_pair(to, at, end - at);' \
+    'write_pair(to + PAIR * (count_runs(old, new, length) - 2 * count_runs(old, new, at) - 1), at, end - at); to += PAIR;'
+fault "the list is written behind the pairs" \
+    'write_runs(list, old, new, length);' \
+    'write_runs(list, old, new, length); if (list_len / PAIR > runs) write_pair(list + PAIR * runs, 0, 0);'
+fault "what remains of a list is zeroed" \
+    'write_runs(list, old, new, length);' \
+    'write_runs(list, old, new, length); memset(list + PAIR * runs, 0, list_len % PAIR);'
+fault "the overflow is found after pairs were written" \
+    'write_pair(list, 0, length);' \
+    'if (list_len >= 2 * PAIR) write_pair(list + PAIR, 0, 1); write_pair(list, 0, length);'
+fault "the overflow answers no pair" \
+    'write_pair(list, 0, length);' 'return write_pair(list, 0, length), 0;'
+fault "the overflow leaves the pairs that fit" \
+    'write_pair(list, 0, length);' \
+    'uint8_t *all = malloc(PAIR * runs); write_runs(all, old, new, length); memcpy(list, all, list_len / PAIR * PAIR); free(all); return (uint32_t)(list_len / PAIR);'
+fault "a list that the pairs fill is too short" \
+    'if (runs > list_len / PAIR) {' 'if (runs >= list_len / PAIR && runs > 1) {'
+fault "a list is as long as its last pair begins" \
+    'if (runs > list_len / PAIR) {' 'if (runs > (list_len + PAIR - 1) / PAIR) {'
+fault "no pair where nothing changed is one of no bytes" \
+    'write_runs(list, old, new, length);' \
+    'write_runs(list, old, new, length); if (runs == 0) return write_pair(list, 0, 0), 1;'
+fault "16 after 1" \
+    'if (list_len < PAIR || work_len < image_len)' \
+    'if (!length_fits(image_len)) return 1; if (list_len < PAIR || work_len < image_len)'
+fault "16 after 6" \
+    'if (list_len < PAIR || work_len < image_len)' \
+    'struct view v; uint32_t answer = open_image(&v, image, image_len); if (answer != ACCEPTED) return answer; if (list_len < PAIR || work_len < image_len)'
+fault "a list of 7 bytes is taken" \
+    'if (list_len < PAIR ||' 'if (list_len < PAIR - 1 ||'
+fault "a list of 8 bytes is refused" \
+    'if (list_len < PAIR ||' 'if (list_len <= PAIR ||'
+fault "a working slice of L - 1 bytes is taken" \
+    '|| work_len < image_len)' '|| work_len + 1 < image_len)'
+fault "a working slice of L bytes is refused" \
+    '|| work_len < image_len)' '|| work_len <= image_len)'
+fault "the list's length cut to 32 bits" \
+    'if (list_len < PAIR ||' 'if ((uint32_t)list_len < PAIR ||'
+fault "the working slice's length cut to 32 bits" \
+    '|| work_len < image_len)' '|| (uint32_t)work_len < image_len)'
+fault "a refused call answers a pair" \
+    '*pairs = 0;' '*pairs = 1;'
+fault "the working slice is taken to hold what it held" \
+    'copy(work, image, image_len);' 'copy(work, image, image_len / 2);'
+fault "a byte behind the working slice is written" \
+    'copy(work, image, image_len);' \
+    'copy(work, image, image_len); if (work_len > image_len) work[work_len] = 0;'
+misbook "the book: 16 not put for the list" \
+    'return work_len < image_len || list_len < 8 ? 16 : 0;' \
+    'return work_len < image_len ? 16 : 0;'
+misbook "the book: 16 not put for the working slice" \
+    'return work_len < image_len || list_len < 8 ? 16 : 0;' \
+    'return list_len < 8 ? 16 : 0;'
+
 echo "$passed passed, $failed failed"
 [ "$failed" -eq 0 ]

@@ -80,6 +80,12 @@ test_that "plain C that does not count the slot where the key is met: found" fin
 edited tests/reference/plain.c 's/^        return 7;$/        return *slots_read = 1, 7;/' "$work/refused.c"
 plain refused "$work/refused.c" || exit 2
 test_that "plain C that counts a slot on 7: found" finds refused
+edited tests/reference/plain.c 's/^        to = write_pair(to, at, end - at);$/        to = write_pair(to, at, end - at - (end - at > 4));/' "$work/cut.c"
+plain cut "$work/cut.c" || exit 2
+test_that "plain C that cuts a listed run short: found" finds cut
+edited tests/reference/plain.c 's/^        write_pair(list, 0, length);$/        write_pair(list + (list_len \/ PAIR - 1) * PAIR, 0, 0); &/' "$work/over.c"
+plain over "$work/over.c" || exit 2
+test_that "plain C that writes pairs before it finds that they do not fit: found" finds over
 wrong one-round 's/^    while (is_taken(v, slot)) {$/    for (uint32_t i = 1; i < v->slots \&\& is_taken(v, slot); i++) {/'
 wrong no-version-1.0.0 's/ image\[AT_LAST_VERSION\] <= NOTES_VERSION;/ image[AT_LAST_VERSION] - 1u <= 1;/'
 misread used-from-0 's/used: next - data/used: next/'

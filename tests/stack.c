@@ -1,6 +1,7 @@
-/* How much stack the check and the compaction take: each runs on a thread whose
- * stack is little larger than the header (host/bhtf.h) says, with an unreadable
- * page at its end, and the bytes that it wrote there are counted.
+/* How much stack the check and the compaction take, this also in the form that
+ * lists what changed: each runs on a thread whose stack is little larger than
+ * the header (host/bhtf.h) says, with an unreadable page at its end, and the
+ * bytes that it wrote there are counted.
  * Ends with "N passed, 0 failed". */
 #define _DEFAULT_SOURCE
 
@@ -17,6 +18,7 @@ enum { PAGE = 4096, PAINT = 0xA7, KEY = 4, TEXT = 200 };
 
 struct asked {
     uint8_t *image;
+    uint8_t *work; /* as long as the image */
     size_t length;
     uint32_t number;
     uint32_t verdict;
@@ -57,6 +59,17 @@ static void *run_compact(void *given)
     struct asked *a = given;
 
     a->number = subject.compact(a->image, a->length);
+    return NULL;
+}
+
+static void *run_compact_listed(void *given)
+{
+    struct asked *a = given;
+    uint8_t list[8];
+    uint32_t pairs;
+
+    a->number = subject.compact_listed(a->image, a->length, a->work,
+                                       a->length, list, sizeof list, &pairs);
     return NULL;
 }
 
@@ -112,10 +125,11 @@ static void fill(uint8_t *image, size_t length, uint32_t slots)
 static void try(const char *what, size_t length, uint32_t slots)
 {
     uint8_t *image = map(length);
-    struct asked a = { image, length, 77, 77, 77 };
-    size_t thread, taken, packing;
+    uint8_t *work = map(length);
+    struct asked a = { image, work, length, 77, 77, 77 };
+    size_t thread, taken, packing, listing;
 
-    if (image == NULL) {
+    if (image == NULL || work == NULL) {
         failed++;
         return;
     }
@@ -124,16 +138,24 @@ static void try(const char *what, size_t length, uint32_t slots)
     taken = stack_of(run_check, CHECK_SAID, &a);
     expect("answer", a.number, 0);
     expect("verdict", a.verdict, 0);
+    listing = stack_of(run_compact_listed, COMPACT_SAID, &a);
+    expect("answer", a.number, 0);
+    fill(image, length, slots);
     packing = stack_of(run_compact, COMPACT_SAID, &a);
     expect("answer", a.number, 0);
-    expect("the threads ran", thread > 0 && taken > 0 && packing > 0, 1);
+    expect("the threads ran",
+           thread > 0 && taken > 0 && packing > 0 && listing > 0, 1);
     expect("the check takes what the header says",
            taken <= CHECK_SAID + thread, 1);
     expect("compaction takes what the header says",
            packing <= COMPACT_SAID + thread, 1);
-    printf("%s: check %zu bytes of stack, compaction %zu, %zu of them the "
-           "thread's own\n", what, taken, packing, thread);
+    expect("its form with a list takes what the header says",
+           listing <= COMPACT_SAID + thread, 1);
+    printf("%s: check %zu bytes of stack, compaction %zu, with a list %zu, "
+           "%zu of them the thread's own\n", what, taken, packing, listing,
+           thread);
     munmap(image, length);
+    munmap(work, length);
 }
 
 int main(void)

@@ -2,8 +2,9 @@
 //!   station [--seed S] [--lists N]
 //! N lists start from create, N from a sound image that no call made, with the book read off it.
 //! Compared after every call: the number, C, the message's bytes, and the slots read, which are counted here on the image before the
-//! call and may not be more than its points and one; after every list: that the file finds the book's points with the book's texts,
-//! that the walk shows each of them once, and that the check calls the file sound.
+//! call and may not be more than its points and one; the list of what changed, byte for byte, and that a copy of the file before the
+//! call is the file after it once the listed stretches are copied; after every list: that the file finds the book's points with the
+//! book's texts, that the walk shows each of them once, and that the check calls the file sound.
 //! Status 0 if every list agreed.
 use std::collections::{BTreeMap, BTreeSet};
 
@@ -36,9 +37,44 @@ extern "C" {
         slots_read: *mut u32,
     ) -> u32;
     fn bhtf_compact(image: *mut u8, len: usize) -> u32;
+    fn bhtf_add_listed(
+        image: *mut u8,
+        len: usize,
+        key: *const u8,
+        key_len: usize,
+        data: *const u8,
+        data_len: usize,
+        mode: u32,
+        work: *mut u8,
+        work_len: usize,
+        list: *mut u8,
+        list_len: usize,
+        pairs: *mut u32,
+    ) -> u32;
+    fn bhtf_delete_listed(
+        image: *mut u8,
+        len: usize,
+        key: *const u8,
+        key_len: usize,
+        work: *mut u8,
+        work_len: usize,
+        list: *mut u8,
+        list_len: usize,
+        pairs: *mut u32,
+    ) -> u32;
+    fn bhtf_compact_listed(
+        image: *mut u8,
+        len: usize,
+        work: *mut u8,
+        work_len: usize,
+        list: *mut u8,
+        list_len: usize,
+        pairs: *mut u32,
+    ) -> u32;
 }
 
 const HEADER: usize = 4;
+const PAIR: usize = 8;
 const SCRAMBLE: usize = 512;
 const TABLE: usize = 2048;
 
@@ -102,6 +138,36 @@ impl File {
         unsafe { bhtf_compact(self.0.as_mut_ptr(), self.0.len()) }
     }
 
+    // The calls that write, with the list of what changed.
+
+    fn add_listed(&mut self, key: &[u8], data: &[u8], mode: u32, lent: &mut Lent) -> u32 {
+        let (image, len) = (self.0.as_mut_ptr(), self.0.len());
+        let (work, work_len) = (lent.work.as_mut_ptr(), lent.work.len());
+        let (list, list_len) = (lent.list.as_mut_ptr(), lent.list.len());
+        let (data, data_len) = (data.as_ptr(), data.len());
+        let pairs = &mut lent.pairs;
+        unsafe {
+            bhtf_add_listed(
+                image, len, key.as_ptr(), key.len(), data, data_len, mode, work, work_len, list, list_len, pairs,
+            )
+        }
+    }
+
+    fn delete_listed(&mut self, key: &[u8], lent: &mut Lent) -> u32 {
+        let (image, len) = (self.0.as_mut_ptr(), self.0.len());
+        let (work, work_len) = (lent.work.as_mut_ptr(), lent.work.len());
+        let (list, list_len) = (lent.list.as_mut_ptr(), lent.list.len());
+        let pairs = &mut lent.pairs;
+        unsafe { bhtf_delete_listed(image, len, key.as_ptr(), key.len(), work, work_len, list, list_len, pairs) }
+    }
+
+    fn compact_listed(&mut self, lent: &mut Lent) -> u32 {
+        let (image, len) = (self.0.as_mut_ptr(), self.0.len());
+        let (work, work_len) = (lent.work.as_mut_ptr(), lent.work.len());
+        let (list, list_len) = (lent.list.as_mut_ptr(), lent.list.len());
+        unsafe { bhtf_compact_listed(image, len, work, work_len, list, list_len, &mut lent.pairs) }
+    }
+
     fn count(&self) -> (u32, u32) {
         let mut points = !0;
         let number = unsafe { bhtf_count(self.0.as_ptr(), self.0.len(), &mut points) };
@@ -126,6 +192,57 @@ impl File {
         let (mut verdict, mut slot) = (!0, !0);
         unsafe { bhtf_check(self.0.as_ptr(), self.0.len(), &mut verdict, &mut slot) == 0 && verdict == 0 }
     }
+}
+
+/// What a call is lent to list what it changed, a working slice and the list; and the pairs that it answers.
+struct Lent {
+    work: Vec<u8>,
+    list: Vec<u8>,
+    pairs: u32,
+}
+
+impl Lent {
+    /// For an image of that length; now and then too short, and the list often too short for the pairs.
+    fn new(chance: &mut Chance, length: usize) -> Lent {
+        let work = if chance.one_in(16) { chance.below(length) } else { length + chance.below(2) };
+        let list = [chance.below(2 * PAIR), PAIR + chance.below(64), 200][chance.below(3)];
+        Lent { work: vec![chance.below(256) as u8; work], list: chance.bytes(list), pairs: !0 }
+    }
+
+    fn too_short(&self, length: usize) -> bool {
+        self.list.len() < PAIR || self.work.len() < length
+    }
+
+    /// The image before once the listed stretches of the one after are copied into it; none if they leave it.
+    fn copied(&self, mut before: Vec<u8>, after: &[u8]) -> Option<Vec<u8>> {
+        for pair in self.list.chunks(PAIR).take(self.pairs as usize) {
+            let (at, length) = (field(pair, 0), field(pair, 4));
+            before.get_mut(at..at + length)?.copy_from_slice(&after[at..at + length]);
+        }
+        Some(before)
+    }
+}
+
+/// Offset and length of each unbroken run of bytes that differ.
+fn changes(before: &[u8], after: &[u8]) -> Vec<(usize, usize)> {
+    let mut runs: Vec<(usize, usize)> = Vec::new();
+    for i in (0..before.len()).filter(|&i| before[i] != after[i]) {
+        match runs.last_mut() {
+            Some((at, length)) if *at + *length == i => *length += 1,
+            _ => runs.push((i, 1)),
+        }
+    }
+    runs
+}
+
+/// Writes the runs, or the pair 0, L if they do not fit; how many pairs.
+fn write_list(list: &mut [u8], runs: &[(usize, usize)], length: usize) -> u32 {
+    let pairs = if runs.len() * PAIR > list.len() { &[(0, length)] } else { runs };
+    for (i, &(at, length)) in pairs.iter().enumerate() {
+        put(list, i * PAIR, at);
+        put(list, i * PAIR + 4, length);
+    }
+    pairs.len() as u32
 }
 
 /// A point of the book: its text, how many bytes its place holds, and whether it has one.
@@ -517,8 +634,26 @@ fn some_name(chance: &mut Chance, key_size: usize, known: &[Vec<u8>]) -> Vec<u8>
     }
 }
 
-/// What a call answers: its number, the text or the bytes of C, and the slots read, where the form reports them.
+/// What a call answers: its number; the text, or the bytes of C or of the list; and the slots read, where the form reports them.
 type Answer = (u32, Text, Option<u32>);
+
+/// A call by the form that lists what changed, on file and book: both answers, of the file what the list must hold.
+fn listed(
+    chance: &mut Chance,
+    file: &mut File,
+    call: impl FnOnce(&mut File, &mut Lent) -> u32,
+    step: impl FnOnce() -> u32,
+) -> (Answer, Answer) {
+    let mut lent = Lent::new(chance, file.0.len());
+    let (before, mut list) = (file.0.clone(), lent.list.clone());
+    let want = if lent.too_short(before.len()) { 16 } else { step() };
+    let got = call(file, &mut lent);
+    let runs = changes(&before, &file.0);
+    let pairs = if want == 0 { write_list(&mut list, &runs, before.len()) } else { 0 };
+    let copied = lent.copied(before, &file.0).is_some_and(|copy| copy == file.0);
+    let bytes = |pairs: u32, list: &[u8], copied: bool| Some([&pairs.to_be_bytes(), list, &[copied as u8]].concat());
+    ((got, bytes(lent.pairs, &lent.list, copied), None), (want, bytes(pairs, &list, true), None))
+}
 
 /// One call on the file and on the book: its name and both answers.
 fn call(
@@ -529,6 +664,7 @@ fn call(
 ) -> (&'static str, Answer, Answer) {
     let number = |n| (n, None, None);
     let with_read = |(n, read)| (n, None, Some(read));
+    let with_list = chance.one_in(8);
     let counted = !chance.one_in(4);
     // none where the call is refused before its search
     let searches = if book.named(key) { slots_read(&file.0, key) as u32 } else { 0 };
@@ -539,10 +675,19 @@ fn call(
             let length = chance.below(size + 1);
             let data = chance.bytes(length);
             let mode = [1, 2, 2, 3, 3, 4, 0, 5, !0][chance.below(9)];
+            if with_list {
+                let add = |file: &mut File, lent: &mut Lent| file.add_listed(key, &data, mode, lent);
+                let (got, want) = listed(chance, file, add, || book.add(key, &data, mode));
+                return ("add with a list", got, want);
+            }
             let want = book.add(key, &data, mode);
             let got =
                 if counted { with_read(file.add_slots(key, &data, mode)) } else { number(file.add(key, &data, mode)) };
             ("add", got, (want, None, read(want)))
+        }
+        10..=13 if with_list => {
+            let (got, want) = listed(chance, file, |file, lent| file.delete_listed(key, lent), || book.delete(key));
+            ("delete with a list", got, want)
         }
         10..=13 => {
             let want = book.delete(key);
@@ -559,6 +704,10 @@ fn call(
                 (number, text, None)
             };
             ("lookup", got, (want, text, read(want)))
+        }
+        18 if with_list => {
+            let (got, want) = listed(chance, file, File::compact_listed, || book.compact());
+            ("compact with a list", got, want)
         }
         18 => ("compact", number(file.compact()), number(book.compact())),
         _ => {

@@ -33,10 +33,16 @@ uint32_t bhtf_lookup_slots(const uint8_t *image, size_t image_len,
                            uint32_t *offset, uint32_t *length,
                            uint32_t *slots_read);
 uint32_t bhtf_compact(uint8_t *image, size_t image_len);
+uint32_t bhtf_add_listed(uint8_t *image, size_t image_len, const uint8_t *key,
+                         size_t key_len, const uint8_t *data, size_t data_len,
+                         uint32_t mode, uint8_t *work, size_t work_len,
+                         uint8_t *list, size_t list_len, uint32_t *pairs);
+uint32_t bhtf_delete_listed(uint8_t *image, size_t image_len,
+                            const uint8_t *key, size_t key_len, uint8_t *work,
+                            size_t work_len, uint8_t *list, size_t list_len,
+                            uint32_t *pairs);
+uint32_t bhtf_compact_listed(uint8_t *image, size_t image_len, uint8_t *work,
+                             size_t work_len, uint8_t *list, size_t list_len,
+                             uint32_t *pairs);
 
-const struct calls subject = {
-    bhtf_create,    bhtf_add,          bhtf_delete,
-    bhtf_lookup,    bhtf_count,        bhtf_walk,
-    bhtf_check,     bhtf_add_slots,    bhtf_delete_slots,
-    bhtf_lookup_slots, bhtf_compact,
-};
+const struct calls subject = CALLS_OF(bhtf);

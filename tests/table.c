@@ -1,5 +1,5 @@
-/* 01's proved table, 02's empty notes and compaction, and the generator, run on
- * the code under test. Ends with "N passed, 0 failed".
+/* 01's proved table, 02's empty notes, compaction and lists of changes, and the
+ * generator, run on the code under test. Ends with "N passed, 0 failed".
  *
  * The hash is not an export; it is seen through home slots: on an empty table
  * an added key lands in slot hash mod N. 65536, 65535 and 65533 have no
@@ -382,6 +382,133 @@ static void unsound(void)
     expect("question 1", compact(), 1);
 }
 
+/* ---- the list of what changed ---- */
+
+#define PAIRS 8
+
+static uint8_t work[8192 + 1];
+static uint8_t pairs[8 * PAIRS];
+
+/* The next call's list: bytes that are no pair. */
+static void clear_list(void)
+{
+    memset(pairs, 0xEE, sizeof pairs);
+    memset(work, 0x77, sizeof work);
+}
+
+static uint32_t add_listed(uint8_t name, const char *text, size_t size,
+                           uint32_t mode, size_t list_len, uint32_t *count)
+{
+    clear_list();
+    return subject.add_listed(image, length, &name, 1, (const uint8_t *)text,
+                              size, mode, work, length, pairs, list_len,
+                              count);
+}
+
+static uint32_t delete_listed(uint8_t name, uint32_t *count)
+{
+    clear_list();
+    return subject.remove_listed(image, length, &name, 1, work, length, pairs,
+                                 sizeof pairs, count);
+}
+
+static uint32_t compact_listed(uint32_t *count)
+{
+    clear_list();
+    return subject.compact_listed(image, length, work, length, pairs,
+                                  sizeof pairs, count);
+}
+
+/* The list is these pairs, and the bytes behind them are as they were. */
+static void expect_pairs(const char *what, uint32_t count,
+                         const uint32_t (*want)[2], uint32_t wanted)
+{
+    uint32_t wrong = 0;
+
+    expect(what, count, wanted);
+    for (uint32_t i = 0; i < 4 * 2 * wanted; i++)
+        wrong += pairs[i] !=
+                 (uint8_t)(want[i / 8][i / 4 % 2] >> (24 - 8 * (i % 4)));
+    for (uint32_t i = 4 * 2 * wanted; i < sizeof pairs; i++)
+        wrong += pairs[i] != 0xEE;
+    expect("  bytes of the list that are wrong", wrong, 0);
+}
+
+/* By value, byte for byte: C's last byte, X's last and M; of slot 3 the key and
+ * a byte of the offset 0x1000; of the message the letter, and the length's last
+ * byte with the text. */
+static void changes_listed(void)
+{
+    static const uint32_t added[][2] = { { 23, 1 },   { 55, 5 },
+                                         { 2063, 1 }, { 2066, 1 },
+                                         { 4096, 1 }, { 4099, 2 } };
+    static const uint32_t deleted[][2] = { { 23, 1 }, { 2063, 1 },
+                                           { 2066, 1 }, { 4096, 1 } };
+    static const uint32_t packed[][2] = { { 55, 5 }, { 4096, 1 }, { 4099, 2 } };
+    static const uint32_t other[][2] = { { 4100, 1 } };
+    uint32_t n;
+
+    create(8192, 1, 4, 0);
+    expect("add", add_listed(1, "P", 1, 1, sizeof pairs, &n), 0);
+    expect_pairs("pairs of an add", n, added, 6);
+    expect("replace", add_listed(1, "Q", 1, 2, 8, &n), 0);
+    expect_pairs("pairs of a replace", n, other, 1);
+    expect("replace by the same", add_listed(1, "Q", 1, 2, 8, &n), 0);
+    expect_pairs("nothing changed", n, NULL, 0);
+    expect("present", add_listed(1, "R", 1, 1, 8, &n), 9);
+    expect_pairs("refused", n, NULL, 0);
+    expect("delete", delete_listed(1, &n), 0);
+    expect_pairs("pairs of a delete", n, deleted, 4);
+    expect("delete again", delete_listed(1, &n), 14);
+    expect_pairs("absent", n, NULL, 0);
+    expect("compact", compact_listed(&n), 0);
+    expect_pairs("pairs of a compaction", n, packed, 3);
+    expect("compact again", compact_listed(&n), 0);
+    expect_pairs("nothing dead", n, NULL, 0);
+}
+
+/* Six pairs take 48 bytes. */
+static void list_too_short(void)
+{
+    static const uint32_t whole[][2] = { { 0, 8192 } };
+    static const size_t sizes[] = { 8, 9, 40, 47 };
+    uint32_t n;
+
+    for (int i = 0; i < 4; i++) {
+        create(8192, 1, 4, 0);
+        expect("add", add_listed(1, "P", 1, 1, sizes[i], &n), 0);
+        expect_pairs("pairs do not fit", n, whole, 1);
+        expect("the point is there", get32(AT_COUNT), 1);
+    }
+    create(8192, 1, 4, 0);
+    expect("add", add_listed(1, "P", 1, 1, 48, &n), 0);
+    expect("pairs fit", n, 6);
+}
+
+/* 16 before 1; it changes nothing. */
+static void slices_too_short(void)
+{
+    const uint8_t name = 1;
+    uint32_t n = 77;
+
+    create(8192, 1, 4, 0);
+    expect("list of 7", add_listed(1, "P", 1, 1, 7, &n), 16);
+    expect_pairs("no pairs", n, NULL, 0);
+    expect("working slice of L - 1",
+           subject.add_listed(image, length, &name, 1, NULL, 0, 1, work,
+                              length - 1, pairs, sizeof pairs, &n), 16);
+    expect("C", get32(AT_COUNT), 0);
+    length--;
+    expect("16 before 1",
+           subject.remove_listed(image, length, &name, 1, work, length - 1,
+                                 pairs, sizeof pairs, &n), 16);
+    expect("16 before 1",
+           subject.compact_listed(image, length, work, length, pairs, 7, &n),
+           16);
+    expect("1", compact_listed(&n), 1);
+    expect_pairs("no pairs", n, NULL, 0);
+}
+
 /* ---- the generator ---- */
 
 /* Powers of the multiplier and their sums, by another route than one step
@@ -431,6 +558,9 @@ int main(void)
     packing();
     nothing_dead();
     unsound();
+    changes_listed();
+    list_too_short();
+    slices_too_short();
     generator();
     free(image);
     printf("%u passed, %u failed\n", passed, failed);

@@ -65,4 +65,9 @@ test_that "found: messages that touch move as one too many" \
     'i < count && moves[i].from <= end + 1; i++'
 test_that "found: a digit of the places is not sorted by" \
     finds 'shift < 32; shift += 11' 'shift < 11; shift += 11'
+test_that "found: a run that begins inside a word" \
+    finds 'while (at < length && old[at] == new[at])' \
+    'while (at < length && at % 8 == 0 && old[at] == new[at])'
+test_that "found: a list one pair too short" \
+    finds 'if (most-- == 0)' 'if (most-- <= 1)'
 tally

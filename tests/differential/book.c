@@ -38,6 +38,11 @@ void compare_book(const struct call *c, const struct answer *a)
 {
     struct book *b = &list.book;
 
+    if (c->form == LISTED &&
+        book_ask_listed(c->image_len, c->work_len, c->list_len) != 0) {
+        same_as_book("answer", a->number, 16);
+        return;
+    }
     if (c->image_len != lent.length) {
         same_as_book("answer", a->number, 1);
         return;

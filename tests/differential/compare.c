@@ -10,12 +10,7 @@
 
 #define UNSET 0xA5A5A5A5u
 
-static const struct calls plain = {
-    plain_create,   plain_add,         plain_delete,
-    plain_lookup,   plain_count,       plain_walk,
-    plain_check,    plain_add_slots,   plain_delete_slots,
-    plain_lookup_slots, plain_compact,
-};
+static const struct calls plain = CALLS_OF(plain);
 
 /* A longer slice than the image starts in the bytes before it. */
 static uint8_t *slice(uint8_t *image, size_t length)
@@ -39,15 +34,40 @@ static void perform_counted(const struct calls *f, uint8_t *s,
                                     &a->second, &a->read);
 }
 
+/* By the form that lists what changed. */
+static void perform_listed(const struct calls *f, uint8_t *s,
+                           const struct call *c, struct answer *a)
+{
+    int is_plain = f == &plain;
+    uint8_t *w = is_plain ? work.plain : work.library;
+    uint8_t *l = is_plain ? listing.plain : listing.library;
+    size_t n = c->image_len;
+
+    if (c->kind == ADD)
+        a->number = f->add_listed(s, n, c->key, c->key_len, c->data,
+                                  c->data_len, c->mode, w, c->work_len, l,
+                                  c->list_len, &a->pairs);
+    else if (c->kind == DELETE)
+        a->number = f->remove_listed(s, n, c->key, c->key_len, w, c->work_len,
+                                     l, c->list_len, &a->pairs);
+    else
+        a->number = f->compact_listed(s, n, w, c->work_len, l, c->list_len,
+                                      &a->pairs);
+}
+
 static struct answer perform(const struct calls *f, uint8_t *image,
                              const struct call *c)
 {
-    struct answer a = { 0, UNSET, UNSET, UNSET };
+    struct answer a = { 0, UNSET, UNSET, UNSET, UNSET };
     uint8_t *s = slice(image, c->image_len);
     size_t n = c->image_len;
 
-    if (c->counted) {
+    if (c->form == COUNTED) {
         perform_counted(f, s, c, &a);
+        return a;
+    }
+    if (c->form == LISTED) {
+        perform_listed(f, s, c, &a);
         return a;
     }
     switch (c->kind) {
@@ -80,6 +100,11 @@ static struct answer perform(const struct calls *f, uint8_t *image,
     return a;
 }
 
+struct answer perform_plain(uint8_t *image, const struct call *c)
+{
+    return perform(&plain, image, c);
+}
+
 static void same(const char *what, uint32_t library, uint32_t reference)
 {
     if (library != reference)
@@ -106,8 +131,10 @@ static void compare_answers(const struct call *c, const struct answer *a,
                             const struct answer *b)
 {
     same("answer", a->number, b->number);
-    if (c->counted)
+    if (c->form == COUNTED)
         compare_read(a, b);
+    if (c->form == LISTED)
+        same("pairs", a->pairs, b->pairs);
     if (c->kind == LOOKUP) {
         same("message offset", a->first, b->first);
         same("message length", a->second, b->second);
@@ -141,22 +168,13 @@ static void same_bytes(const char *what, const uint8_t *a, const char *one,
     exit(1);
 }
 
-static int all_guard(const uint8_t *at, uint32_t size)
-{
-    for (uint32_t i = 0; i < size; i++)
-        if (at[i] != GUARD_BYTE)
-            return 0;
-    return 1;
-}
-
 static void compare_bytes(const struct call *c, uint32_t number)
 {
     same_bytes("image", lent.library, "library", lent.plain, "plain");
     if (c->kind > COMPACT || number != 0)
         same_bytes("a refused or reading call changed the image",
                    lent.library, "after", lent.before, "before");
-    if (!all_guard(lent.library - GUARD, GUARD) ||
-        !all_guard(lent.library + lent.length, lent.shift))
+    if (!guards_hold(lent.library, lent.length, lent.shift))
         fail("bytes outside the image changed");
 }
 
@@ -193,6 +211,8 @@ struct answer run_call(void)
         keep_old_calls();
     if (c->key != NULL)
         memcpy(key, c->key, kept);
+    if (c->form == LISTED)
+        lend_listed();
     a = perform(&subject, lent.library, c);
     if (c->key != NULL && memcmp(key, c->key, kept) != 0)
         fail("the lent key changed");
@@ -206,10 +226,27 @@ struct answer run_call(void)
         compare_book(c, &a);
     if (c->kind == COMPACT && a.number == 0)
         compare_packed();
+    if (c->form == LISTED)
+        compare_listed(c, &a);
     if (c->kind <= COMPACT && a.number == 0)
         memcpy(lent.before, lent.library, lent.length);
     seen[c->kind][a.number < NUMBERS ? a.number : 0]++;
     return a;
+}
+
+/* Three of four by the form with slots read where there is one; now and then
+ * with the list, which takes as long as the image is. */
+static enum form choose_form(enum kind kind)
+{
+    int writes = kind == ADD || kind == DELETE || kind == COMPACT;
+
+    if (run.old_calls)
+        return PLAIN;
+    if (writes && one_in(lent.length > 1000000 ? 40 : kind == COMPACT ? 3 : 6))
+        return LISTED;
+    if ((kind == ADD || kind == DELETE || kind == LOOKUP) && !one_in(4))
+        return COUNTED;
+    return PLAIN;
 }
 
 void new_call(enum kind kind)
@@ -217,6 +254,5 @@ void new_call(enum kind kind)
     memset(&list.now, 0, sizeof list.now);
     list.now.kind = kind;
     list.now.image_len = lent.length;
-    list.now.counted = (kind == ADD || kind == DELETE || kind == LOOKUP) &&
-                       !run.old_calls && !one_in(4);
+    list.now.form = choose_form(kind);
 }

@@ -1,4 +1,4 @@
-/* Images, keys and data that end where an unreadable page begins. */
+/* Images, keys, data and other slices that end where an unreadable page begins. */
 #define _DEFAULT_SOURCE
 
 #include "parts.h"
@@ -11,6 +11,8 @@
 #define ROOM (GIB + 16 * PAGE) /* bytes kept for one image */
 
 struct lent lent;
+struct slice work;
+struct slice listing;
 uint8_t *data_start;
 size_t data_size;
 uint8_t *key_end;
@@ -66,25 +68,96 @@ static void map_data(void)
     mprotect(data_start + data_size, PAGE, PROT_NONE);
 }
 
+/* Where the machine allows, lengths that do not fit 32 bits can be lent. */
+static void map_slice(struct slice *s)
+{
+    size_t size = ROOM + (data_size > POOL ? data_size - POOL : 0);
+
+    s->library_end = map_before_wall(size);
+    s->plain_end = map_before_wall(size);
+    s->before = map(SEEN_MOST, MAP_NORESERVE);
+}
+
 void map_all(void)
 {
     lent.library_end = map_before_wall(ROOM);
     lent.plain_end = map_before_wall(ROOM);
     lent.before = map(ROOM, MAP_NORESERVE);
+    lent.scratch = map(ROOM, MAP_NORESERVE);
     key_end = map_before_wall(PAGE);
     map_data();
+    map_slice(&work);
+    map_slice(&listing);
+}
+
+static uint32_t choose_shift(void)
+{
+    static const uint32_t shifts[] = { 0, 0, 0, 1, 2, 7 };
+
+    return PICK(shifts);
+}
+
+static void set_guards(uint8_t *at, size_t length, uint32_t shift)
+{
+    memset(at - GUARD, GUARD_BYTE, GUARD);
+    memset(at + length, GUARD_BYTE, shift);
+}
+
+static int all_guard(const uint8_t *at, uint32_t size)
+{
+    for (uint32_t i = 0; i < size; i++)
+        if (at[i] != GUARD_BYTE)
+            return 0;
+    return 1;
+}
+
+int guards_hold(const uint8_t *at, size_t length, uint32_t shift)
+{
+    return all_guard(at - GUARD, GUARD) && all_guard(at + length, shift);
 }
 
 void set_length(uint32_t length)
 {
-    static const uint32_t shifts[] = { 0, 0, 0, 1, 2, 7 };
-
     lent.length = length;
-    lent.shift = PICK(shifts);
+    lent.shift = choose_shift();
     lent.library = lent.library_end - lent.shift - length;
     lent.plain = lent.plain_end - lent.shift - length;
-    memset(lent.library - GUARD, GUARD_BYTE, GUARD);
-    memset(lent.library + length, GUARD_BYTE, lent.shift);
+    set_guards(lent.library, length, lent.shift);
+}
+
+void lend_slice(struct slice *s, size_t length)
+{
+    s->length = length;
+    s->shift = choose_shift();
+    s->library = s->library_end - s->shift - length;
+    s->plain = s->plain_end - s->shift - length;
+    set_guards(s->library, length, s->shift);
+}
+
+/* Random bytes, however many. */
+static void fill_from_pool(uint8_t *to, size_t size)
+{
+    size_t piece;
+
+    for (size_t at = 0; at < size; at += piece) {
+        piece = size - at < MIB16 ? size - at : MIB16;
+        memcpy(to + at, data_start + below((uint32_t)(POOL - piece + 1)),
+               piece);
+    }
+}
+
+size_t seen_of(const struct slice *s)
+{
+    return s->length < SEEN_MOST ? s->length : SEEN_MOST;
+}
+
+void fill_slice(struct slice *s)
+{
+    size_t seen = seen_of(s);
+
+    fill_from_pool(s->library, seen);
+    memcpy(s->plain, s->library, seen);
+    memcpy(s->before, s->library, seen);
 }
 
 void share_image(void)
@@ -95,12 +168,7 @@ void share_image(void)
 
 void old_content(void)
 {
-    uint32_t piece;
-
-    for (uint32_t at = 0; at < lent.length; at += piece) {
-        piece = lent.length - at < MIB16 ? lent.length - at : MIB16;
-        memcpy(lent.library + at, data_start + below(POOL - piece + 1), piece);
-    }
+    fill_from_pool(lent.library, lent.length);
     share_image();
 }
 

@@ -19,9 +19,12 @@
 /* Those up to compaction write the image. */
 enum kind { CREATE, ADD, DELETE, COMPACT, LOOKUP, COUNT, WALK, CHECK, KINDS };
 
-#define NUMBERS 16 /* answers from 0 to 15 */
+#define NUMBERS 17 /* answers from 0 to 16 */
 
 extern const char *const kind_name[KINDS];
+
+/* As 01 has the call; with slots read; with the list of what changed. */
+enum form { PLAIN, COUNTED, LISTED };
 
 struct call {
     enum kind kind;
@@ -35,7 +38,9 @@ struct call {
     uint32_t slots;
     uint32_t seed;
     uint32_t from; /* walk */
-    int counted;   /* add, delete, lookup: by the form with slots read */
+    enum form form;
+    size_t work_len; /* of a listed call */
+    size_t list_len;
 };
 
 /* first and second: the call's outputs in the order of its arguments. */
@@ -43,7 +48,8 @@ struct answer {
     uint32_t number;
     uint32_t first;
     uint32_t second;
-    uint32_t read; /* slots, of a counted call */
+    uint32_t read;  /* slots, of a counted call */
+    uint32_t pairs; /* of a listed call */
 };
 
 /* ---- the state of a run (differential.c) ---- */
@@ -99,10 +105,27 @@ struct lent {
     uint8_t *library;
     uint8_t *plain;
     uint8_t *before;
+    uint8_t *scratch; /* room for one image more */
     uint32_t shift; /* guard bytes behind the image */
     uint32_t length;
 };
 extern struct lent lent;
+
+/* A slice that both are lent beside the image. What it held before the call is
+ * kept of its first SEEN_MOST bytes. */
+#define SEEN_MOST 262144u
+
+struct slice {
+    uint8_t *library_end;
+    uint8_t *plain_end;
+    uint8_t *library;
+    uint8_t *plain;
+    uint8_t *before;
+    uint32_t shift; /* guard bytes behind it */
+    size_t length;
+};
+extern struct slice work;
+extern struct slice listing; /* of changes */
 
 extern uint8_t *data_start;
 extern size_t data_size;
@@ -118,6 +141,18 @@ void share_image(void);
 
 /* Both start from random bytes. */
 void old_content(void);
+
+/* A slice of the given length, with what was there before. */
+void lend_slice(struct slice *s, size_t length);
+
+/* The same random bytes for both. */
+void fill_slice(struct slice *s);
+
+/* How many of its bytes are filled and compared. */
+size_t seen_of(const struct slice *s);
+
+/* Are the bytes around what the library was lent as they were? */
+int guards_hold(const uint8_t *at, size_t length, uint32_t shift);
 
 /* Write to both images. */
 void poke(size_t offset, uint8_t value);
@@ -147,6 +182,9 @@ void new_call(enum kind kind);
 
 /* Runs list.now on all sides and compares. */
 struct answer run_call(void);
+
+/* A call on one side. */
+struct answer perform_plain(uint8_t *image, const struct call *c);
 
 void same_as_book(const char *what, uint32_t library, uint32_t book);
 void compare_book(const struct call *c, const struct answer *a);
@@ -236,6 +274,15 @@ void sound_image(void);
 
 /* After an accepted one: the image against the one before. */
 void compare_packed(void);
+
+/* ---- the list of what changed (listed.c) ---- */
+
+/* Lends list.now a working slice and a list, as long as they may be or not. */
+void lend_listed(void);
+
+/* After the call: the list against plain C's and by its definition. Copies the
+ * listed stretches into the image before. */
+void compare_listed(const struct call *c, const struct answer *a);
 
 /* ---- damage.c, splice.c, lists.c ---- */
 

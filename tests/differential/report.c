@@ -30,8 +30,11 @@ static void print_call(const struct call *c)
         printf(", data of %zu bytes, mode %u", c->data_len, c->mode);
     if (c->kind == WALK)
         printf(", from slot %u", c->from);
-    if (c->counted)
+    if (c->form == COUNTED)
         printf(", with slots read");
+    if (c->form == LISTED)
+        printf(", working slice of %zu bytes, list of %zu", c->work_len,
+               c->list_len);
     printf("\n");
 }
 

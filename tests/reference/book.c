@@ -245,3 +245,8 @@ void book_compact(struct book *b)
             b->used += 4 + (uint64_t)e->held;
     }
 }
+
+uint32_t book_ask_listed(size_t image_len, size_t work_len, size_t list_len)
+{
+    return work_len < image_len || list_len < 8 ? 16 : 0;
+}

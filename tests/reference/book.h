@@ -47,4 +47,7 @@ uint32_t book_count(const struct book *b);
 /* The step of compaction. */
 void book_compact(struct book *b);
 
+/* Question 16 of the form with a list, put before the call's other ones. */
+uint32_t book_ask_listed(size_t image_len, size_t work_len, size_t list_len);
+
 #endif

@@ -17,6 +17,7 @@
 #define MESSAGE_MAX 16777215u
 #define MESSAGE_HEADER 4u
 #define OFFSET_SIZE 4u
+#define PAIR 8u /* a stretch's offset and length */
 #define SCRAMBLE 512u
 #define TABLE 2048u
 #define FIRST_CHARACTER 32u
@@ -871,4 +872,137 @@ uint32_t plain_compact(uint8_t *image, size_t image_len)
         put32(image + AT_LAST_PAGE, last_page(v.data, end));
     }
     return ACCEPTED;
+}
+
+/* ---- what changed ---- */
+
+/* The first place from at on where the bytes differ, or the length. */
+static size_t next_change(const uint8_t *old, const uint8_t *new, size_t at,
+                          size_t length)
+{
+    while (length - at >= PAGE && memcmp(old + at, new + at, PAGE) == 0)
+        at += PAGE;
+    while (at < length && old[at] == new[at])
+        at++;
+    return at;
+}
+
+/* Where the run of changed bytes that begins at a place ends. */
+static size_t run_end(const uint8_t *old, const uint8_t *new, size_t at,
+                      size_t length)
+{
+    while (at < length && old[at] != new[at])
+        at++;
+    return at;
+}
+
+static size_t count_runs(const uint8_t *old, const uint8_t *new,
+                         size_t length)
+{
+    size_t runs = 0;
+    size_t at = next_change(old, new, 0, length);
+
+    while (at < length) {
+        runs++;
+        at = next_change(old, new, run_end(old, new, at, length), length);
+    }
+    return runs;
+}
+
+static uint8_t *write_pair(uint8_t *to, size_t offset, size_t length)
+{
+    put32(to, (uint32_t)offset);
+    put32(to + 4, (uint32_t)length);
+    return to + PAIR;
+}
+
+static void write_runs(uint8_t *to, const uint8_t *old, const uint8_t *new,
+                       size_t length)
+{
+    size_t at = next_change(old, new, 0, length);
+
+    while (at < length) {
+        size_t end = run_end(old, new, at, length);
+
+        to = write_pair(to, at, end - at);
+        at = next_change(old, new, end, length);
+    }
+}
+
+/* All runs, or, where they do not fit, the whole image; how many pairs. */
+static uint32_t write_list(uint8_t *list, size_t list_len, const uint8_t *old,
+                           const uint8_t *new, size_t length)
+{
+    size_t runs = count_runs(old, new, length);
+
+    if (runs > list_len / PAIR) {
+        write_pair(list, 0, length);
+        return 1;
+    }
+    write_runs(list, old, new, length);
+    return (uint32_t)runs;
+}
+
+/* ---- the forms that list what changed ---- */
+
+/* Question 16; then the working slice has the image before the call. */
+static uint32_t begin_listed(const uint8_t *image, size_t image_len,
+                             uint8_t *work, size_t work_len, size_t list_len,
+                             uint32_t *pairs)
+{
+    *pairs = 0;
+    if (list_len < PAIR || work_len < image_len)
+        return 16;
+    copy(work, image, image_len);
+    return ACCEPTED;
+}
+
+/* What an accepted call changed. */
+static uint32_t end_listed(uint32_t answer, const uint8_t *image,
+                           size_t image_len, const uint8_t *work,
+                           uint8_t *list, size_t list_len, uint32_t *pairs)
+{
+    if (answer == ACCEPTED)
+        *pairs = write_list(list, list_len, work, image, image_len);
+    return answer;
+}
+
+uint32_t plain_add_listed(uint8_t *image, size_t image_len,
+                          const uint8_t *key, size_t key_len,
+                          const uint8_t *data, size_t data_len, uint32_t mode,
+                          uint8_t *work, size_t work_len, uint8_t *list,
+                          size_t list_len, uint32_t *pairs)
+{
+    uint32_t answer = begin_listed(image, image_len, work, work_len, list_len,
+                                   pairs);
+
+    if (answer == ACCEPTED)
+        answer = plain_add(image, image_len, key, key_len, data, data_len,
+                           mode);
+    return end_listed(answer, image, image_len, work, list, list_len, pairs);
+}
+
+uint32_t plain_delete_listed(uint8_t *image, size_t image_len,
+                             const uint8_t *key, size_t key_len,
+                             uint8_t *work, size_t work_len, uint8_t *list,
+                             size_t list_len, uint32_t *pairs)
+{
+    uint32_t answer = begin_listed(image, image_len, work, work_len, list_len,
+                                   pairs);
+
+    if (answer == ACCEPTED)
+        answer = plain_delete(image, image_len, key, key_len);
+    return end_listed(answer, image, image_len, work, list, list_len, pairs);
+}
+
+uint32_t plain_compact_listed(uint8_t *image, size_t image_len, uint8_t *work,
+                              size_t work_len, uint8_t *list, size_t list_len,
+                              uint32_t *pairs)
+{
+    uint32_t answer = begin_listed(image, image_len, work, work_len, list_len,
+                                   pairs);
+
+    if (answer == ACCEPTED)
+        answer = plain_compact(image, image_len);
+    return end_listed(answer, image, image_len, work, list, list_len, pairs);
 }

@@ -51,4 +51,21 @@ uint32_t plain_check(const uint8_t *image, size_t image_len,
  * image is not sound. */
 uint32_t plain_compact(uint8_t *image, size_t image_len);
 
+/* The same calls, which also list what they changed: pairs of offset and
+ * length, one for each run of bytes whose value changed, or the pair 0, L if
+ * these do not fit; how many pairs, 0 when refused. 16 for a list below 8
+ * bytes or a working slice shorter than the image. */
+uint32_t plain_add_listed(uint8_t *image, size_t image_len,
+                          const uint8_t *key, size_t key_len,
+                          const uint8_t *data, size_t data_len, uint32_t mode,
+                          uint8_t *work, size_t work_len, uint8_t *list,
+                          size_t list_len, uint32_t *pairs);
+uint32_t plain_delete_listed(uint8_t *image, size_t image_len,
+                             const uint8_t *key, size_t key_len,
+                             uint8_t *work, size_t work_len, uint8_t *list,
+                             size_t list_len, uint32_t *pairs);
+uint32_t plain_compact_listed(uint8_t *image, size_t image_len, uint8_t *work,
+                              size_t work_len, uint8_t *list, size_t list_len,
+                              uint32_t *pairs);
+
 #endif

@@ -43,4 +43,18 @@ uint32_t tuned_check(const uint8_t *image, size_t image_len,
 
 uint32_t tuned_compact(uint8_t *image, size_t image_len);
 
+/* The same calls, which also list what they changed. */
+uint32_t tuned_add_listed(uint8_t *image, size_t image_len,
+                          const uint8_t *key, size_t key_len,
+                          const uint8_t *data, size_t data_len, uint32_t mode,
+                          uint8_t *work, size_t work_len, uint8_t *list,
+                          size_t list_len, uint32_t *pairs);
+uint32_t tuned_delete_listed(uint8_t *image, size_t image_len,
+                             const uint8_t *key, size_t key_len,
+                             uint8_t *work, size_t work_len, uint8_t *list,
+                             size_t list_len, uint32_t *pairs);
+uint32_t tuned_compact_listed(uint8_t *image, size_t image_len, uint8_t *work,
+                              size_t work_len, uint8_t *list, size_t list_len,
+                              uint32_t *pairs);
+
 #endif

@@ -29,6 +29,7 @@ pub mod Reopened  -- the book read off a file
 pub mod Trimmed  -- the book's entries after a compaction
 pub mod Compacting  -- compaction keeps the relation
 pub mod Theorem  -- the theorem
+pub mod Forms  -- the theorem with the forms of document 02
 pub mod Reached  -- files that calls have reached
 pub mod Steps  -- what a call does to the book
 pub mod Numbers  -- which numbers a step of the book may answer

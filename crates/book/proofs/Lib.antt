@@ -3,3 +3,4 @@ pub mod CasesBook  -- the book, what file and book find, and what `Agreement` sa
 pub mod CasesNoted  -- empty notes
 pub mod CasesReopened  -- books read off images that no call of ours made
 pub mod CasesTrimmed  -- compaction
+pub mod CasesForms  -- the forms with a working slice

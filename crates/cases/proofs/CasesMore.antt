@@ -8,7 +8,7 @@ use mathlib.Core.List.{List, [], _∷_, _++_}
 use mathlib.Core.Option.{none, some}
 use Rattle.bhtf.specs.Bytes.{Bytes, zeros}
 use Rattle.bhtf.specs.Calls.{Answer, create}
-use Rattle.bhtf.specs.Lists.{Call, adding, deleting, looking, counting}
+use Rattle.bhtf.specs.Lists.{Call, adding, deleting, looking, counting, answers}
 use Rattle.bhtf.proofs.CasesBase.{inspect-definitions, headed, after, told, filed, Files, one, two, point, done, refused, shows, shows-none, counts}
 use Rattle.bhtf.proofs.CasesOthers.{others}
 use Rattle.book.specs.Book.{Entry, newBook}
@@ -16,6 +16,11 @@ use Rattle.book.specs.Demand.{termsOf}
 use Rattle.book.specs.Reopened.{bookOf, entriesFrom, entryAt}
 use Rattle.book.proofs.CasesBook.{booked, Books, Find, fileTexts, bookTexts}
 use Rattle.book.proofs.CasesReopened.{othersBook}
+use Rattle.book.specs.Steps.{perform}
+use Rattle.book.specs.Forms.{outcomeOf, performForm}
+use Rattle.book.proofs.CasesForms.{form-definitions, formsCalls, formsAnswers}
+use Rattle.compaction.proofs.CasesCompact.{compact-definitions}
+use Rattle.updates.proofs.CasesChanges.{changes}
 
 abbrev pub Both : ℕ → ℕ → List Call → List Answer → ℕ → Bytes → Type 0
 Both L N calls expected n bytes = Files L N calls expected n bytes × Books L N calls expected n
@@ -145,3 +150,9 @@ pub others-answers : (filed othersCalls others
     × (booked othersCalls othersBook ≡ othersAnswers ++ (shows 35 [] ∷ []))
 unfolding filed booked others
 others-answers = (refl, refl)
+
+-- ---- document 02, Job 8: the forms in a list of calls
+
+pub forms-file : answers performForm formsCalls (headed 1 4 8192) ≡ formsAnswers
+unfolding compact-definitions form-definitions changes perform outcomeOf performForm headed
+forms-file = refl

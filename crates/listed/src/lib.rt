@@ -1,5 +1,8 @@
 // Add and delete in the form that also lists what they changed: the image's bytes before the call are kept in a working
 // slice where the call may write, and compared with those after it.
+//     packed    compaction in this form
+pub mod packed;
+
 use add::add;
 use changes::fill_list_within;
 use changes::keep;

@@ -1,10 +1,14 @@
--- What the call answers and leaves, by the check's verdict. Assumes nothing.
+-- What the call answers and leaves, by the check's verdict.
+--     told-refused, told-sound, told-slot, told-count      number and image for each verdict
+--     compact-leaves, compact-small      a refused call leaves the image; an accepted one's is below 2^32
+-- Assumes nothing.
 use mathlib.Core.Path.{_≡_, refl, sym, ap, ap₂, _∙_}
-use Prim.Native.Nat.{ℕ}
+use Prim.Native.Nat.{ℕ, _^_, _<_}
 use native.Mathlib.Omega.{arith}
 use mathlib.Core.Bool.{Bool, true, false}
 use mathlib.Core.Option.{Option, none, some}
 use mathlib.Core.List.{[], _∷_}
+use lib.ListN.{length}
 use borrow.Author.Tests.{ne-eqb, eq-eqb}
 use Rattle.bhtf.specs.Bytes.{Bytes}
 use Rattle.bhtf.specs.Image.{layoutOf}
@@ -13,7 +17,7 @@ use Rattle.bhtf.specs.Calls.{plain, settled}
 use Rattle.bhtf.specs.Inspect.{lowest, slotFails, countSound, Verdict, sound, verdictOf, tableVerdict, check}
 use Rattle.compaction.specs.Compact.{isSound, compactNumber, compacted, compact}
 use Rattle.bhtf.proofs.Tests.{by-eq, zero-yes, zero-no}
-use Rattle.bhtf.proofs.Opened.{firstNo-none, firstNo-yes, firstNo-no, firstNo-opened, firstNo-refused}
+use Rattle.bhtf.proofs.Opened.{firstNo-none, firstNo-yes, firstNo-no, firstNo-opened, firstNo-refused, opened-facts}
 use Rattle.bhtf.proofs.Verdict.{check-open}
 
 -- the call from its number
@@ -109,3 +113,15 @@ pub told-count : (img : Bytes) → Verdict.countBad ≡ check img
 told-count img e =
     told-unsound img Verdict.countBad e count-no
     (λ n q. let z : _≡_ {A = ℕ} 0 1 = cc in absurd (omega arith))
+
+-- ---- by the number
+
+pub compact-leaves : (img : Bytes) → (compact img .answer .number ≡ 0 → ⊥) → compact img .after ≡ img
+compact-leaves img z = unchanged img (compactNumber img) refl (λ h. z (number-is img (compactNumber img) refl ∙ h))
+
+pub compact-small : (img : Bytes) → compact img .answer .number ≡ 0 → length img < 2 ^ 32
+compact-small img z =
+    let o : openNumber img ≡ 0 =
+    by-eq (openNumber img) 0 (λ e. e)
+    (λ e. absurd (e (sym (number-closed img e) ∙ sym (number-is img (compactNumber img) refl) ∙ z))) in
+    omega (arith, opened-facts img o .size-high)

@@ -10,11 +10,14 @@ use walk::next_taken;
 use words::fields::read_u32;
 use words::limits::KEY_FIELD;
 ghost use mathlib.Core.Path.{_≡_};
+ghost use lib.ListN.{length};
+ghost use Rattle.bhtf.specs.Bytes.{Bytes};
 ghost use Rattle.bhtf.specs.Inspect.{keyWalk, stopNumber, keyStart, check, verdictNumber};
 ghost use Rattle.walk.specs.Stops.{stopSlot};
 ghost use Rattle.station.specs.Codes.{verdictCode, verdictSlot};
 ghost use Rattle.bhtf.specs.Calls.{create, add, delete, lookup, lookupStart, lookupLength, count, addRead, deleteRead, lookupRead};
 ghost use Rattle.compaction.specs.Compact.{compact};
+ghost use Rattle.listed.specs.Lists.{Lists};
 
 // Makes the slice an empty file: keys of `size` bytes, `slots` slots (0 for 5,507), the scramble of the seed.
 #[no_mangle]
@@ -182,4 +185,53 @@ pub extern "C" fn bhtf_check(image: &[u8], verdict: &mut u32, slot: &mut u32) ->
             0
         }
     }
+}
+
+// Stores as `bhtf_add` does, and lists what changed; `pairs` is how many pairs the list has now, 0 when refused.
+#[no_mangle]
+pub extern "C" fn bhtf_add_listed(
+    image: &mut [u8],
+    key: &[u8],
+    bytes: &[u8],
+    mode: u32,
+    work: &mut [u8],
+    list: &mut [u8],
+    pairs: &mut u32,
+) -> u32
+    ensures { λ r. ⌜ Lists (λ (img : Bytes). add img (now (key .entry)) (now (bytes .entry)) mode)
+        (now (image .entry)) (length (now (work .entry))) (now (list .entry))
+        (now (image .exit)) (now (list .exit)) r (now (pairs .exit)) ⌝ }
+{
+    listed::add_listed(image, key, bytes, mode, work, list, pairs)
+}
+
+// Deletes as `bhtf_delete` does, and lists what changed; `pairs` is how many pairs the list has now, 0 when refused.
+#[no_mangle]
+pub extern "C" fn bhtf_delete_listed(
+    image: &mut [u8],
+    key: &[u8],
+    work: &mut [u8],
+    list: &mut [u8],
+    pairs: &mut u32,
+) -> u32
+    ensures { λ r. ⌜ Lists (λ (img : Bytes). delete img (now (key .entry)))
+        (now (image .entry)) (length (now (work .entry))) (now (list .entry))
+        (now (image .exit)) (now (list .exit)) r (now (pairs .exit)) ⌝ }
+{
+    listed::delete_listed(image, key, work, list, pairs)
+}
+
+// Compacts as `bhtf_compact` does, and lists what changed; `pairs` is how many pairs the list has now, 0 when refused.
+#[no_mangle]
+pub extern "C" fn bhtf_compact_listed(
+    image: &mut [u8],
+    work: &mut [u8],
+    list: &mut [u8],
+    pairs: &mut u32,
+) -> u32
+    ensures { λ r. ⌜ Lists compact
+        (now (image .entry)) (length (now (work .entry))) (now (list .entry))
+        (now (image .exit)) (now (list .exit)) r (now (pairs .exit)) ⌝ }
+{
+    listed::packed::compact_listed(image, work, list, pairs)
 }

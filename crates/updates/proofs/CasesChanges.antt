@@ -12,11 +12,11 @@ use Rattle.updates.specs.Changes.{Pair, joined, runs, pairBytes, changes
 use Rattle.updates.specs.Journal.{newBytes, content, markPlace, mark, journalAllowed, Disk, put, written, allWritten, putAll, stretches, toImages, setMark, updates, spoiltBytes, spoiltBlock, spoilt, cutAfter, pairCount, pairsFrom, pairsOf, bytesStart, blocks, blocksOf, total, contentInside, inOrder, isMarked, journalSound, recoverNumber, recovered, journaledNumber, Journaled, journaled}
 use Rattle.bhtf.proofs.CasesBase.{definitions, fresh, after, one}
 
-changes : ℕ
+unfoldable pub changes : ℕ
 unfolding definitions joined runs pairBytes changesIn copied listAllowed workAllowed workedNumber listed
 changes = 0
 
-journals : ℕ
+unfoldable pub journals : ℕ
 unfolding changes newBytes content markPlace mark journalAllowed put written allWritten putAll stretches toImages
     setMark updates spoiltBytes spoiltBlock spoilt cutAfter pairCount pairsFrom pairsOf bytesStart blocks blocksOf total
     contentInside inOrder isMarked journalSound recoverNumber recovered journaledNumber journaled

@@ -1,0 +1,72 @@
+-- Lists of calls with the forms that document 02, Job 8, gives to add, delete and compaction: with a working slice and
+-- a list. "In a list of calls the book takes this form as the plain call, puts 16 first as the file does, and has no
+-- pairs to compare."
+--     Change, Form          a call that has forms; a step of a list in one of its forms
+--     performForm           what it does to a file; bookForm: to a book
+--     AgreementOfForms      demand 3 with these forms in the lists; with none of them it is `AgreementFrom`
+-- Assumes nothing.
+use Prim.Native.Nat.{ℕ, _+_}
+use mathlib.Core.Path.{_≡_}
+use mathlib.Core.Bool.{Bool, cond, _&&_}
+use mathlib.Core.List.{List, [], _∷_}
+use lib.ListN.{length}
+use Rattle.bhtf.specs.Bytes.{Bytes}
+use Rattle.bhtf.specs.Image.{dataStart}
+use Rattle.bhtf.specs.Questions.{ask}
+use Rattle.bhtf.specs.Calls.{Outcome, plain}
+use Rattle.bhtf.specs.Lists.{adding, deleting, answers, stateAfter}
+use Rattle.updates.specs.Changes.{listAllowed, workAllowed, Listed, listed}
+use Rattle.book.specs.Steps.{Step, calling, compacting, perform}
+use Rattle.book.specs.Book.{Terms, Book, stepOf, guarded, bookStep}
+use Rattle.book.specs.Demand.{fileText, bookText}
+use Rattle.book.specs.Reopened.{Starts}
+
+-- "Add, delete and compaction get a form"
+pub data Change : Type 0 where
+  adds : Bytes → Bytes → ℕ → Change
+  deletes : Bytes → Change
+  compacts : Change
+
+unfoldable pub plainStep : Change → Step
+plainStep (adds key data′ mode) = calling (adding key data′ mode)
+plainStep (deletes key) = calling (deleting key)
+plainStep compacts = compacting
+
+-- "with a working slice that also fills a lent list": the working slice's length, for its bytes do not matter, and the
+-- list
+pub data Form : Type 0 where
+  plainly : Step → Form
+  listing : Change → ℕ → Bytes → Form
+
+-- ---- the file
+
+unfoldable pub outcomeOf : Listed → Outcome Bytes
+outcomeOf l = record { after = l .after; answer = plain (l .number) }
+
+unfoldable pub performForm : Form → Bytes → Outcome Bytes
+performForm (plainly s) img = perform s img
+performForm (listing c work list) img = outcomeOf (listed (perform (plainStep c)) img work list)
+
+-- ---- the book
+
+-- "R = L − D": the image's length, by which the book puts 16 "as the file does"
+unfoldable pub imageLength : Terms → ℕ
+imageLength t = dataStart (t .K) (t .N) + t .R
+
+unfoldable pub bookForm : Form → Book → Outcome Book
+bookForm (plainly s) b = bookStep s b
+bookForm (listing c work list) b =
+    guarded b (ask 16 (listAllowed (length list) && workAllowed (imageLength (b .terms)) work) ∷ [])
+    (bookStep (plainStep c) b)
+
+-- ---- demand 3
+
+unfoldable pub FormsAgree : Bytes → Book → List Form → Type 0
+FormsAgree img b forms =
+    (answers performForm forms img ≡ answers bookForm forms b)
+    × ((name : Bytes)
+    → fileText (stateAfter performForm forms img) name ≡ bookText (stateAfter bookForm forms b) name)
+
+-- from every accepted create and from every sound image
+unfoldable pub AgreementOfForms : Type 0
+AgreementOfForms = (img : Bytes) (b : Book) → Starts img b → (forms : List Form) → FormsAgree img b forms
