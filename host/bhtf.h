@@ -302,8 +302,9 @@ uint32_t bhtf_compact_journaled(uint8_t *image, size_t image_len,
 /* Recovers an image from its journal: where the mark is BHTF_MARKED, the
  * journal's stretches are written to the image; with any other mark the image
  * stays. Either way the mark becomes 0, and no other byte of the journal
- * changes. To recover again changes nothing. It asks no question of the image,
- * so that it must be this image's journal.
+ * changes. To recover again changes nothing, and a recovery that is cut is made
+ * good by the next one. It asks no question of the image, so that it must be
+ * this image's journal.
  * Refused with 18 alone: the journal is of length 0; or it is marked, and its
  * content reaches the mark, or a pair leaves the image or begins before the end
  * of the one before it. No call leaves such a journal, wherever it is cut:
