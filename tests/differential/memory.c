@@ -13,6 +13,7 @@
 struct lent lent;
 struct slice work;
 struct slice listing;
+struct slice journal;
 uint8_t *data_start;
 size_t data_size;
 uint8_t *key_end;
@@ -88,6 +89,7 @@ void map_all(void)
     map_data();
     map_slice(&work);
     map_slice(&listing);
+    map_slice(&journal);
 }
 
 static uint32_t choose_shift(void)
