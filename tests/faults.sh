@@ -1,7 +1,8 @@
 #!/bin/sh
 # The test of the test: each fault below is one edit of a copy of plain.c.
 # The copy stands in the library's place, and differential must find it within
-# CALLS calls. Ends with "N passed, 0 failed", each fault being one.
+# CALLS calls; of what only a cut call shows, cut must. Ends with
+# "N passed, 0 failed", each fault being one.
 #
 # Usage: ./faults.sh [seed]        CC, CALLS and OUT may be set.
 
@@ -12,6 +13,7 @@ CALLS=${CALLS:-2000000}
 OUT=${OUT:-build/faults}
 SEED=${1:-1}
 FLAGS="-std=c99 -O2 -Ireference -DHANG_SECONDS=15"
+FAULTY="$FLAGS -O1 -w" # compiled once for each fault
 RENAME=$(grep -oE -- '-Dplain_[a-z_]+=bhtf_[a-z_]+' as-library.mk)
 passed=0
 failed=0
@@ -23,10 +25,11 @@ for file in differential.c differential/*.c subject.c \
     mkdir -p "$(dirname "$object")" &&
         $CC $FLAGS -Wall -Wextra -Werror -c "$file" -o "$object" || exit 2
 done
+$CC $FLAGS -Wall -Wextra -Werror -c cut.c -o "$OUT/cut.o" || exit 2
 
 # build SOURCE: a differential with that source as the library.
 build() {
-    $CC $FLAGS $RENAME -w -c "$1" -o "$OUT/faulty.o" &&
+    $CC $FAULTY $RENAME -c "$1" -o "$OUT/faulty.o" &&
         $CC "$OUT"/right/*.o "$OUT"/right/*/*.o "$OUT/faulty.o" -o "$OUT/faulty"
 }
 
@@ -63,16 +66,22 @@ judge() {
 misbook() {
     edited "$2" "$3" reference/book.c >"$OUT/misbook.c" ||
         { fail "$1" "the edit does not apply exactly once"; return; }
-    $CC $FLAGS $RENAME -w -c reference/plain.c -o "$OUT/faulty.o" &&
-        $CC $FLAGS -w -c "$OUT/misbook.c" -o "$OUT/misbook.o" &&
+    $CC $FAULTY $RENAME -c reference/plain.c -o "$OUT/faulty.o" &&
+        $CC $FAULTY -c "$OUT/misbook.c" -o "$OUT/misbook.o" &&
         $CC "$OUT"/right/*.o "$OUT"/right/differential/*.o \
             "$OUT"/right/reference/plain.o "$OUT/misbook.o" "$OUT/faulty.o" \
             -o "$OUT/faulty" || { fail "$1" "does not build"; return; }
     judge "$1"
 }
 
-# unordered NAME OLD NEW: the same for an edit of plain.c that leaves the same bytes; the order of its writes shows it to cut.
-unordered() {
+# build_cut SOURCE: a cut with that source as the library.
+build_cut() {
+    $CC $FAULTY $RENAME -c "$1" -o "$OUT/faulty.o" &&
+        $CC "$OUT/cut.o" "$OUT/right/subject.o" "$OUT/faulty.o" -o "$OUT/cut"
+}
+
+# at_a_cut NAME OLD NEW: an edit of plain.c that cut must find; a call that is not cut leaves the same bytes.
+at_a_cut() {
     edited "$2" "$3" reference/plain.c >"$OUT/faulty.c" ||
         { fail "$1" "the edit does not apply exactly once"; return; }
     build_cut "$OUT/faulty.c" || { fail "$1" "does not build"; return; }
@@ -83,11 +92,6 @@ unordered() {
     else
         fail "$1" "not found in 100 calls"
     fi
-}
-
-build_cut() {
-    $CC $FLAGS $RENAME -w -c "$1" -o "$OUT/faulty.o" && $CC $FLAGS -c cut.c -o "$OUT/cut.o" &&
-        $CC "$OUT/cut.o" "$OUT/right/subject.o" "$OUT/faulty.o" -o "$OUT/cut"
 }
 
 # Without a fault nothing may be found.
@@ -784,20 +788,23 @@ fault "a pair of no bytes is refused" \
 misbook "the book: 16 not put for the journaled form" \
     'return work_len < image_len ? 16 : 0;' 'return 0;'
 
-# The order of the writes.
-unordered "the mark is written before the content" \
+# The order of the writes, and what a cut leaves.
+at_a_cut "the mark is written before the content" \
     'write_content(journal, image, work, image_len);' \
     '*mark = MARK; write_content(journal, image, work, image_len);'
-unordered "the image is written before the mark" \
+at_a_cut "the image is written before the mark" \
     '*mark = MARK;' 'write_back(image, journal); *mark = MARK;'
-unordered "the image is written before the content" \
+at_a_cut "the image is written before the content" \
     'mark = journal + journal_len - 1;' \
     'uint8_t *old = malloc(image_len); memcpy(old, image, image_len); memcpy(image, work, image_len); image = old; mark = journal + journal_len - 1;'
-unordered "the mark is cleared before the image is written" \
+at_a_cut "the mark is cleared before the image is written" \
     '*mark = MARK;' '*mark = MARK; write_back(image, journal); *mark = 0;'
-unordered "recovery clears the mark before the image is written" \
+at_a_cut "recovery clears the mark before the image is written" \
     'if (journal[mark] == MARK)' \
     'if (journal[mark] == MARK && (journal[mark] = 0, 1))'
+at_a_cut "a stretch is taken for written where its first byte is" \
+    'copy(image + get32(pair), from, get32(pair + 4));' \
+    'if (get32(pair + 4) > 0 && image[get32(pair)] != *from) copy(image + get32(pair), from, get32(pair + 4));'
 
 echo "$passed passed, $failed failed"
 [ "$failed" -eq 0 ]

@@ -293,7 +293,7 @@ struct answer run_call(void)
 static enum form choose_form(enum kind kind)
 {
     int changes = kind == ADD || kind == DELETE || kind == COMPACT;
-    uint32_t rate = lent.length > 1000000 ? 20 : kind == COMPACT ? 2 : 4;
+    uint32_t rate = lent.length > 1000000 ? 80 : kind == COMPACT ? 3 : 5;
 
     if (run.old_calls)
         return PLAIN;
