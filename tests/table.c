@@ -1,5 +1,6 @@
-/* 01's proved table, 02's empty notes, compaction, lists of changes, journal and
- * recovery, and the generator, run on the code under test. Ends with "N passed, 0 failed".
+/* 01's proved table, 02's empty notes, compaction, lists of changes, journal
+ * and recovery, and the generator, run on the code under test. Ends with
+ * "N passed, 0 failed".
  *
  * The hash is not an export; it is seen through home slots: on an empty table
  * an added key lands in slot hash mod N. 65536, 65535 and 65533 have no

@@ -1,4 +1,5 @@
-/* Images, keys, data and other slices that end where an unreadable page begins. */
+/* Images, keys, data and other slices that end where an unreadable page
+ * begins. */
 #define _DEFAULT_SOURCE
 
 #include "parts.h"
