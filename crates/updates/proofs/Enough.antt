@@ -3,13 +3,12 @@
 --     list-enough         a list of 4 × L bytes takes all pairs
 --     journal-enough      a journal of 4.5 × L + 6 bytes has room for content and mark
 -- Assumes nothing.
-use mathlib.Core.Path.{_≡_, ap, _∙_}
+use mathlib.Core.Path.{_≡_, ap}
 use Prim.Native.Nat.{ℕ, suc, _+_, _*_, _≤_}
 use native.Mathlib.Omega.{arith}
 use mathlib.Core.Bool.{Bool, cond}
 use mathlib.Core.List.{List, [], _∷_}
 use lib.ListN.{length}
-use lib.Dec.{leb}
 use borrow.Author.Tests.{le-leb}
 use Rattle.bhtf.specs.Bytes.{Bytes}
 use Rattle.updates.specs.Changes.{Pair, runs, whole, changesIn}
