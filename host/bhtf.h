@@ -226,8 +226,12 @@ uint32_t bhtf_compact(uint8_t *image, size_t image_len);
  * delete needs few as a rule: it changes some numbers of the header, slots, and
  * bytes of the message. A compaction may need one for every few bytes of what
  * it moves.
- * Time: the plain call's, and copying the image once and reading it twice.
- * Stack: as the plain call, so bhtf_compact_listed up to 1,344 KiB. */
+ * Time: an add or a delete takes the plain call's and a second search, and
+ * keeps and compares only where it may write: the header, its slots (a delete's
+ * are those from the key's up to the next empty one) and its message; the
+ * image's length does not matter. bhtf_compact_listed copies the image once and
+ * reads it twice. Stack: as the plain call, so bhtf_compact_listed up to
+ * 1,344 KiB. */
 
 uint32_t bhtf_add_listed(uint8_t *image, size_t image_len, const uint8_t *key,
                          size_t key_len, const uint8_t *data, size_t data_len,
