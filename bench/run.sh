@@ -220,6 +220,18 @@ run_check() {
 }
 [ "$self" = 1 ] || [ "$quick" = 1 ] || run_check
 
+# The listed forms beside the plain ones, in a small and in a large image.
+run_listed() {
+  local out=$bin/listed.txt
+  if "${pin[@]}" "$bin/listed" "$([ "$quick" = 1 ] && echo 1 || echo 15)" >"$out"; then
+    passed=$((passed + 1))
+  else
+    fail "listed forms: an answer or an image differs"
+  fi
+  sed '$d' "$out"
+}
+[ "$self" = 1 ] || run_listed
+
 # How many slots lookups read, by load: counted, so that one run is enough.
 slots_key=16 slots_tables=$([ "$quick" = 1 ] && echo 2 || echo 20)
 slots_of=$([ "$quick" = 1 ] && echo 5507 || echo 65521)
