@@ -41,6 +41,8 @@ extern "C" {
 #define BHTF_MESSAGE_MAX 16777215u  /* bytes in the longest message */
 #define BHTF_MESSAGE_HEADER 4u      /* bytes that a message takes besides */
 #define BHTF_PAIR 8u                /* bytes that a pair takes in a list */
+#define BHTF_MARKED 0xA5u           /* the mark of a journal that is to be
+                                       written to its image */
 
 /* ---- modes of bhtf_add ---- */
 
@@ -72,6 +74,10 @@ extern "C" {
 #define BHTF_UNSOUND 15u       /* compact: bhtf_check does not say sound */
 #define BHTF_SHORT_SLICE 16u   /* list shorter than BHTF_PAIR, or working slice
                                   than the image; asked before 1 */
+#define BHTF_BAD_JOURNAL 17u   /* journal too short for what would change, or
+                                  its mark is not 0; asked last */
+#define BHTF_UNRECOVERABLE 18u /* recover: the journal is empty, or marked and
+                                  not of this image */
 
 /* ---- verdicts of bhtf_check ---- */
 
@@ -240,6 +246,77 @@ uint32_t bhtf_delete_listed(uint8_t *image, size_t image_len,
 uint32_t bhtf_compact_listed(uint8_t *image, size_t image_len, uint8_t *work,
                              size_t work_len, uint8_t *list, size_t list_len,
                              uint32_t *pairs);
+
+/* ---- a cut in the middle ----
+ *
+ * Add, delete and compact, with the same numbers and bytes, by way of a
+ * journal, so that wherever a cut falls bhtf_recover gives the image before the
+ * call or the one after it.
+ *   work     as above.
+ *   journal  takes from its start how many pairs there are, 4 bytes; the pairs,
+ *            as in a list; and the new bytes of their stretches, one behind the
+ *            other. Its last byte is the mark. A new journal is all zero. Its
+ *            length must be the same at the call and at recovery, since the
+ *            mark is looked for at its end.
+ * The writes are made in this order: the content of the journal; the mark
+ * becomes BHTF_MARKED; each stretch of the image; the mark becomes 0. The
+ * content stays. Refused with 16 where the working slice is too short, before
+ * any other question; and after all others, before any write, with 17: the
+ * journal is too short for content and mark, or the mark is not 0, which says
+ * that a call was cut and bhtf_recover is to be called first.
+ * Size: 4 + 8 * pairs + changed bytes, and 1 for the mark. For every call
+ * image_len / 2 * 9 + 6 bytes suffice; for an add 300 + 5 * m, where m is the
+ * length of the key's message before or after, whichever is longer, and before
+ * it may be a withdrawn one.
+ * Time: the plain call's, and copying the image once and reading it three
+ * times. Stack: as the plain call, so bhtf_compact_journaled up to 1,344 KiB.
+ *
+ * Storage that loses power. The order is that of writes to memory. For
+ * memory that keeps its bytes, and for files that are mapped shared where only
+ * the process may be killed, it is enough. But a system writes the pages of
+ * mapped files in any order, so that a power cut may find the image's on the
+ * disk and the journal's not. There, call on an image and a journal in memory,
+ * and then bring them to the disk in four steps, each of which must be there
+ * (fsync, or msync with MS_SYNC) before the next begins:
+ *   1. the journal's content, with the mark still 0;
+ *   2. the mark, BHTF_MARKED;
+ *   3. the stretches that the journal's pairs name, to the image;
+ *   4. the mark, 0: at the latest before step 1 of the next call.
+ * A disk writes whole blocks: lend a journal so long that the mark's block
+ * holds no content, that is 4,096 bytes longer than needed. At every start,
+ * before any other call on the image, read both, call bhtf_recover, and where
+ * the mark was BHTF_MARKED do steps 3 and 4, where it was another than 0 step
+ * 4. */
+
+uint32_t bhtf_add_journaled(uint8_t *image, size_t image_len,
+                            const uint8_t *key, size_t key_len,
+                            const uint8_t *data, size_t data_len,
+                            uint32_t mode, uint8_t *work, size_t work_len,
+                            uint8_t *journal, size_t journal_len);
+
+uint32_t bhtf_delete_journaled(uint8_t *image, size_t image_len,
+                               const uint8_t *key, size_t key_len,
+                               uint8_t *work, size_t work_len,
+                               uint8_t *journal, size_t journal_len);
+
+uint32_t bhtf_compact_journaled(uint8_t *image, size_t image_len,
+                                uint8_t *work, size_t work_len,
+                                uint8_t *journal, size_t journal_len);
+
+/* Recovers an image from its journal: where the mark is BHTF_MARKED, the
+ * journal's stretches are written to the image; with any other mark the image
+ * stays. Either way the mark becomes 0, and no other byte of the journal
+ * changes. To recover again changes nothing, and a recovery that is cut is made
+ * good by the next one. It asks no question of the image, so that it must be
+ * this image's journal.
+ * Refused with 18 alone: the journal is of length 0; or it is marked, and its
+ * content reaches the mark, or a pair leaves the image or begins before the end
+ * of the one before it. No call leaves such a journal, wherever it is cut:
+ * image or journal are others, or not as long as they were. Then no byte
+ * changes, the mark neither: keep both, and look. Takes no stack to speak of,
+ * and the time to copy the stretches. */
+uint32_t bhtf_recover(uint8_t *image, size_t image_len, uint8_t *journal,
+                      size_t journal_len);
 
 /* What an answer means, in one sentence. Never NULL; not to be freed. */
 const char *bhtf_message(uint32_t number);

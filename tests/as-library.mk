@@ -7,4 +7,8 @@ AS_LIBRARY = -Dplain_create=bhtf_create -Dplain_add=bhtf_add \
 	-Dplain_lookup_slots=bhtf_lookup_slots -Dplain_compact=bhtf_compact \
 	-Dplain_add_listed=bhtf_add_listed \
 	-Dplain_delete_listed=bhtf_delete_listed \
-	-Dplain_compact_listed=bhtf_compact_listed
+	-Dplain_compact_listed=bhtf_compact_listed \
+	-Dplain_add_journaled=bhtf_add_journaled \
+	-Dplain_delete_journaled=bhtf_delete_journaled \
+	-Dplain_compact_journaled=bhtf_compact_journaled \
+	-Dplain_recover=bhtf_recover

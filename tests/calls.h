@@ -51,6 +51,22 @@ struct calls {
     uint32_t (*compact_listed)(uint8_t *image, size_t image_len,
                                uint8_t *work, size_t work_len, uint8_t *list,
                                size_t list_len, uint32_t *pairs);
+
+    /* The same by way of a journal, and recovery from it. */
+    uint32_t (*add_journaled)(uint8_t *image, size_t image_len,
+                              const uint8_t *key, size_t key_len,
+                              const uint8_t *data, size_t data_len,
+                              uint32_t mode, uint8_t *work, size_t work_len,
+                              uint8_t *journal, size_t journal_len);
+    uint32_t (*remove_journaled)(uint8_t *image, size_t image_len,
+                                 const uint8_t *key, size_t key_len,
+                                 uint8_t *work, size_t work_len,
+                                 uint8_t *journal, size_t journal_len);
+    uint32_t (*compact_journaled)(uint8_t *image, size_t image_len,
+                                  uint8_t *work, size_t work_len,
+                                  uint8_t *journal, size_t journal_len);
+    uint32_t (*recover)(uint8_t *image, size_t image_len, uint8_t *journal,
+                        size_t journal_len);
 };
 
 /* All of them, by the names that begin with p. */
@@ -59,7 +75,8 @@ struct calls {
         p##_create, p##_add, p##_delete, p##_lookup, p##_count, p##_walk,   \
             p##_check, p##_add_slots, p##_delete_slots, p##_lookup_slots,   \
             p##_compact, p##_add_listed, p##_delete_listed,                 \
-            p##_compact_listed,                                             \
+            p##_compact_listed, p##_add_journaled, p##_delete_journaled,    \
+            p##_compact_journaled, p##_recover,                             \
     }
 
 /* The code under test. */

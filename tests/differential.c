@@ -11,7 +11,8 @@
  *     is also held against its definition, pair by pair.
  * In all, a refused or reading call must leave every byte. Most adds, deletes
  * and lookups are made by the form that reports the slots read, some adds,
- * deletes and compactions by the one that lists what changed.
+ * deletes and compactions by the one that lists what changed, or by way of a
+ * journal. Recovery is called between, from journals of all sorts.
  *
  * Options: --seed N, --calls N, --seconds N, --quiet, --strict, --old-limits,
  * --old-calls, --old-check.
@@ -30,8 +31,9 @@
  * The parts stand in differential/: memory.c has what is lent; choose.c,
  * images.c, reopened.c, damage.c and splice.c make arguments and images,
  * steps.c and lists.c calls of them; compare.c and book.c hold the answers
- * against each other, packed.c a compaction and listed.c a list of changes
- * against its definition, and report.c says what differs. */
+ * against each other; packed.c holds a compaction against its definition,
+ * changed.c, listed.c and journal.c a list and a journal; and report.c says
+ * what differs. */
 #define _DEFAULT_SOURCE
 
 #include "differential/parts.h"

@@ -1,7 +1,8 @@
 #!/bin/sh
 # The test of the test: each fault below is one edit of a copy of plain.c.
 # The copy stands in the library's place, and differential must find it within
-# CALLS calls. Ends with "N passed, 0 failed", each fault being one.
+# CALLS calls; of what only a cut call shows, cut must. Ends with
+# "N passed, 0 failed", each fault being one.
 #
 # Usage: ./faults.sh [seed]        CC, CALLS and OUT may be set.
 
@@ -12,6 +13,7 @@ CALLS=${CALLS:-2000000}
 OUT=${OUT:-build/faults}
 SEED=${1:-1}
 FLAGS="-std=c99 -O2 -Ireference -DHANG_SECONDS=15"
+FAULTY="$FLAGS -O1 -w" # compiled once for each fault
 RENAME=$(grep -oE -- '-Dplain_[a-z_]+=bhtf_[a-z_]+' as-library.mk)
 passed=0
 failed=0
@@ -23,10 +25,11 @@ for file in differential.c differential/*.c subject.c \
     mkdir -p "$(dirname "$object")" &&
         $CC $FLAGS -Wall -Wextra -Werror -c "$file" -o "$object" || exit 2
 done
+$CC $FLAGS -Wall -Wextra -Werror -c cut.c -o "$OUT/cut.o" || exit 2
 
 # build SOURCE: a differential with that source as the library.
 build() {
-    $CC $FLAGS $RENAME -w -c "$1" -o "$OUT/faulty.o" &&
+    $CC $FAULTY $RENAME -c "$1" -o "$OUT/faulty.o" &&
         $CC "$OUT"/right/*.o "$OUT"/right/*/*.o "$OUT/faulty.o" -o "$OUT/faulty"
 }
 
@@ -63,16 +66,37 @@ judge() {
 misbook() {
     edited "$2" "$3" reference/book.c >"$OUT/misbook.c" ||
         { fail "$1" "the edit does not apply exactly once"; return; }
-    $CC $FLAGS $RENAME -w -c reference/plain.c -o "$OUT/faulty.o" &&
-        $CC $FLAGS -w -c "$OUT/misbook.c" -o "$OUT/misbook.o" &&
+    $CC $FAULTY $RENAME -c reference/plain.c -o "$OUT/faulty.o" &&
+        $CC $FAULTY -c "$OUT/misbook.c" -o "$OUT/misbook.o" &&
         $CC "$OUT"/right/*.o "$OUT"/right/differential/*.o \
             "$OUT"/right/reference/plain.o "$OUT/misbook.o" "$OUT/faulty.o" \
             -o "$OUT/faulty" || { fail "$1" "does not build"; return; }
     judge "$1"
 }
 
+# build_cut SOURCE: a cut with that source as the library.
+build_cut() {
+    $CC $FAULTY $RENAME -c "$1" -o "$OUT/faulty.o" &&
+        $CC "$OUT/cut.o" "$OUT/right/subject.o" "$OUT/faulty.o" -o "$OUT/cut"
+}
+
+# at_a_cut NAME OLD NEW: an edit of plain.c that cut must find; a call that is not cut leaves the same bytes.
+at_a_cut() {
+    edited "$2" "$3" reference/plain.c >"$OUT/faulty.c" ||
+        { fail "$1" "the edit does not apply exactly once"; return; }
+    build_cut "$OUT/faulty.c" || { fail "$1" "does not build"; return; }
+    report=$("$OUT/cut" --seed "$SEED" --calls 100)
+    if [ $? -eq 1 ]; then
+        passed=$((passed + 1))
+        echo "found   $1: $(echo "$report" | sed -n 's/^FAILED: \([^:]*\):.*, \(call [0-9]*\),.*/\2, \1/p' | head -n 1)"
+    else
+        fail "$1" "not found in 100 calls"
+    fi
+}
+
 # Without a fault nothing may be found.
 build reference/plain.c && run || fail "no fault" "a difference was found"
+build_cut reference/plain.c && "$OUT/cut" --seed "$SEED" --calls 100 || fail "no fault" "cut found something"
 
 # Delete.
 fault "delete only empties the slot" \
@@ -582,14 +606,14 @@ fault "shared bytes behind 2 MiB are passed over" \
 
 # The list of what changed.
 fault "runs with a byte between them are one pair" \
-    'size_t end = run_end(old, new, at, length);' \
-    'size_t end = run_end(old, new, at, length); if (length - end > 1 && old[end + 1] != new[end + 1]) end = run_end(old, new, end + 1, length);'
+    'to = write_pair(to, at, end - at);' \
+    'if (length - end > 1 && old[end + 1] != new[end + 1]) end = run_end(old, new, end + 1, length); to = write_pair(to, at, end - at);'
 fault "a run cut short" \
     'to = write_pair(to, at, end - at);' \
     'to = write_pair(to, at, end - at - (end - at > 4));'
 fault "a run is two pairs where a page begins" \
-    'size_t end = run_end(old, new, at, length);' \
-    'size_t end = run_end(old, new, at, length); if (end / PAGE > at / PAGE) end = (at / PAGE + 1) * PAGE;'
+    'to = write_pair(to, at, end - at);' \
+    'if (end / PAGE > at / PAGE) end = (at / PAGE + 1) * PAGE; to = write_pair(to, at, end - at);'
 fault "a byte that kept its value is listed, behind a run" \
     'to = write_pair(to, at, end - at);' \
     'to = write_pair(to, at, end - at + (end < length));'
@@ -653,6 +677,134 @@ misbook "the book: 16 not put for the list" \
 misbook "the book: 16 not put for the working slice" \
     'return work_len < image_len || list_len < 8 ? 16 : 0;' \
     'return list_len < 8 ? 16 : 0;'
+
+# The journal, and recovery.
+fault "the last stretch is not written" \
+    'for (uint32_t i = 0; i < count; i++, pair += PAIR) {' \
+    'for (uint32_t i = 0; i + 1 < count; i++, pair += PAIR) {'
+fault "a stretch's last byte is not written" \
+    'copy(image + get32(pair), from, get32(pair + 4));' \
+    'copy(image + get32(pair), from, get32(pair + 4) - (get32(pair + 4) > 3));'
+fault "the journal has the old bytes" \
+    'copy(to, new + at, end - at);' 'copy(to, old + at, end - at);'
+fault "the journal has no bytes" \
+    'write_new_bytes(journal + PAIR_COUNT + PAIR * runs, old, new, length);' \
+    ''
+fault "the count is that of the bytes" \
+    'put32(journal, (uint32_t)runs);' \
+    'put32(journal, (uint32_t)(content_size(old, new, length) - PAIR_COUNT - PAIR * runs));'
+fault "the mark stays" \
+    '*mark = 0;' ''
+fault "the mark becomes another" \
+    '*mark = 0;' '*mark = 0x5A;'
+fault "what remains of the journal is zeroed" \
+    '*mark = MARK;' \
+    'for (uint8_t *at = mark; at > journal + content_size(image, work, image_len); at--) at[-1] = 0; *mark = MARK;'
+fault "17 after the first write" \
+    'if (journal_len <= content_size(image, work, image_len) ||' \
+    'if (journal_len > content_size(image, work, image_len)) write_content(journal, image, work, image_len); if (journal_len <= content_size(image, work, image_len) ||'
+fault "17 after the image is written" \
+    'if (journal_len <= content_size(image, work, image_len) ||' \
+    'if (journal_len <= content_size(image, work, image_len)) return memcpy(image, work, image_len), 17; if (journal_len == 0 ||'
+fault "17 before the other questions" \
+    'uint8_t *mark;' \
+    'uint8_t *mark; if (answer != 16 && journal_len > 0 && journal[journal_len - 1] != 0) return 17;'
+fault "17 before 16" \
+    'uint8_t *mark;' \
+    'uint8_t *mark; if (answer == 16 && journal_len == 0) return 17;'
+fault "a journal without room for the mark is taken" \
+    'if (journal_len <= content_size(image, work, image_len) ||' \
+    'if (journal_len < content_size(image, work, image_len) ||'
+fault "a journal that content and mark fill is refused" \
+    'if (journal_len <= content_size(image, work, image_len) ||' \
+    'if (journal_len <= 1 + content_size(image, work, image_len) ||'
+fault "a call that changes nothing needs no journal" \
+    'if (journal_len <= content_size(image, work, image_len) ||' \
+    'if (count_runs(image, work, image_len) == 0) return ACCEPTED; if (journal_len <= content_size(image, work, image_len) ||'
+fault "any mark is taken" \
+    'journal[journal_len - 1] != 0)' 'journal[journal_len - 1] == 300)'
+fault "any mark but 0xA5 is taken" \
+    'journal[journal_len - 1] != 0)' 'journal[journal_len - 1] == MARK)'
+fault "the journal's length cut to 32 bits" \
+    'if (journal_len <= content_size(image, work, image_len) ||' \
+    'if ((uint32_t)journal_len <= content_size(image, work, image_len) ||'
+fault "the journaled form puts 16 after 1" \
+    'if (work_len < image_len)' \
+    'if (!length_fits(image_len)) return 1; if (work_len < image_len)'
+fault "the journaled form takes a working slice of L - 1 bytes" \
+    'if (work_len < image_len)' 'if (work_len + 1 < image_len)'
+fault "recovery ignores the mark" \
+    'if (journal[mark] == MARK)' 'if (content_fits(journal, mark, image_len))'
+fault "recovery takes any mark but 0" \
+    'if (journal[mark] == MARK)' \
+    'if (journal[mark] != 0 && content_fits(journal, mark, image_len))'
+fault "recovery writes nothing" \
+    'if (journal[mark] == MARK)' 'if (0)'
+fault "recovery clears other bytes" \
+    'journal[mark] = 0;' 'memset(journal + mark / 2, 0, mark - mark / 2 + 1);'
+fault "recovery clears the count" \
+    'journal[mark] = 0;' \
+    'if (journal[mark] == MARK) put32(journal, 0); journal[mark] = 0;'
+fault "recovery leaves a mark that is not 0xA5" \
+    'journal[mark] = 0;' 'if (journal[mark] == MARK) journal[mark] = 0;'
+fault "recovery leaves the mark" \
+    'journal[mark] = 0;' 'if (journal[mark] != MARK) journal[mark] = 0;'
+fault "recovery's mark by a length cut to 32 bits" \
+    'journal[mark] = 0;' 'journal[(uint32_t)journal_len - 1] = 0;'
+fault "recovery of an empty journal is accepted" \
+    'if (journal_len == 0)' 'if (journal_len == 0) return ACCEPTED; if (0)'
+fault "18 clears the mark" \
+    'if (journal[mark] == MARK && !content_fits(journal, mark, image_len))' \
+    'if (journal[mark] == MARK && !content_fits(journal, mark, image_len) && (journal[mark] = 0, 1))'
+fault "recovery puts 1" \
+    'if (journal_len == 0)' \
+    'if (!length_fits(image_len)) return 1; if (journal_len == 0)'
+fault "recovery trusts the count" \
+    'if (size > mark)' 'if (size > mark && count > 1000)'
+fault "recovery multiplies the count in 32 bits" \
+    'size += (uint64_t)count * PAIR;' 'size += count * PAIR;'
+fault "recovery trusts the lengths" \
+    'return size <= mark;' 'return 1;'
+fault "content may reach the mark" \
+    'return size <= mark;' 'return size <= mark + 1;'
+fault "content may not end at the mark" \
+    'return size <= mark;' 'return size < mark;'
+fault "a journal of less than a count is taken" \
+    'if (mark < PAIR_COUNT)' 'if (mark + 2 < PAIR_COUNT)'
+fault "a pair may leave the image by a byte" \
+    'length > image_len - at)' 'length > image_len - at + 1)'
+fault "a pair may not end with the image" \
+    'length > image_len - at)' 'length >= image_len - at)'
+fault "a pair may begin anywhere" \
+    'at > image_len ||' ''
+fault "pairs may overlap" \
+    'if (at < end ||' 'if (at + 1 < end ||'
+fault "pairs may stand in any order" \
+    'if (at < end ||' 'if ('
+fault "pairs may not touch" \
+    'if (at < end ||' 'if ((at <= end && i > 0) ||'
+fault "a pair of no bytes is refused" \
+    'if (at < end ||' 'if (length == 0 || at < end ||'
+misbook "the book: 16 not put for the journaled form" \
+    'return work_len < image_len ? 16 : 0;' 'return 0;'
+
+# The order of the writes, and what a cut leaves.
+at_a_cut "the mark is written before the content" \
+    'write_content(journal, image, work, image_len);' \
+    '*mark = MARK; write_content(journal, image, work, image_len);'
+at_a_cut "the image is written before the mark" \
+    '*mark = MARK;' 'write_back(image, journal); *mark = MARK;'
+at_a_cut "the image is written before the content" \
+    'mark = journal + journal_len - 1;' \
+    'uint8_t *old = malloc(image_len); memcpy(old, image, image_len); memcpy(image, work, image_len); image = old; mark = journal + journal_len - 1;'
+at_a_cut "the mark is cleared before the image is written" \
+    '*mark = MARK;' '*mark = MARK; write_back(image, journal); *mark = 0;'
+at_a_cut "recovery clears the mark before the image is written" \
+    'if (journal[mark] == MARK)' \
+    'if (journal[mark] == MARK && (journal[mark] = 0, 1))'
+at_a_cut "a stretch is taken for written where its first byte is" \
+    'copy(image + get32(pair), from, get32(pair + 4));' \
+    'if (get32(pair + 4) > 0 && image[get32(pair)] != *from) copy(image + get32(pair), from, get32(pair + 4));'
 
 echo "$passed passed, $failed failed"
 [ "$failed" -eq 0 ]

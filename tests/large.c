@@ -1,7 +1,7 @@
 /* Images and tables at the limits: 1 GiB, 1,048,576 slots, and messages of
  * 16,777,215 bytes, which only images beyond the old limit can hold; their
- * compaction.
- * Ends with "N passed, M failed". Takes some 1.2 GiB of memory. */
+ * compaction; what changed in the last bytes, listed and by way of a journal.
+ * Ends with "N passed, M failed". Takes some 2.2 GiB of memory. */
 #define _DEFAULT_SOURCE
 
 #include "calls.h"
@@ -252,6 +252,54 @@ static void pack_full_image(uint32_t whole)
                 MESSAGE_MAX);
 }
 
+static uint32_t number_at(const uint8_t *at)
+{
+    return (uint32_t)at[0] << 24 | (uint32_t)at[1] << 16 |
+           (uint32_t)at[2] << 8 | at[3];
+}
+
+static void expect_pair(const char *what, const uint8_t *pair, uint32_t at,
+                        uint32_t size)
+{
+    expect(what, number_at(pair), at);
+    expect("  its length", number_at(pair + 4), size);
+}
+
+/* The last message's last byte becomes another, listed; then both its first and
+ * its last, which are too many for the list; then its first again, by way of a
+ * journal. */
+static void change_last_bytes(uint32_t last, uint32_t size)
+{
+    const uint8_t *name = (const uint8_t *)"last";
+    uint8_t list[8], journal[14] = { 0 };
+    uint8_t *work = map(GIB), *text = map(size);
+    uint32_t pairs;
+
+    memcpy(text, image + last + HEAD, size);
+    text[size - 1] ^= 1;
+    expect("the last byte, listed",
+           subject.add_listed(image, GIB, name, 4, text, size, 2, work, GIB,
+                              list, 8, &pairs), 0);
+    expect("  pairs", pairs, 1);
+    expect_pair("  its offset", list, GIB - 1, 1);
+    text[size - 1] ^= 1;
+    text[0] ^= 1;
+    expect("the first byte too, listed",
+           subject.add_listed(image, GIB, name, 4, text, size, 2, work, GIB,
+                              list, 8, &pairs), 0);
+    expect("  pairs", pairs, 1);
+    expect_pair("  the whole image", list, 0, GIB);
+    text[0] ^= 1;
+    expect("the first byte, by way of a journal",
+           subject.add_journaled(image, GIB, name, 4, text, size, 2, work,
+                                 GIB, journal, 14), 0);
+    expect("  count", number_at(journal), 1);
+    expect_pair("  its offset", journal + 4, last + HEAD, 1);
+    expect("  its byte", journal[12], text[0]);
+    munmap(work, GIB);
+    munmap(text, size);
+}
+
 static void test_full_image(void)
 {
     const uint32_t space = HEAD + MESSAGE_MAX, whole = 63;
@@ -274,6 +322,7 @@ static void test_full_image(void)
     expect("its empty note", add(GIB, "more", texts, 0, 2), 13);
     expect("a byte appended", add(GIB, "last", texts, 1, 3), 13);
     expect("the last in its place", add(GIB, "last", texts + 5, rest, 2), 0);
+    change_last_bytes(last, rest);
     expect_text("  its bytes", GIB, "last", last, texts + 5, rest);
     for (uint32_t i = 0; i < whole; i += 31)
         expect_text("a text", GIB, name_of(i), data + i * space, texts + i,

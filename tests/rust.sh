@@ -86,6 +86,12 @@ test_that "plain C that cuts a listed run short: found" finds cut
 edited tests/reference/plain.c 's/^        write_pair(list, 0, length);$/        write_pair(list + (list_len \/ PAIR - 1) * PAIR, 0, 0); &/' "$work/over.c"
 plain over "$work/over.c" || exit 2
 test_that "plain C that writes pairs before it finds that they do not fit: found" finds over
+edited tests/reference/plain.c 's/^    for (uint32_t i = 0; i < count; i++, pair += PAIR) {$/    for (uint32_t i = 0; i + 1 < count; i++, pair += PAIR) {/' "$work/last.c"
+plain last "$work/last.c" || exit 2
+test_that "plain C that does not write the last stretch: found" finds last
+edited tests/reference/plain.c 's/^    if (journal\[mark\] == MARK)$/    if (0)/' "$work/lost.c"
+plain lost "$work/lost.c" || exit 2
+test_that "plain C whose recovery writes nothing: found" finds lost
 wrong one-round 's/^    while (is_taken(v, slot)) {$/    for (uint32_t i = 1; i < v->slots \&\& is_taken(v, slot); i++) {/'
 wrong no-version-1.0.0 's/ image\[AT_LAST_VERSION\] <= NOTES_VERSION;/ image[AT_LAST_VERSION] - 1u <= 1;/'
 misread used-from-0 's/used: next - data/used: next/'

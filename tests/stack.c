@@ -1,7 +1,7 @@
-/* How much stack the check and the compaction take, this also in the form that
- * lists what changed: each runs on a thread whose stack is little larger than
- * the header (host/bhtf.h) says, with an unreadable page at its end, and the
- * bytes that it wrote there are counted.
+/* How much stack the check and the compaction take, this also in the forms with
+ * a list and by way of a journal: each runs on a thread whose stack is little
+ * larger than the header (host/bhtf.h) says, with an unreadable page at its
+ * end, and the bytes that it wrote there are counted.
  * Ends with "N passed, 0 failed". */
 #define _DEFAULT_SOURCE
 
@@ -14,11 +14,12 @@
 
 /* What the header says, and what the thread itself may take besides. */
 enum { CHECK_SAID = 307200, COMPACT_SAID = 1376256, BESIDES = 20480 };
-enum { PAGE = 4096, PAINT = 0xA7, KEY = 4, TEXT = 200 };
+enum { PAGE = 4096, PAINT = 0xA7, KEY = 4, TEXT = 200, JOURNAL = 5 };
 
 struct asked {
     uint8_t *image;
-    uint8_t *work; /* as long as the image */
+    uint8_t *work;    /* as long as the image */
+    uint8_t *journal; /* as long as it can have to be */
     size_t length;
     uint32_t number;
     uint32_t verdict;
@@ -73,6 +74,16 @@ static void *run_compact_listed(void *given)
     return NULL;
 }
 
+static void *run_compact_journaled(void *given)
+{
+    struct asked *a = given;
+
+    a->number = subject.compact_journaled(a->image, a->length, a->work,
+                                          a->length, a->journal,
+                                          JOURNAL * a->length);
+    return NULL;
+}
+
 static void *run_nothing(void *given)
 {
     return given;
@@ -122,40 +133,50 @@ static void fill(uint8_t *image, size_t length, uint32_t slots)
     }
 }
 
+/* On a file that has messages to move. */
+static size_t packing_stack(void *(*run)(void *), uint32_t slots,
+                            struct asked *a)
+{
+    size_t taken;
+
+    fill(a->image, a->length, slots);
+    taken = stack_of(run, COMPACT_SAID, a);
+    expect("answer", a->number, 0);
+    return taken;
+}
+
 static void try(const char *what, size_t length, uint32_t slots)
 {
-    uint8_t *image = map(length);
-    uint8_t *work = map(length);
-    struct asked a = { image, work, length, 77, 77, 77 };
-    size_t thread, taken, packing, listing;
+    struct asked a = { map(length), map(length), map(JOURNAL * length),
+                       length, 77, 77, 77 };
+    size_t thread, taken, packing, listing, journaling, most;
 
-    if (image == NULL || work == NULL) {
+    if (a.image == NULL || a.work == NULL || a.journal == NULL) {
         failed++;
         return;
     }
-    fill(image, length, slots);
+    fill(a.image, length, slots);
     thread = stack_of(run_nothing, CHECK_SAID, &a);
     taken = stack_of(run_check, CHECK_SAID, &a);
     expect("answer", a.number, 0);
     expect("verdict", a.verdict, 0);
-    listing = stack_of(run_compact_listed, COMPACT_SAID, &a);
-    expect("answer", a.number, 0);
-    fill(image, length, slots);
-    packing = stack_of(run_compact, COMPACT_SAID, &a);
-    expect("answer", a.number, 0);
-    expect("the threads ran",
-           thread > 0 && taken > 0 && packing > 0 && listing > 0, 1);
+    packing = packing_stack(run_compact, slots, &a);
+    listing = packing_stack(run_compact_listed, slots, &a);
+    journaling = packing_stack(run_compact_journaled, slots, &a);
+    expect("the threads ran", thread > 0 && taken > 0 && packing > 0 &&
+                                  listing > 0 && journaling > 0, 1);
     expect("the check takes what the header says",
            taken <= CHECK_SAID + thread, 1);
+    most = packing > listing ? packing : listing;
+    most = most > journaling ? most : journaling;
     expect("compaction takes what the header says",
-           packing <= COMPACT_SAID + thread, 1);
-    expect("its form with a list takes what the header says",
-           listing <= COMPACT_SAID + thread, 1);
+           most <= COMPACT_SAID + thread, 1);
     printf("%s: check %zu bytes of stack, compaction %zu, with a list %zu, "
-           "%zu of them the thread's own\n", what, taken, packing, listing,
-           thread);
-    munmap(image, length);
-    munmap(work, length);
+           "with a journal %zu; %zu of them the thread's own\n", what, taken,
+           packing, listing, journaling, thread);
+    munmap(a.image, length);
+    munmap(a.work, length);
+    munmap(a.journal, JOURNAL * length);
 }
 
 int main(void)

@@ -3,8 +3,9 @@
 //! N lists start from create, N from a sound image that no call made, with the book read off it.
 //! Compared after every call: the number, C, the message's bytes, and the slots read, which are counted here on the image before the
 //! call and may not be more than its points and one; the list of what changed, byte for byte, and that a copy of the file before the
-//! call is the file after it once the listed stretches are copied; after every list: that the file finds the book's points with the
-//! book's texts, that the walk shows each of them once, and that the check calls the file sound.
+//! call is the file after it once the listed stretches are copied; the journal, byte for byte, and that recovery makes the file after
+//! the call of the one before; after every list: that the file finds the book's points with the book's texts, that the walk shows
+//! each of them once, and that the check calls the file sound.
 //! Status 0 if every list agreed.
 use std::collections::{BTreeMap, BTreeSet};
 
@@ -71,10 +72,43 @@ extern "C" {
         list_len: usize,
         pairs: *mut u32,
     ) -> u32;
+    fn bhtf_add_journaled(
+        image: *mut u8,
+        len: usize,
+        key: *const u8,
+        key_len: usize,
+        data: *const u8,
+        data_len: usize,
+        mode: u32,
+        work: *mut u8,
+        work_len: usize,
+        journal: *mut u8,
+        journal_len: usize,
+    ) -> u32;
+    fn bhtf_delete_journaled(
+        image: *mut u8,
+        len: usize,
+        key: *const u8,
+        key_len: usize,
+        work: *mut u8,
+        work_len: usize,
+        journal: *mut u8,
+        journal_len: usize,
+    ) -> u32;
+    fn bhtf_compact_journaled(
+        image: *mut u8,
+        len: usize,
+        work: *mut u8,
+        work_len: usize,
+        journal: *mut u8,
+        journal_len: usize,
+    ) -> u32;
+    fn bhtf_recover(image: *mut u8, len: usize, journal: *mut u8, journal_len: usize) -> u32;
 }
 
 const HEADER: usize = 4;
 const PAIR: usize = 8;
+const MARK: u8 = 0xA5;
 const SCRAMBLE: usize = 512;
 const TABLE: usize = 2048;
 
@@ -168,6 +202,37 @@ impl File {
         unsafe { bhtf_compact_listed(image, len, work, work_len, list, list_len, &mut lent.pairs) }
     }
 
+    // The same by way of a journal, and recovery.
+
+    fn add_journaled(&mut self, key: &[u8], data: &[u8], mode: u32, work: &mut [u8], journal: &mut [u8]) -> u32 {
+        let (image, len) = (self.0.as_mut_ptr(), self.0.len());
+        let (work, work_len) = (work.as_mut_ptr(), work.len());
+        let (journal, journal_len) = (journal.as_mut_ptr(), journal.len());
+        let (data, data_len) = (data.as_ptr(), data.len());
+        unsafe {
+            bhtf_add_journaled(
+                image, len, key.as_ptr(), key.len(), data, data_len, mode, work, work_len, journal, journal_len,
+            )
+        }
+    }
+
+    fn delete_journaled(&mut self, key: &[u8], work: &mut [u8], journal: &mut [u8]) -> u32 {
+        let (image, len) = (self.0.as_mut_ptr(), self.0.len());
+        let (work, work_len) = (work.as_mut_ptr(), work.len());
+        let (journal, journal_len) = (journal.as_mut_ptr(), journal.len());
+        unsafe { bhtf_delete_journaled(image, len, key.as_ptr(), key.len(), work, work_len, journal, journal_len) }
+    }
+
+    fn compact_journaled(&mut self, work: &mut [u8], journal: &mut [u8]) -> u32 {
+        let (image, len) = (self.0.as_mut_ptr(), self.0.len());
+        let (work, work_len) = (work.as_mut_ptr(), work.len());
+        unsafe { bhtf_compact_journaled(image, len, work, work_len, journal.as_mut_ptr(), journal.len()) }
+    }
+
+    fn recover(&mut self, journal: &mut [u8]) -> u32 {
+        unsafe { bhtf_recover(self.0.as_mut_ptr(), self.0.len(), journal.as_mut_ptr(), journal.len()) }
+    }
+
     fn count(&self) -> (u32, u32) {
         let mut points = !0;
         let number = unsafe { bhtf_count(self.0.as_ptr(), self.0.len(), &mut points) };
@@ -243,6 +308,16 @@ fn write_list(list: &mut [u8], runs: &[(usize, usize)], length: usize) -> u32 {
         put(list, i * PAIR + 4, length);
     }
     pairs.len() as u32
+}
+
+/// What a journal takes: the count, the pairs, the new bytes.
+fn content(before: &[u8], after: &[u8]) -> Vec<u8> {
+    let runs = changes(before, after);
+    let mut content = vec![0; HEADER + runs.len() * PAIR];
+    put(&mut content, 0, runs.len());
+    write_list(&mut content[HEADER..], &runs, before.len());
+    runs.iter().for_each(|&(at, length)| content.extend_from_slice(&after[at..at + length]));
+    content
 }
 
 /// A point of the book: its text, how many bytes its place holds, and whether it has one.
@@ -655,6 +730,47 @@ fn listed(
     ((got, bytes(lent.pairs, &lent.list, copied), None), (want, bytes(pairs, &list, true), None))
 }
 
+/// A call by way of a journal, on file and book: both answers, of the file also what journal and image must be. The book is told
+/// where 17 is due, which is here by what the plain call changes in a copy. Then recovery, from the same journal, of a file that was
+/// cut once the mark was written.
+fn journaled(
+    chance: &mut Chance,
+    file: &mut File,
+    plain: impl FnOnce(&mut File) -> u32,
+    call: impl FnOnce(&mut File, &mut [u8], &mut [u8]) -> u32,
+    step: impl FnOnce() -> u32,
+) -> (Answer, Answer) {
+    let (before, mut after) = (file.0.clone(), File(file.0.clone()));
+    let due = plain(&mut after);
+    let mut wanted = content(&before, &after.0);
+    let length = [wanted.len() + 1, wanted.len() + 2 + chance.below(20), chance.below(wanted.len() + 1)][chance.below(3)];
+    let mut journal = chance.bytes(length);
+    if let Some(mark) = journal.last_mut() {
+        *mark = if chance.one_in(8) { 1 + chance.below(255) as u8 } else { 0 };
+    }
+    let refuses = length <= wanted.len() || journal[length - 1] != 0;
+    let work = if chance.one_in(16) { chance.below(before.len()) } else { before.len() };
+    let want = match due {
+        _ if work < before.len() => 16,
+        0 if refuses => 17,
+        _ => step(),
+    };
+    let accepted = want == 0 && !refuses;
+    let (image, left) = if accepted { (&after.0, wanted.len()) } else { (&before, 0) };
+    wanted.truncate(left);
+    wanted.extend_from_slice(&journal[left..]);
+    let got = call(file, &mut vec![chance.below(256) as u8; work], &mut journal);
+    let same = file.0 == *image && (!accepted || recovers(File(before.clone()), image, &journal));
+    ((got, Some([&journal[..], &[same as u8]].concat()), None), (want, Some([&wanted[..], &[1]].concat()), None))
+}
+
+/// Once its journal is marked, the file becomes that one; the mark is 0 then, and a second recovery changes nothing.
+fn recovers(mut file: File, after: &[u8], journal: &[u8]) -> bool {
+    let mut marked = journal.to_vec();
+    marked[journal.len() - 1] = MARK;
+    (0..2).all(|_| file.recover(&mut marked) == 0 && file.0 == after && marked == journal)
+}
+
 /// One call on the file and on the book: its name and both answers.
 fn call(
     chance: &mut Chance,
@@ -664,7 +780,7 @@ fn call(
 ) -> (&'static str, Answer, Answer) {
     let number = |n| (n, None, None);
     let with_read = |(n, read)| (n, None, Some(read));
-    let with_list = chance.one_in(8);
+    let (with_list, with_journal) = (chance.one_in(12), chance.one_in(12));
     let counted = !chance.one_in(4);
     // none where the call is refused before its search
     let searches = if book.named(key) { slots_read(&file.0, key) as u32 } else { 0 };
@@ -680,6 +796,14 @@ fn call(
                 let (got, want) = listed(chance, file, add, || book.add(key, &data, mode));
                 return ("add with a list", got, want);
             }
+            if with_journal {
+                let plain = |file: &mut File| file.add(key, &data, mode);
+                let add = |file: &mut File, work: &mut [u8], journal: &mut [u8]| {
+                    file.add_journaled(key, &data, mode, work, journal)
+                };
+                let (got, want) = journaled(chance, file, plain, add, || book.add(key, &data, mode));
+                return ("add with a journal", got, want);
+            }
             let want = book.add(key, &data, mode);
             let got =
                 if counted { with_read(file.add_slots(key, &data, mode)) } else { number(file.add(key, &data, mode)) };
@@ -688,6 +812,11 @@ fn call(
         10..=13 if with_list => {
             let (got, want) = listed(chance, file, |file, lent| file.delete_listed(key, lent), || book.delete(key));
             ("delete with a list", got, want)
+        }
+        10..=13 if with_journal => {
+            let delete = |file: &mut File, work: &mut [u8], journal: &mut [u8]| file.delete_journaled(key, work, journal);
+            let (got, want) = journaled(chance, file, |file| file.delete(key), delete, || book.delete(key));
+            ("delete with a journal", got, want)
         }
         10..=13 => {
             let want = book.delete(key);
@@ -708,6 +837,10 @@ fn call(
         18 if with_list => {
             let (got, want) = listed(chance, file, File::compact_listed, || book.compact());
             ("compact with a list", got, want)
+        }
+        18 if with_journal => {
+            let (got, want) = journaled(chance, file, File::compact, File::compact_journaled, || book.compact());
+            ("compact with a journal", got, want)
         }
         18 => ("compact", number(file.compact()), number(book.compact())),
         _ => {

@@ -1,5 +1,6 @@
-/* 01's proved table, 02's empty notes, compaction and lists of changes, and the
- * generator, run on the code under test. Ends with "N passed, 0 failed".
+/* 01's proved table, 02's empty notes, compaction, lists of changes, journal
+ * and recovery, and the generator, run on the code under test. Ends with
+ * "N passed, 0 failed".
  *
  * The hash is not an export; it is seen through home slots: on an empty table
  * an added key lands in slot hash mod N. 65536, 65535 and 65533 have no
@@ -509,6 +510,189 @@ static void slices_too_short(void)
     expect_pairs("no pairs", n, NULL, 0);
 }
 
+/* ---- the journal, and recovery ---- */
+
+static uint8_t journal[100];
+
+/* So many bytes, the mark 0, the others 0xEE. */
+static void clear_journal(size_t journal_len)
+{
+    memset(journal, 0xEE, sizeof journal);
+    if (journal_len > 0)
+        journal[journal_len - 1] = 0;
+}
+
+static uint32_t add_journaled(const char *text, size_t size, uint32_t mode,
+                              size_t journal_len)
+{
+    const uint8_t name = 1;
+
+    return subject.add_journaled(image, length, &name, 1,
+                                 (const uint8_t *)text, size, mode, work,
+                                 length, journal, journal_len);
+}
+
+static uint32_t recover(size_t journal_len)
+{
+    return subject.recover(image, length, journal, journal_len);
+}
+
+/* The journal begins so, and then has bytes 0xEE up to the mark. */
+static void expect_journal(const char *what, const uint8_t *want, size_t size,
+                           size_t journal_len, uint8_t mark)
+{
+    uint32_t wrong = memcmp(journal, want, size) != 0;
+
+    for (size_t i = size; i + 1 < journal_len; i++)
+        wrong += journal[i] != 0xEE;
+    wrong += journal_len > size && journal[journal_len - 1] != mark;
+    for (size_t i = journal_len; i < sizeof journal; i++)
+        wrong += journal[i] != 0xEE;
+    expect(what, wrong, 0);
+}
+
+/* Of byte 1 with the text P: six stretches of 11 bytes. */
+static const uint8_t added[] = {
+    0,    0, 0,    6, 0, 0,  0,    23, 0, 0,  0,    1, 0, 0, 0,    55,
+    0,    0, 0,    5, 0, 0,  0x08, 15, 0, 0,  0,    1, 0, 0, 0x08, 18,
+    0,    0, 0,    1, 0, 0,  0x10, 0,  0, 0,  0,    1, 0, 0, 0x10, 3,
+    0,    0, 0,    2, 1, 5,  0,    0,  0, 0,  1, 0x10, 'a', 1, 'P'
+};
+
+static void journal_written(void)
+{
+    static const size_t sizes[] = { 64, 65, 100 };
+
+    expect("content", sizeof added, 63);
+    for (int i = 0; i < 3; i++) {
+        create(8192, 1, 4, 0);
+        clear_journal(sizes[i]);
+        expect("add", add_journaled("P", 1, 1, sizes[i]), 0);
+        expect("C", get32(AT_COUNT), 1);
+        expect("X", get32(AT_NEXT), 4101);
+        expect_journal("journal of an add", added, sizeof added, sizes[i], 0);
+    }
+    clear_journal(sizeof journal);
+    expect("present", add_journaled("P", 1, 1, sizeof journal), 9);
+    expect_journal("refused", added, 0, sizeof journal, 0);
+}
+
+/* 17 after the other questions; the image and the journal stay. */
+static void journal_refused(void)
+{
+    static const size_t sizes[] = { 0, 1, 4, 63 };
+    const uint8_t name = 2;
+
+    create(8192, 1, 4, 0);
+    for (int i = 0; i < 4; i++) {
+        clear_journal(sizes[i]);
+        expect("too short", add_journaled("P", 1, 1, sizes[i]), 17);
+        expect_journal("too short: as it was", added, 0, sizes[i], 0);
+    }
+    clear_journal(64);
+    journal[63] = 1;
+    expect("mark 1", add_journaled("P", 1, 1, 64), 17);
+    journal[63] = 0xA5;
+    expect("mark 0xA5", add_journaled("P", 1, 1, 64), 17);
+    expect_journal("marked: as it was", added, 0, 64, 0xA5);
+    expect("8 before 17", add_journaled("P", 1, 5, 0), 8);
+    expect("C", get32(AT_COUNT), 0);
+    expect("14 before 17",
+           subject.remove_journaled(image, length, &name, 1, work, length,
+                                    journal, 0), 14);
+    expect("16 before 14",
+           subject.remove_journaled(image, length, &name, 1, work, length - 1,
+                                    journal, 0), 16);
+    put32(AT_COUNT, 5);
+    expect("6 before 17",
+           subject.compact_journaled(image, length, work, length, journal, 0),
+           6);
+    length--;
+    expect("16 before 1",
+           subject.compact_journaled(image, length, work, length - 1, journal,
+                                     0), 16);
+}
+
+/* A call that changes nothing writes the count 0. */
+static void journal_empty(void)
+{
+    static const uint8_t none[] = { 0, 0, 0, 0 };
+
+    create(8192, 1, 4, 0);
+    clear_journal(4);
+    expect("no room for the mark",
+           subject.compact_journaled(image, length, work, length, journal, 4),
+           17);
+    clear_journal(5);
+    expect("nothing dead",
+           subject.compact_journaled(image, length, work, length, journal, 5),
+           0);
+    expect_journal("the count 0", none, 4, 5, 0);
+}
+
+/* From each other mark the image stays; from 0xA5 it is the one after. */
+static void recovering(void)
+{
+    create(8192, 1, 4, 0);
+    for (uint32_t mark = 0; mark < 256; mark++) {
+        clear_journal(70);
+        memcpy(journal, added, sizeof added);
+        journal[69] = (uint8_t)mark;
+        expect("recover", recover(70), 0);
+        expect("C", get32(AT_COUNT), mark >= 0xA5);
+        expect_journal("but for the mark as it was", added, sizeof added, 70,
+                       0);
+    }
+    expect("X", get32(AT_NEXT), 4101);
+    expect("M", get32(AT_LAST_PAGE), 0);
+    expect("slot 3", key_in(3), 1);
+    expect("its offset", get32(TABLE + 16), 4096);
+    expect("message", get32(4096), 0x61000001u);
+    expect("text", image[4100], 'P');
+}
+
+/* A marked journal with one number of its content changed: 18, and nothing
+ * changes. */
+static void expect_18(const char *what, size_t at, uint8_t value,
+                      size_t journal_len)
+{
+    uint8_t kept[sizeof journal];
+
+    clear_journal(journal_len);
+    memcpy(journal, added, sizeof added);
+    journal[at] = value;
+    journal[journal_len - 1] = 0xA5;
+    memcpy(kept, journal, sizeof kept);
+    expect(what, recover(journal_len), 18);
+    expect("  the journal", memcmp(journal, kept, sizeof kept) != 0, 0);
+    expect("  C", get32(AT_COUNT), 0);
+}
+
+static void not_recovered(void)
+{
+    create(8192, 1, 4, 0);
+    expect("empty", recover(0), 18);
+    expect_18("content reaches the mark", 0, 0, 63);
+    expect_18("no room for the count", 0, 0, 4);
+    expect_18("count beyond the mark", 3, 12, 100);
+    expect_18("count that overflows", 0, 0x20, 100);
+    expect_18("a length beyond the mark", 51, 3, 64);
+    expect_18("a pair leaves the image", 46, 0x20, 100);
+    expect_18("a pair in the last one", 15, 23, 100);
+    expect_18("a pair before the last one", 22, 0, 100);
+    clear_journal(100);
+    memcpy(journal, added, sizeof added);
+    journal[99] = 0xA5;
+    expect("whole", recover(100), 0);
+    expect("C", get32(AT_COUNT), 1);
+    length = 4096 + 5;
+    journal[99] = 0xA5;
+    expect("no other question", recover(100), 0);
+    length--;
+    journal[99] = 0xA5;
+    expect("a byte less", recover(100), 18);
+}
+
 /* ---- the generator ---- */
 
 /* Powers of the multiplier and their sums, by another route than one step
@@ -561,6 +745,11 @@ int main(void)
     changes_listed();
     list_too_short();
     slices_too_short();
+    journal_written();
+    journal_refused();
+    journal_empty();
+    recovering();
+    not_recovered();
     generator();
     free(image);
     printf("%u passed, %u failed\n", passed, failed);

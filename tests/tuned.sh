@@ -70,4 +70,6 @@ test_that "found: a run that begins inside a word" \
     'while (at < length && at % 8 == 0 && old[at] == new[at])'
 test_that "found: a list one pair too short" \
     finds 'if (most-- == 0)' 'if (most-- <= 1)'
+test_that "found: a journal without room for its pairs" \
+    finds 'size += PAIR + (r.end - r.at);' 'size += r.end - r.at;'
 tally

@@ -55,6 +55,27 @@ static void perform_listed(const struct calls *f, uint8_t *s,
                                       &a->pairs);
 }
 
+/* By way of a journal. */
+static void perform_journaled(const struct calls *f, uint8_t *s,
+                              const struct call *c, struct answer *a)
+{
+    int is_plain = f == &plain;
+    uint8_t *w = is_plain ? work.plain : work.library;
+    uint8_t *j = is_plain ? journal.plain : journal.library;
+    size_t n = c->image_len;
+
+    if (c->kind == ADD)
+        a->number = f->add_journaled(s, n, c->key, c->key_len, c->data,
+                                     c->data_len, c->mode, w, c->work_len, j,
+                                     c->journal_len);
+    else if (c->kind == DELETE)
+        a->number = f->remove_journaled(s, n, c->key, c->key_len, w,
+                                        c->work_len, j, c->journal_len);
+    else
+        a->number = f->compact_journaled(s, n, w, c->work_len, j,
+                                         c->journal_len);
+}
+
 static struct answer perform(const struct calls *f, uint8_t *image,
                              const struct call *c)
 {
@@ -68,6 +89,10 @@ static struct answer perform(const struct calls *f, uint8_t *image,
     }
     if (c->form == LISTED) {
         perform_listed(f, s, c, &a);
+        return a;
+    }
+    if (c->form == JOURNALED) {
+        perform_journaled(f, s, c, &a);
         return a;
     }
     switch (c->kind) {
@@ -92,6 +117,11 @@ static struct answer perform(const struct calls *f, uint8_t *image,
         break;
     case WALK:
         a.number = f->walk(s, n, c->from, &a.first, &a.second);
+        break;
+    case RECOVER:
+        a.number = f->recover(s, n,
+                              f == &plain ? journal.plain : journal.library,
+                              c->journal_len);
         break;
     default:
         a.number = f->check(s, n, &a.first, &a.second);
@@ -168,10 +198,15 @@ static void same_bytes(const char *what, const uint8_t *a, const char *one,
     exit(1);
 }
 
+static int writes(enum kind kind)
+{
+    return kind <= COMPACT || kind == RECOVER;
+}
+
 static void compare_bytes(const struct call *c, uint32_t number)
 {
     same_bytes("image", lent.library, "library", lent.plain, "plain");
-    if (c->kind > COMPACT || number != 0)
+    if (!writes(c->kind) || number != 0)
         same_bytes("a refused or reading call changed the image",
                    lent.library, "after", lent.before, "before");
     if (!guards_hold(lent.library, lent.length, lent.shift))
@@ -197,6 +232,27 @@ static void keep_old_calls(void)
         c->mode = 3;
 }
 
+/* What the call is lent beside image, key and data. */
+static void lend_slices(void)
+{
+    if (list.now.form == LISTED)
+        lend_listed();
+    if (list.now.form == JOURNALED)
+        lend_journaled();
+    if (list.now.kind == RECOVER && !list.now.again)
+        lend_journal();
+}
+
+static void compare_slices(const struct call *c, const struct answer *a)
+{
+    if (c->form == LISTED)
+        compare_listed(c, a);
+    if (c->form == JOURNALED)
+        compare_journaled(c, a);
+    if (c->kind == RECOVER)
+        compare_recovered(c, a);
+}
+
 struct answer run_call(void)
 {
     const struct call *c = &list.now;
@@ -211,8 +267,7 @@ struct answer run_call(void)
         keep_old_calls();
     if (c->key != NULL)
         memcpy(key, c->key, kept);
-    if (c->form == LISTED)
-        lend_listed();
+    lend_slices();
     a = perform(&subject, lent.library, c);
     if (c->key != NULL && memcmp(key, c->key, kept) != 0)
         fail("the lent key changed");
@@ -226,24 +281,24 @@ struct answer run_call(void)
         compare_book(c, &a);
     if (c->kind == COMPACT && a.number == 0)
         compare_packed();
-    if (c->form == LISTED)
-        compare_listed(c, &a);
-    if (c->kind <= COMPACT && a.number == 0)
+    compare_slices(c, &a);
+    if (writes(c->kind) && a.number == 0)
         memcpy(lent.before, lent.library, lent.length);
     seen[c->kind][a.number < NUMBERS ? a.number : 0]++;
     return a;
 }
 
 /* Three of four by the form with slots read where there is one; now and then
- * with the list, which takes as long as the image is. */
+ * with a list or a journal, which takes as long as the image is. */
 static enum form choose_form(enum kind kind)
 {
-    int writes = kind == ADD || kind == DELETE || kind == COMPACT;
+    int changes = kind == ADD || kind == DELETE || kind == COMPACT;
+    uint32_t rate = lent.length > 1000000 ? 80 : kind == COMPACT ? 3 : 5;
 
     if (run.old_calls)
         return PLAIN;
-    if (writes && one_in(lent.length > 1000000 ? 40 : kind == COMPACT ? 3 : 6))
-        return LISTED;
+    if (changes && one_in(rate))
+        return one_in(2) ? LISTED : JOURNALED;
     if ((kind == ADD || kind == DELETE || kind == LOOKUP) && !one_in(4))
         return COUNTED;
     return PLAIN;

@@ -114,7 +114,7 @@ static void step_shorter(void)
 {
     uint32_t pages = lent.length / PAGE;
 
-    new_call((enum kind)(ADD + below(KINDS - ADD)));
+    new_call((enum kind)(ADD + below(RECOVER - ADD)));
     choose_key();
     choose_data(NAMES);
     list.now.mode = choose_mode();

@@ -1,4 +1,5 @@
-/* Images, keys, data and other slices that end where an unreadable page begins. */
+/* Images, keys, data and other slices that end where an unreadable page
+ * begins. */
 #define _DEFAULT_SOURCE
 
 #include "parts.h"
@@ -13,6 +14,7 @@
 struct lent lent;
 struct slice work;
 struct slice listing;
+struct slice journal;
 uint8_t *data_start;
 size_t data_size;
 uint8_t *key_end;
@@ -88,6 +90,7 @@ void map_all(void)
     map_data();
     map_slice(&work);
     map_slice(&listing);
+    map_slice(&journal);
 }
 
 static uint32_t choose_shift(void)

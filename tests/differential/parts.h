@@ -16,15 +16,20 @@
 #define GUARD_BYTE 0xA7
 #define NAMES 64u
 
-/* Those up to compaction write the image. */
-enum kind { CREATE, ADD, DELETE, COMPACT, LOOKUP, COUNT, WALK, CHECK, KINDS };
+#define PAIR 8u /* bytes: offset and length of a stretch */
 
-#define NUMBERS 17 /* answers from 0 to 16 */
+/* Those up to compaction, and recovery, write the image. Those before recovery
+ * are calls on a file. */
+enum kind { CREATE, ADD, DELETE, COMPACT, LOOKUP, COUNT, WALK, CHECK, RECOVER,
+            KINDS };
+
+#define NUMBERS 19 /* answers from 0 to 18 */
 
 extern const char *const kind_name[KINDS];
 
-/* As 01 has the call; with slots read; with the list of what changed. */
-enum form { PLAIN, COUNTED, LISTED };
+/* As 01 has the call; with slots read; with the list of what changed; by way of
+ * a journal. */
+enum form { PLAIN, COUNTED, LISTED, JOURNALED };
 
 struct call {
     enum kind kind;
@@ -39,8 +44,11 @@ struct call {
     uint32_t seed;
     uint32_t from; /* walk */
     enum form form;
-    size_t work_len; /* of a listed call */
+    size_t work_len; /* of a listed or journaled call */
     size_t list_len;
+    size_t journal_len;
+    uint8_t mark; /* of the journal, before the call */
+    int again;    /* with the slices as the last call left them */
 };
 
 /* first and second: the call's outputs in the order of its arguments. */
@@ -126,6 +134,7 @@ struct slice {
 };
 extern struct slice work;
 extern struct slice listing; /* of changes */
+extern struct slice journal;
 
 extern uint8_t *data_start;
 extern size_t data_size;
@@ -169,6 +178,7 @@ uint32_t field(uint32_t offset);
 void print_failure(void);
 
 void fail(const char *what);
+void fail_slice(const char *what, const char *differs);
 void fail_number(const char *what, const char *one, uint64_t a,
                  const char *other, uint64_t b);
 
@@ -275,14 +285,57 @@ void sound_image(void);
 /* After an accepted one: the image against the one before. */
 void compare_packed(void);
 
+/* ---- what a call changed (changed.c) ---- */
+
+/* Runs of bytes that differ, and the bytes in them. */
+struct changed {
+    size_t runs;
+    size_t bytes;
+};
+
+struct changed count_changed(const uint8_t *a, const uint8_t *b,
+                             size_t length);
+
+/* What list.now will change. */
+struct changed foresee(void);
+
+/* Lends list.now a working slice, mostly as long as it must be. */
+void lend_work(void);
+
+/* Now and then a length that does not fit 32 bits. */
+size_t widen(size_t length);
+
+uint32_t pair_offset(const uint8_t *pairs, uint32_t i);
+uint32_t pair_length(const uint8_t *pairs, uint32_t i);
+
+/* These pairs are runs of changed bytes, sorted and unbroken. */
+void compare_pairs(const uint8_t *pairs, uint32_t count, size_t length);
+
+/* Copied into the image before, the stretches give the one after. */
+void copy_stretches(const uint8_t *pairs, uint32_t count, size_t length);
+
+/* The library's against plain C's, and, behind what was written, against what
+ * was there; and the bytes around it. */
+void compare_slice(const char *what, const struct slice *s, size_t written);
+
 /* ---- the list of what changed (listed.c) ---- */
 
 /* Lends list.now a working slice and a list, as long as they may be or not. */
 void lend_listed(void);
 
-/* After the call: the list against plain C's and by its definition. Copies the
- * listed stretches into the image before. */
+/* After the call: the list by its definition. Copies the listed stretches into
+ * the image before. */
 void compare_listed(const struct call *c, const struct answer *a);
+
+/* ---- journal and recovery (journal.c) ---- */
+
+void lend_journaled(void);
+void compare_journaled(const struct call *c, const struct answer *a);
+
+/* Of recovery. */
+void lend_journal(void);
+void compare_recovered(const struct call *c, const struct answer *a);
+void step_recover(void);
 
 /* ---- damage.c, splice.c, lists.c ---- */
 

@@ -10,6 +10,7 @@
 
 const char *const kind_name[KINDS] = {
     "create", "add", "delete", "compact", "lookup", "count", "walk", "check",
+    "recover",
 };
 
 static void print_key(const struct call *c)
@@ -35,6 +36,10 @@ static void print_call(const struct call *c)
     if (c->form == LISTED)
         printf(", working slice of %zu bytes, list of %zu", c->work_len,
                c->list_len);
+    if (c->form == JOURNALED)
+        printf(", working slice of %zu bytes", c->work_len);
+    if (c->form == JOURNALED || c->kind == RECOVER)
+        printf(", journal of %zu bytes, mark %u", c->journal_len, c->mark);
     printf("\n");
 }
 
@@ -71,6 +76,13 @@ void fail(const char *what)
 {
     print_failure();
     printf("%s\n", what);
+    exit(1);
+}
+
+void fail_slice(const char *what, const char *differs)
+{
+    print_failure();
+    printf("%s %s\n", what, differs);
     exit(1);
 }
 

@@ -48,7 +48,7 @@ void step_compact(void)
 
 void step_wrong_length(void)
 {
-    new_call((enum kind)below(KINDS));
+    new_call((enum kind)below(RECOVER));
     choose_key();
     choose_data(NAMES);
     list.now.mode = choose_mode();
@@ -60,7 +60,7 @@ void step_wrong_length(void)
 
 void step_longest(void)
 {
-    new_call((enum kind)(ADD + below(KINDS - ADD)));
+    new_call((enum kind)(ADD + below(RECOVER - ADD)));
     choose_key();
     choose_data(NAMES);
     list.now.mode = choose_mode();
@@ -136,7 +136,9 @@ void step(const uint8_t *weights)
 {
     uint32_t style = below(100);
 
-    if (style < weights[ADD])
+    if (!run.old_calls && one_in(32))
+        step_recover();
+    else if (style < weights[ADD])
         step_add();
     else if (style < weights[DELETE])
         step_key(DELETE);

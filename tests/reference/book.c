@@ -250,3 +250,8 @@ uint32_t book_ask_listed(size_t image_len, size_t work_len, size_t list_len)
 {
     return work_len < image_len || list_len < 8 ? 16 : 0;
 }
+
+uint32_t book_ask_journaled(size_t image_len, size_t work_len)
+{
+    return work_len < image_len ? 16 : 0;
+}

@@ -47,7 +47,9 @@ uint32_t book_count(const struct book *b);
 /* The step of compaction. */
 void book_compact(struct book *b);
 
-/* Question 16 of the form with a list, put before the call's other ones. */
+/* Question 16 of the forms with a list and by way of a journal, put before the
+ * call's other ones. */
 uint32_t book_ask_listed(size_t image_len, size_t work_len, size_t list_len);
+uint32_t book_ask_journaled(size_t image_len, size_t work_len);
 
 #endif

@@ -18,6 +18,8 @@
 #define MESSAGE_HEADER 4u
 #define OFFSET_SIZE 4u
 #define PAIR 8u /* a stretch's offset and length */
+#define PAIR_COUNT 4u /* bytes of it, at a journal's start */
+#define MARK 0xA5u
 #define SCRAMBLE 512u
 #define TABLE 2048u
 #define FIRST_CHARACTER 32u
@@ -1005,4 +1007,173 @@ uint32_t plain_compact_listed(uint8_t *image, size_t image_len, uint8_t *work,
     if (answer == ACCEPTED)
         answer = plain_compact(image, image_len);
     return end_listed(answer, image, image_len, work, list, list_len, pairs);
+}
+
+/* ---- the forms that a cut does not harm ---- */
+
+/* How long a journal's content is: the count, the pairs, the new bytes. */
+static uint64_t content_size(const uint8_t *old, const uint8_t *new,
+                             size_t length)
+{
+    uint64_t size = PAIR_COUNT;
+    size_t at = next_change(old, new, 0, length);
+
+    while (at < length) {
+        size_t end = run_end(old, new, at, length);
+
+        size += PAIR + (end - at);
+        at = next_change(old, new, end, length);
+    }
+    return size;
+}
+
+static void write_new_bytes(uint8_t *to, const uint8_t *old,
+                            const uint8_t *new, size_t length)
+{
+    size_t at = next_change(old, new, 0, length);
+
+    while (at < length) {
+        size_t end = run_end(old, new, at, length);
+
+        copy(to, new + at, end - at);
+        to += end - at;
+        at = next_change(old, new, end, length);
+    }
+}
+
+static void write_content(uint8_t *journal, const uint8_t *old,
+                          const uint8_t *new, size_t length)
+{
+    size_t runs = count_runs(old, new, length);
+
+    put32(journal, (uint32_t)runs);
+    write_runs(journal + PAIR_COUNT, old, new, length);
+    write_new_bytes(journal + PAIR_COUNT + PAIR * runs, old, new, length);
+}
+
+/* Each stretch, from the journal into the image. */
+static void write_back(uint8_t *image, const uint8_t *journal)
+{
+    uint32_t count = get32(journal);
+    const uint8_t *pair = journal + PAIR_COUNT;
+    const uint8_t *from = pair + (size_t)count * PAIR;
+
+    for (uint32_t i = 0; i < count; i++, pair += PAIR) {
+        copy(image + get32(pair), from, get32(pair + 4));
+        from += get32(pair + 4);
+    }
+}
+
+/* Question 16; then the working slice is a copy on which the call is made. */
+static uint32_t begin_journaled(const uint8_t *image, size_t image_len,
+                                uint8_t *fresh, size_t work_len)
+{
+    if (work_len < image_len)
+        return 16;
+    copy(fresh, image, image_len);
+    return ACCEPTED;
+}
+
+/* Question 17; then the image becomes what an accepted call left in the working
+ * slice. */
+static uint32_t end_journaled(uint32_t answer, uint8_t *image,
+                              size_t image_len, const uint8_t *work,
+                              uint8_t *journal, size_t journal_len)
+{
+    uint8_t *mark;
+
+    if (answer != ACCEPTED)
+        return answer;
+    if (journal_len <= content_size(image, work, image_len) ||
+        journal[journal_len - 1] != 0)
+        return 17;
+    mark = journal + journal_len - 1;
+    write_content(journal, image, work, image_len);
+    *mark = MARK;
+    write_back(image, journal);
+    *mark = 0;
+    return ACCEPTED;
+}
+
+uint32_t plain_add_journaled(uint8_t *image, size_t image_len,
+                             const uint8_t *key, size_t key_len,
+                             const uint8_t *data, size_t data_len,
+                             uint32_t mode, uint8_t *work, size_t work_len,
+                             uint8_t *journal, size_t journal_len)
+{
+    uint32_t answer = begin_journaled(image, image_len, work, work_len);
+
+    if (answer == ACCEPTED)
+        answer = plain_add(work, image_len, key, key_len, data, data_len,
+                           mode);
+    return end_journaled(answer, image, image_len, work, journal,
+                         journal_len);
+}
+
+uint32_t plain_delete_journaled(uint8_t *image, size_t image_len,
+                                const uint8_t *key, size_t key_len,
+                                uint8_t *work, size_t work_len,
+                                uint8_t *journal, size_t journal_len)
+{
+    uint32_t answer = begin_journaled(image, image_len, work, work_len);
+
+    if (answer == ACCEPTED)
+        answer = plain_delete(work, image_len, key, key_len);
+    return end_journaled(answer, image, image_len, work, journal,
+                         journal_len);
+}
+
+uint32_t plain_compact_journaled(uint8_t *image, size_t image_len,
+                                 uint8_t *work, size_t work_len,
+                                 uint8_t *journal, size_t journal_len)
+{
+    uint32_t answer = begin_journaled(image, image_len, work, work_len);
+
+    if (answer == ACCEPTED)
+        answer = plain_compact(work, image_len);
+    return end_journaled(answer, image, image_len, work, journal,
+                         journal_len);
+}
+
+/* ---- recovery ---- */
+
+/* Question 18 of a marked journal: its content ends before the mark, and each
+ * pair stays in the image and begins behind the last one. */
+static int content_fits(const uint8_t *journal, size_t mark, size_t image_len)
+{
+    uint64_t size = PAIR_COUNT;
+    size_t end = 0;
+    uint32_t count;
+
+    if (mark < PAIR_COUNT)
+        return 0;
+    count = get32(journal);
+    size += (uint64_t)count * PAIR;
+    if (size > mark)
+        return 0;
+    for (uint32_t i = 0; i < count; i++) {
+        const uint8_t *pair = journal + PAIR_COUNT + (size_t)i * PAIR;
+        size_t at = get32(pair), length = get32(pair + 4);
+
+        if (at < end || at > image_len || length > image_len - at)
+            return 0;
+        end = at + length;
+        size += length;
+    }
+    return size <= mark;
+}
+
+uint32_t plain_recover(uint8_t *image, size_t image_len, uint8_t *journal,
+                       size_t journal_len)
+{
+    size_t mark = journal_len - 1;
+
+    if (journal_len == 0)
+        return 18;
+    if (journal[mark] == MARK && !content_fits(journal, mark, image_len))
+        return 18;
+    if (journal[mark] == MARK)
+        write_back(image, journal);
+    journal[mark] = 0;
+    return ACCEPTED;
 }

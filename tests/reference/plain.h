@@ -68,4 +68,27 @@ uint32_t plain_compact_listed(uint8_t *image, size_t image_len, uint8_t *work,
                               size_t work_len, uint8_t *list, size_t list_len,
                               uint32_t *pairs);
 
+/* The same calls by way of a journal, so that a cut does no harm: it takes the
+ * number of pairs, the pairs and the new bytes, then its last byte, the mark,
+ * becomes 0xA5, then the image is written, then the mark becomes 0. 16 for a
+ * working slice shorter than the image; after all other questions 17 for a
+ * journal that is too short or whose mark is not 0. */
+uint32_t plain_add_journaled(uint8_t *image, size_t image_len,
+                             const uint8_t *key, size_t key_len,
+                             const uint8_t *data, size_t data_len,
+                             uint32_t mode, uint8_t *work, size_t work_len,
+                             uint8_t *journal, size_t journal_len);
+uint32_t plain_delete_journaled(uint8_t *image, size_t image_len,
+                                const uint8_t *key, size_t key_len,
+                                uint8_t *work, size_t work_len,
+                                uint8_t *journal, size_t journal_len);
+uint32_t plain_compact_journaled(uint8_t *image, size_t image_len,
+                                 uint8_t *work, size_t work_len,
+                                 uint8_t *journal, size_t journal_len);
+
+/* Rewrites the image from a marked journal; the mark becomes 0. 18, and nothing
+ * changes, for a journal that is empty or marked and not whole. */
+uint32_t plain_recover(uint8_t *image, size_t image_len, uint8_t *journal,
+                       size_t journal_len);
+
 #endif

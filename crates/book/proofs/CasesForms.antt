@@ -3,6 +3,7 @@
 -- Assumes nothing.
 use mathlib.Core.Path.{_≡_, refl}
 use Prim.Native.Nat.{ℕ}
+use mathlib.Core.Bool.{true, false}
 use mathlib.Core.List.{List, [], _∷_}
 use Rattle.bhtf.specs.Bytes.{zeros}
 use Rattle.bhtf.specs.Calls.{Answer}
@@ -10,11 +11,11 @@ use Rattle.bhtf.specs.Lists.{looking, counting, answers}
 use Rattle.bhtf.proofs.CasesBase.{one, done, refused, shows, counts}
 use Rattle.updates.specs.Changes.{listAllowed, workAllowed}
 use Rattle.book.specs.Steps.{calling}
-use Rattle.book.specs.Forms.{Form, plainly, listing, adds, deletes, compacts, plainStep, imageLength, bookForm}
+use Rattle.book.specs.Forms.{Form, plainly, listing, journaling, adds, deletes, compacts, plainStep, imageLength, toldNumber, bookForm, Told, bookTold}
 use Rattle.book.proofs.CasesTrimmed.{trim-definitions, start}
 
 unfoldable pub form-definitions : ℕ
-unfolding trim-definitions listAllowed workAllowed plainStep imageLength bookForm
+unfolding trim-definitions listAllowed workAllowed plainStep imageLength toldNumber bookForm bookTold
 form-definitions = 0
 
 -- "A list slice below 8 bytes, or a working slice below L, is answered 16, before question 1": also before 7. Else a
@@ -32,6 +33,36 @@ formsAnswers =
     refused 16 ∷ refused 16 ∷ refused 16 ∷ done ∷ refused 9 ∷ shows 1 (80 ∷ []) ∷ refused 16 ∷ done ∷ refused 16
     ∷ done ∷ counts 0 ∷ []
 
-pub forms-book : answers bookForm formsCalls start ≡ formsAnswers
-unfolding form-definitions start
+-- none of them is answered 17
+unfoldable pub untold : List Form → List Told
+untold [] = []
+untold (f ∷ fs) = record { form = f; seventeen = false } ∷ untold fs
+
+pub forms-book : answers bookTold (untold formsCalls) start ≡ formsAnswers
+unfolding form-definitions untold start
 forms-book = refl
+
+-- "17 after all other questions": told of it, the book answers it only where its own questions let the call through; 16
+-- and 9 come before it. "it answers that and changes nothing".
+abbrev pub journalCalls : List Form
+journalCalls =
+    journaling (adds one (80 ∷ []) 1) 8192 (zeros 8) ∷ journaling (adds one (80 ∷ []) 1) 8191 (zeros 90)
+    ∷ journaling (adds one (80 ∷ []) 1) 8192 (zeros 90) ∷ journaling (adds one (81 ∷ []) 1) 8192 []
+    ∷ journaling (deletes one) 8192 (zeros 10) ∷ plainly (calling (looking one)) ∷ plainly (calling counting) ∷ []
+
+abbrev pub journalAnswers : List Answer
+journalAnswers =
+    refused 17 ∷ refused 16 ∷ done ∷ refused 9 ∷ refused 17 ∷ shows 1 (80 ∷ []) ∷ counts 1 ∷ []
+
+pub told-book : answers bookTold
+    (record { form = journaling (adds one (80 ∷ []) 1) 8192 (zeros 8); seventeen = true }
+    ∷ record { form = journaling (adds one (80 ∷ []) 1) 8191 (zeros 90); seventeen = true }
+    ∷ record { form = journaling (adds one (80 ∷ []) 1) 8192 (zeros 90); seventeen = false }
+    ∷ record { form = journaling (adds one (81 ∷ []) 1) 8192 []; seventeen = true }
+    ∷ record { form = journaling (deletes one) 8192 (zeros 10); seventeen = true }
+    ∷ record { form = plainly (calling (looking one)); seventeen = true }
+    ∷ record { form = plainly (calling counting); seventeen = true } ∷ [])
+    start
+    ≡ journalAnswers
+unfolding form-definitions start
+told-book = refl

@@ -17,10 +17,10 @@ use Rattle.book.specs.Reopened.{bookOf, entriesFrom, entryAt}
 use Rattle.book.proofs.CasesBook.{booked, Books, Find, fileTexts, bookTexts}
 use Rattle.book.proofs.CasesReopened.{othersBook}
 use Rattle.book.specs.Steps.{perform}
-use Rattle.book.specs.Forms.{outcomeOf, performForm}
-use Rattle.book.proofs.CasesForms.{form-definitions, formsCalls, formsAnswers}
+use Rattle.book.specs.Forms.{outcomeOf, journaledOutcome, performForm}
+use Rattle.book.proofs.CasesForms.{form-definitions, formsCalls, formsAnswers, journalCalls, journalAnswers}
 use Rattle.compaction.proofs.CasesCompact.{compact-definitions}
-use Rattle.updates.proofs.CasesChanges.{changes}
+use Rattle.updates.proofs.CasesChanges.{changes, journals}
 
 abbrev pub Both : ℕ → ℕ → List Call → List Answer → ℕ → Bytes → Type 0
 Both L N calls expected n bytes = Files L N calls expected n bytes × Books L N calls expected n
@@ -156,3 +156,9 @@ others-answers = (refl, refl)
 pub forms-file : answers performForm formsCalls (headed 1 4 8192) ≡ formsAnswers
 unfolding compact-definitions form-definitions changes perform outcomeOf performForm headed
 forms-file = refl
+
+-- ---- Job 9
+
+pub journaled-file : answers performForm journalCalls (headed 1 4 8192) ≡ journalAnswers
+unfolding compact-definitions form-definitions journals perform journaledOutcome performForm headed
+journaled-file = refl

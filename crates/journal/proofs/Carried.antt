@@ -1,31 +1,28 @@
 -- The writes of an update, as the code does them.
 --     content-stored           count, pairs and new bytes, one behind the other, are the content
---     carried-none, carried-content, carried-stretches, carried-all      the first n writes, for every n
---     marked-sound, marked-count, marked-blocks      what the journal holds once its mark is set
+--     carried-none, carried-content, carried-marked      the first n writes, for every n
+--     marked-sound, marked-count      what the journal holds once its mark is set
 -- Assumes nothing.
 use mathlib.Core.Path.{_≡_, refl, sym, ap, ap₂, _∙_}
-use Prim.Native.Nat.{ℕ, zero, suc, _+_, _-_, _*_, _^_, _≤_, _<_}
+use Prim.Native.Nat.{ℕ, suc, _+_, _-_, _*_, _^_, _≤_, _<_}
 use native.Mathlib.Omega.{arith}
 use mathlib.Core.Bool.{Bool, true, false, cond, _&&_, and-false}
 use mathlib.Core.List.{List, [], _∷_, _++_, append-assoc}
-use lib.ListN.{length, take, set, getD, length-append}
-use lib.Seq.{take-all}
+use lib.ListN.{length, take, getD, length-append}
 use lib.Dec.{leb, eqb}
 use borrow.Author.Tests.{le-leb, lt-leb, leb-true, eq-eqb, ne-eqb}
-use Rattle.bhtf.specs.Bytes.{Bytes, part, store, digits}
+use Rattle.bhtf.specs.Bytes.{Bytes, store, digits}
 use Rattle.bhtf.specs.Image.{setField}
 use Rattle.updates.specs.Changes.{Pair, runs, pairBytes}
-use Rattle.updates.specs.Journal.{newBytes, content, markPlace, mark, marked, journalAllowed, Disk, Block, Write, toJournal, toImage, put, written, allWritten, putAll, stretches, toImages, setMark, updates, pairCount, bytesStart, blocksOf, total, journalSound}
-use Rattle.bhtf.proofs.Tests.{and-left, and-right}
+use Rattle.updates.specs.Journal.{newBytes, content, markPlace, mark, marked, journalAllowed, Disk, Block, Write, toJournal, put, written, allWritten, stretches, toImages, setMark, updates, pairCount, bytesStart, blocksOf, total, journalSound, recoveries}
+use Rattle.bhtf.proofs.Tests.{and-left}
 use Rattle.bhtf.proofs.Bytes.{length-digits, length-store}
 use Rattle.bhtf.proofs.Stores.{store-append}
 use Rattle.updates.proofs.Changes.{Spread, runs-spread, runs-few}
 use Rattle.updates.proofs.Journal.{length-pairBytes, length-content, Holds, holds-content, holds-mark, content-count, content-blocks, content-sound}
 use Rattle.bhtf.specs.Calls.{settled}
 use Rattle.bhtf.proofs.Outcomes.{settled-no}
-use Rattle.updates.proofs.Recovery.{images-then}
-use Rattle.words.proofs.Numbers.{set-store}
-use Rattle.journal.specs.Updates.{Updates}
+use Rattle.journal.proofs.Settling.{take-beyond}
 
 -- ---- the content
 
@@ -95,38 +92,12 @@ module _ (old new j : Bytes) (l : length old ≡ length new) where
       ap₂ _&&_ (le-leb (length (content (runs 0 old new) new) + 1) (length j) (omega arith))
       (eq-eqb (getD j (length j - 1) 0) 0 z)
 
--- ---- writes to the image
+-- ---- the first n writes
 
-images-only : (bs : List Block) (img j : Bytes)
-    → allWritten (toImages bs) (record { image = img; journal = j }) ≡ record { image = putAll img bs; journal = j }
-unfolding allWritten toImages written putAll
-images-only [] img j = refl
-images-only (b ∷ bs) img j = images-only bs (put img b) j
-
-take-images : (k : ℕ) (bs : List Block) (w : Write) → k ≤ length bs
-    → take k (toImages bs ++ (w ∷ [])) ≡ toImages (take k bs)
-unfolding toImages
-take-images zero bs w h = refl
-take-images (suc k) [] w h = absurd (omega arith)
-take-images (suc k) (b ∷ bs) w h = ap (λ (t : List Write). toImage b ∷ t) (take-images k bs w (omega arith))
-
-take-beyond : (k : ℕ) (bs : List Block) (w : Write) → length bs < k
-    → take k (toImages bs ++ (w ∷ [])) ≡ toImages bs ++ (w ∷ [])
-unfolding toImages
-take-beyond zero bs w h = absurd (omega arith)
-take-beyond (suc k) [] w h = ap (λ (t : List Write). w ∷ t) (nothing k)
-  where
-    nothing : (k : ℕ) → _≡_ {A = List Write} (take k []) []
-    nothing zero = refl
-    nothing (suc k) = refl
-take-beyond (suc k) (b ∷ bs) w h = ap (λ (t : List Write). toImage b ∷ t) (take-beyond k bs w (omega arith))
-
-pub length-stretches : (rs : List Pair) (new : Bytes) → length (stretches rs new) ≡ length rs
+length-stretches : (rs : List Pair) (new : Bytes) → length (stretches rs new) ≡ length rs
 unfolding stretches
 length-stretches [] new = refl
 length-stretches (r ∷ rs) new = ap suc (length-stretches rs new)
-
--- ---- the first n writes
 
 module _ (old new j : Bytes) where
   abbrev rs : List Pair
@@ -146,35 +117,6 @@ module _ (old new j : Bytes) where
   unfolding allWritten updates written put
   carried-content = refl
 
-  -- mark set, and k stretches written
-  pub carried-stretches : (n : ℕ) → 2 ≤ n → n - 2 ≤ length rs
-      → allWritten (take n (updates old new j)) before
-      ≡ record {
-        image = putAll old (take (n - 2) (stretches rs new));
-        journal = store full (markPlace j) (marked ∷ []);
-      }
-  unfolding updates allWritten written put setMark
-  carried-stretches n h f =
-      let more : n ≡ suc (suc (n - 2)) = omega arith in
-      ap (λ (k : ℕ). allWritten (take k (updates old new j)) before) more
-      ∙ ap (λ (ws : List Write). allWritten ws
-      (record { image = old; journal = store full (markPlace j) (marked ∷ []) }))
-      (take-images (n - 2) (stretches rs new) (setMark 0 j) (omega (arith, length-stretches rs new)))
-      ∙ images-only (take (n - 2) (stretches rs new)) old (store full (markPlace j) (marked ∷ []))
-
-  -- and the mark taken away
-  abbrev done : Disk
-  done =
-      record {
-        image = putAll old (stretches rs new);
-        journal = store (store full (markPlace j) (marked ∷ [])) (markPlace j) (0 ∷ []);
-      }
-
-  pub carried-updates : allWritten (updates old new j) before ≡ done
-  unfolding updates allWritten written put setMark
-  carried-updates =
-      images-then (stretches rs new) (setMark 0 j ∷ []) old (store full (markPlace j) (marked ∷ []))
-
   -- all of them, and no more
   pub taken-all : (n : ℕ) → length rs + 3 ≤ n → take n (updates old new j) ≡ updates old new j
   unfolding updates
@@ -183,9 +125,6 @@ module _ (old new j : Bytes) where
       ap (λ (k : ℕ). take k (updates old new j)) more
       ∙ ap (λ (ws : List Write). toJournal (record { place = 0; bytes = content rs new }) ∷ setMark marked j ∷ ws)
       (take-beyond (n - 2) (stretches rs new) (setMark 0 j) (omega (arith, length-stretches rs new)))
-
-  pub carried-all : (n : ℕ) → length rs + 3 ≤ n → allWritten (take n (updates old new j)) before ≡ done
-  carried-all n h = ap (λ (ws : List Write). allWritten ws before) (taken-all n h) ∙ carried-updates
 
 -- ---- a marked journal
 
@@ -234,31 +173,27 @@ module _ (old new j : Bytes) (l : length old ≡ length new) (small : length old
       ≡ length (runs 0 old new)
   marked-count = content-count (runs 0 old new) new filled holds spread few short
 
-  pub marked-blocks : blocksOf (store (store j 0 (content (runs 0 old new) new)) (markPlace j) (marked ∷ []))
+  marked-blocks : blocksOf (store (store j 0 (content (runs 0 old new) new)) (markPlace j) (marked ∷ []))
       ≡ stretches (runs 0 old new) new
   marked-blocks = content-blocks (runs 0 old new) new filled holds spread few short
 
--- ---- image and journal, as equations
-
-pub updates-as : {d : Disk} {x y img j : Bytes} → d ≡ record { image = x; journal = y } → img ≡ x → j ≡ y
-    → Updates d img j
-updates-as e p q =
-    record {
-      image-is = p ∙ sym (ap (λ (d : Disk). d .image) e);
-      journal-is = q ∙ sym (ap (λ (d : Disk). d .journal) e);
-    }
-
--- a mark set in a journal that is as long as j
-pub mark-stored : (j j′ : Bytes) (m : ℕ) → length j′ ≡ length j → 1 ≤ length j
-    → set j′ (length j′ - 1) m ≡ store j′ (markPlace j) (m ∷ [])
-unfolding markPlace
-mark-stored j j′ m e h =
-    set-store j′ (length j′ - 1) m (omega arith) ∙ ap (λ (n : ℕ). store j′ (n - 1) (m ∷ [])) e
-
--- all stretches
-pub all-stretches : (rs : List Pair) (new : Bytes) (n : ℕ) → n ≡ length rs
-    → take n (stretches rs new) ≡ stretches rs new
-all-stretches rs new n e = take-all n (stretches rs new) (omega (arith, length-stretches rs new))
+  -- from the mark on the writes are those that the marked journal asks for
+  pub carried-marked : (n : ℕ) → 2 ≤ n
+      → allWritten (take n (updates old new j)) (record { image = old; journal = j })
+      ≡ allWritten (take (n - 2)
+      (recoveries (store (store j 0 (content (runs 0 old new) new)) (markPlace j) (marked ∷ []))))
+      (record { image = old; journal = store (store j 0 (content (runs 0 old new) new)) (markPlace j) (marked ∷ []) })
+  unfolding updates recoveries allWritten written put setMark markPlace
+  carried-marked n h =
+      let more : n ≡ suc (suc (n - 2)) = omega arith in
+      let same : length j ≡ length filled =
+      sym (length-store (store j 0 c) (length j - 1) (marked ∷ []) (omega (arith, allowed-room, length-full))
+      ∙ length-full) in
+      ap (λ (k : ℕ). allWritten (take k (updates old new j)) (record { image = old; journal = j })) more
+      ∙ ap₂ (λ (bs : List Block) (p : ℕ).
+      allWritten (take (n - 2) (toImages bs ++ (toJournal (record { place = p - 1; bytes = 0 ∷ [] }) ∷ [])))
+      (record { image = old; journal = filled }))
+      (sym marked-blocks) same
 
 -- an update that is refused
 pub update-refused : (img new j x : Bytes) → journalAllowed img new j ≡ false

@@ -1,3 +1,5 @@
-pub mod Reading
-pub mod Carried
-pub mod Recovering
+-- Laws for the journal's functions. Assumes nothing.
+pub mod Reading  -- a journal's numbers as the code reads them
+pub mod Settling  -- the writes that a marked journal asks for
+pub mod Carried  -- the writes of an update
+pub mod Recovering  -- recovery, case by case

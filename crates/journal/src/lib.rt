@@ -1,5 +1,5 @@
-// The journal: an update's content and mark, the image written from the journal, and recovery. One function writes the
-// image, for the update and for recovery.
+// The journal: an update's content and mark, the image written from the journal, and recovery. One function ends an
+// update and is recovery.
 use changes::measure;
 use changes::put_part;
 use changes::write_bytes;
@@ -13,7 +13,7 @@ ghost use lib.ListN.{length, take};
 ghost use Rattle.bhtf.specs.Bytes.{store};
 ghost use Rattle.bhtf.specs.Calls.{settled};
 ghost use Rattle.updates.specs.Changes.{runs};
-ghost use Rattle.updates.specs.Journal.{content, journalAllowed, Disk, allWritten, putAll, updates, pairCount, blocksOf, journalSound, recoverNumber, recovered};
+ghost use Rattle.updates.specs.Journal.{content, journalAllowed, Disk, allWritten, putAll, updates, pairCount, blocksOf, journalSound, recoverNumber, recovered, recoveries};
 ghost use Rattle.journal.specs.Updates.{Updates};
 
 // Writes an update's content to the journal's start: the count, the pairs, the new bytes.
@@ -48,8 +48,26 @@ fn write_back(image: &mut [u8], journal: &[u8], n: usize)
     }
 }
 
-// Carries out the first n writes of an update: content, mark, each stretch, mark. The calls have it carry out all; that
-// it is proved for every n is what makes their order known.
+// Carries out the first n writes that a marked journal asks for: each stretch, then the mark taken away. It ends an
+// update, and it is recovery; that it is proved for every n is what makes their order known.
+fn settle(image: &mut [u8], journal: &mut [u8], pairs: usize, n: usize)
+    requires { ⌜ (journalSound (length (now image)) (now journal) ≡ true) × (pairs ≡ pairCount (now journal)) ⌝ }
+    ensures { λ _. ⌜ Updates
+        (allWritten (take n (recoveries (now (journal .entry))))
+        (record { image = now (image .entry); journal = now (journal .entry) }))
+        (now (image .exit)) (now (journal .exit)) ⌝ }
+{
+    if n <= pairs {
+        write_back(image, journal, n);
+        return;
+    }
+    write_back(image, journal, pairs);
+    let last = journal.len() - 1;
+    journal[last] = 0;
+}
+
+// Carries out the first n writes of an update: content, mark, and what the marked journal asks for. The calls have it
+// carry out all.
 fn carry_out(image: &mut [u8], new: &[u8], journal: &mut [u8], pairs: usize, n: usize)
     requires { ⌜ (length (now image) ≡ length (now new))
         × (length (now image) < 2 ^ 32)
@@ -69,13 +87,7 @@ fn carry_out(image: &mut [u8], new: &[u8], journal: &mut [u8], pairs: usize, n: 
     }
     let last = journal.len() - 1;
     journal[last] = 165;
-    let stretches = n - 2;
-    if stretches <= pairs {
-        write_back(image, journal, stretches);
-        return;
-    }
-    write_back(image, journal, pairs);
-    journal[last] = 0;
+    settle(image, journal, pairs, n - 2);
 }
 
 // Makes the image new by way of the journal. Answers 0; or 17, and then changes no byte.
@@ -159,7 +171,6 @@ pub fn recover(image: &mut [u8], journal: &mut [u8]) -> u32
         return 18;
     }
     let pairs = read_u32(journal, 0) as usize;
-    write_back(image, journal, pairs);
-    journal[last] = 0;
+    settle(image, journal, pairs, pairs + 1);
     0
 }

@@ -17,7 +17,10 @@ ghost use Rattle.walk.specs.Stops.{stopSlot};
 ghost use Rattle.station.specs.Codes.{verdictCode, verdictSlot};
 ghost use Rattle.bhtf.specs.Calls.{create, add, delete, lookup, lookupStart, lookupLength, count, addRead, deleteRead, lookupRead};
 ghost use Rattle.compaction.specs.Compact.{compact};
+ghost use Rattle.updates.specs.Journal.{Disk, recoverNumber, recovered};
 ghost use Rattle.listed.specs.Lists.{Lists};
+ghost use Rattle.journal.specs.Updates.{Updates};
+ghost use Rattle.journaled.specs.Journals.{Journals};
 
 // Makes the slice an empty file: keys of `size` bytes, `slots` slots (0 for 5,507), the scramble of the seed.
 #[no_mangle]
@@ -234,4 +237,60 @@ pub extern "C" fn bhtf_compact_listed(
         (now (image .exit)) (now (list .exit)) r (now (pairs .exit)) ⌝ }
 {
     listed::packed::compact_listed(image, work, list, pairs)
+}
+
+// Stores as `bhtf_add` does, by way of the journal.
+#[no_mangle]
+pub extern "C" fn bhtf_add_journaled(
+    image: &mut [u8],
+    key: &[u8],
+    bytes: &[u8],
+    mode: u32,
+    work: &mut [u8],
+    journal: &mut [u8],
+) -> u32
+    ensures { λ r. ⌜ Journals (λ (img : Bytes). add img (now (key .entry)) (now (bytes .entry)) mode)
+        (now (image .entry)) (length (now (work .entry))) (now (journal .entry))
+        (now (image .exit)) (now (journal .exit)) r ⌝ }
+{
+    journaled::add_journaled(image, key, bytes, mode, work, journal)
+}
+
+// Deletes as `bhtf_delete` does, by way of the journal.
+#[no_mangle]
+pub extern "C" fn bhtf_delete_journaled(
+    image: &mut [u8],
+    key: &[u8],
+    work: &mut [u8],
+    journal: &mut [u8],
+) -> u32
+    ensures { λ r. ⌜ Journals (λ (img : Bytes). delete img (now (key .entry)))
+        (now (image .entry)) (length (now (work .entry))) (now (journal .entry))
+        (now (image .exit)) (now (journal .exit)) r ⌝ }
+{
+    journaled::delete_journaled(image, key, work, journal)
+}
+
+// Compacts as `bhtf_compact` does, by way of the journal.
+#[no_mangle]
+pub extern "C" fn bhtf_compact_journaled(
+    image: &mut [u8],
+    work: &mut [u8],
+    journal: &mut [u8],
+) -> u32
+    ensures { λ r. ⌜ Journals compact
+        (now (image .entry)) (length (now (work .entry))) (now (journal .entry))
+        (now (image .exit)) (now (journal .exit)) r ⌝ }
+{
+    journaled::packed::compact_journaled(image, work, journal)
+}
+
+// Rewrites the image from a journal that is marked, and takes the mark away.
+#[no_mangle]
+pub extern "C" fn bhtf_recover(image: &mut [u8], journal: &mut [u8]) -> u32
+    ensures { λ r. ⌜ (r ≡ recoverNumber (length (now (image .entry))) (now (journal .entry)))
+        × Updates (recovered (record { image = now (image .entry); journal = now (journal .entry) }))
+        (now (image .exit)) (now (journal .exit)) ⌝ }
+{
+    journal::recover(image, journal)
 }

@@ -1,5 +1,5 @@
 -- By the last byte: none, no mark, a mark over what is not sound, a mark. Assumes nothing.
-use Prim.Native.Nat.{_≤_}
+use Prim.Native.Nat.{_+_}
 use native.Mathlib.Omega.{arith}
 use mathlib.Core.Path.{_≡_, _∙_}
 use mathlib.Core.Bool.{true}
@@ -79,13 +79,13 @@ counted : (R : tie.After-read-u32)
     → R .read-u32 .result ≡ pairCount (start (R .before .before .before) .args .journal .now)
 counted R = R .read-u32 .ensures ∙ count-field (start (R .before .before .before) .args .journal .now)
 
-write-back-requires : tie.Need-write-back-requires
-write-back-requires c κs =
-    let R = c .before .before in
-    (sound (R .before .before), omega (arith, counted R))
+add-settle : tie.Need-add-settle
+add-settle c = search needs
 
-slice-write-journal-2 : tie.Need-slice-write-journal-2
-slice-write-journal-2 c = search needs
+settle-requires : tie.Need-settle-requires
+settle-requires c κs =
+    let R = c .before .before in
+    (sound (R .before .before), counted R)
 
 same-length-3 : tie.Need-same-length-3
 same-length-3 c = search needs
@@ -95,14 +95,15 @@ same-length-4 c = search needs
 
 returns-4 : tie.Need-returns-4
 returns-4 c =
-    let W = c .before .before in
+    let W = c .before .before .before .before in
     let R = W .before .before .before in
     let E = R .before .before in
     let J = E .before in
     let S = start J in
     recover-marked (S .args .image .now) (S .args .journal .now) (omega (arith, some J .if1 .left))
-    (is-marked (S .args .journal .now) (looked J .if2 .left)) (sound E) (R .read-u32 .result) (counted R)
-    (W .write-back .last .0) (W .write-back .ensures)
+    (is-marked (S .args .journal .now) (looked J .if2 .left)) (sound E) (R .read-u32 .result + 1)
+    (omega (arith, counted R))
+    (W .settle .last .0) (W .settle .last .1 .0) (W .settle .ensures)
 
 pub recover-spec : {M : Type 1} → statement M
 recover-spec =
@@ -119,8 +120,8 @@ recover-spec =
     returns-3
     read-u32-requires
     cast-pairs
-    write-back-requires
-    slice-write-journal-2
+    add-settle
+    settle-requires
     same-length-3
     same-length-4
     returns-4)
