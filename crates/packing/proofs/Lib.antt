@@ -6,4 +6,5 @@ pub mod Forgetting
 pub mod Fills
 pub mod Cells
 pub mod Ends
+pub mod Tight
 pub mod Told
