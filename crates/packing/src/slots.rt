@@ -55,11 +55,11 @@ fn active_bytes(image: &[u8], shape: Shape, i: Slot) -> usize
     if is_vacant(image, shape, i) {
         return 0;
     }
-    let o = offset_of(image, shape, i);
-    if !is_active(image, o) {
+    let at = offset_of(image, shape, i);
+    if !is_active(image, at) {
         return 0;
     }
-    shape.head + length_at(image, shape, o)
+    shape.head + length_at(image, shape, at)
 }
 
 // Sets the offset of slot i to 0 if its message is inactive.
