@@ -1,6 +1,6 @@
 -- `packing::slots::active_bytes` meets its contract. Assumes nothing.
 use native.Mathlib.Omega.{arith}
-use mathlib.Core.Path.{_≡_, refl, sym, ap, ap₂, _∙_}
+use mathlib.Core.Path.{_≡_, sym, ap, ap₂, _∙_}
 use Prim.Native.Nat.{ℕ, _+_}
 use mathlib.Core.Bool.{true, false}
 use borrow.Author.Needs.{needs}
@@ -75,7 +75,8 @@ length-at-requires c κs =
     (A .pre .0, omega (arith, O c .offset-of .ensures, A .pre .2 (vacant-taken (img c) (i c) (slot-some c))))
 
 -- head and length together
-sum-is : (c : tie.After-length-at) → S (c .before) .args .shape .head + c .length-at .result ≡ activeIn (img (c .before)) (i (c .before))
+sum-is : (c : tie.After-length-at)
+    → S (c .before) .args .shape .head + c .length-at .result ≡ activeIn (img (c .before)) (i (c .before))
 sum-is c =
     let E = c .before in
     ap₂ _+_ (shape-head (S E .pre .0))
