@@ -9,8 +9,10 @@
 #     --no-counts            no instructions and branches, which need valgrind
 #     --large                instead, every call at 1,048,576 slots and some
 #                            500 MB of messages beside the two C programs, in
-#                            3 GiB of memory; writes bench/large.md and that
-#                            section of docs/PERFORMANCE.md
+#                            3 GiB of memory, and compaction there and at
+#                            65,536 slots; writes bench/large.md,
+#                            bench/compact.md and those sections of
+#                            docs/PERFORMANCE.md
 #     --self                 plain C in the library's place, to test the
 #                            benchmark; writes to target/bench only
 #     LIB=path               of the library (default: rt staticlib station)
@@ -20,7 +22,7 @@
 set -u
 
 usage() {
-  sed -n '2,18s/^# \{0,1\}//p' "$0"
+  sed -n '2,20s/^# \{0,1\}//p' "$0"
   exit 2
 }
 
@@ -70,23 +72,29 @@ pin=()
 core=$(taskset -pc $$ 2>/dev/null | sed 's/.*[ ,-]//')
 [ -n "$core" ] && pin=(taskset -c "$core")
 
-# The section of bench/large.md in the page, in place of what stood there.
-put_large() {
-  awk -v section=bench/large.md '
-    /^## At 1,048,576 slots/ { old = 1; next }
-    /^## / { old = 0 }
-    /^## Other engines/ { while ((getline line < section) > 0) print line; print "" }
+# put_section FILE: the section in the page, in place of what stood under its heading, else before the other engines.
+put_section() {
+  awk -v section="$1" '
+    BEGIN { getline heading < section; close(section); there = 0 }
+    function put() { while ((getline line < section) > 0) print line; print ""; there = 1 }
+    /^## / { old = $0 == heading; if (old || ($0 ~ /^## Other engines/ && !there)) put() }
     !old' docs/PERFORMANCE.md >"$bin/page.md" && cp "$bin/page.md" docs/PERFORMANCE.md
 }
 
-# Every call at the largest size.
+# measure NAME ROUNDS: runs a program of the largest size; its lines are the table of a section.
+measure() {
+  "${pin[@]}" "$bin/$1" "$2" >"$bin/$1.txt" || { cat "$bin/$1.txt"; exit 1; }
+  cat "$bin/$1.txt"
+  [ "$self" = 1 ] && return
+  { cat "bench/$1-head.md"; sed '$d' "$bin/$1.txt"; } >"bench/$1.md"
+  put_section "bench/$1.md"
+}
+
+# Every call at the largest size, and compaction.
 run_large() {
-  .ci/install gcc make util-linux && find_library && make -s -C bench LIB="$LIB" "../$bin/large" || exit 2
-  "${pin[@]}" "$bin/large" "$rounds" >"$bin/large.txt" || { cat "$bin/large.txt"; exit 1; }
-  cat "$bin/large.txt"
-  [ "$self" = 1 ] && exit
-  { cat bench/large-head.md; sed '$d' "$bin/large.txt"; } >bench/large.md
-  put_large
+  .ci/install gcc make util-linux && find_library && make -s -C bench LIB="$LIB" "../$bin/large" "../$bin/compact" || exit 2
+  measure large "$rounds"
+  measure compact "$rounds"
   exit
 }
 
@@ -220,17 +228,18 @@ run_check() {
 }
 [ "$self" = 1 ] || [ "$quick" = 1 ] || run_check
 
-# The listed forms beside the plain ones, in a small and in a large image.
-run_listed() {
-  local out=$bin/listed.txt
-  if "${pin[@]}" "$bin/listed" "$([ "$quick" = 1 ] && echo 1 || echo 15)" >"$out"; then
+# compared PROGRAM SAMPLES..: a program that compares answers and images by itself; its ratios are only shown
+compared() {
+  local out=$bin/$1.txt
+  if "${pin[@]}" "$bin/$1" "${@:2}" >"$out"; then
     passed=$((passed + 1))
   else
-    fail "listed forms: an answer or an image differs"
+    fail "$1: an answer or an image differs"
   fi
   sed '$d' "$out"
 }
-[ "$self" = 1 ] || run_listed
+compared compact "$([ "$quick" = 1 ] && echo 1 || echo 7)" 65536
+[ "$self" = 1 ] || compared listed "$([ "$quick" = 1 ] && echo 1 || echo 15)"
 
 # How many slots lookups read, by load: counted, so that one run is enough.
 slots_key=16 slots_tables=$([ "$quick" = 1 ] && echo 2 || echo 20)
@@ -261,7 +270,7 @@ if [ "$quick" = 1 ] || [ "$self" = 1 ] || [ "$failed" -gt 0 ]; then pages=$bin; 
 mkdir -p "$pages"
 cp "$results" "$bin/results"
 slots_read page >"$work/slots.md" || fail "the slots read"
-awk -v rounds="$rounds" -v head=bench/head.md -v large=bench/large.md -v tried=bench/tried.md -v slots="$work/slots.md" -v command="$given" -v seed="$seed" -v files="$files_say" \
+awk -v rounds="$rounds" -v head=bench/head.md -v large=bench/large.md -v compact=bench/compact.md -v tried=bench/tried.md -v slots="$work/slots.md" -v command="$given" -v seed="$seed" -v files="$files_say" \
   -v machine="Machine: $(nproc) cores, $(uname -m), gcc $(gcc -dumpfullversion)" \
   -v engines="Engines: gdbm $(version libgdbm-dev), tdb $(version libtdb-dev), LMDB $(version liblmdb-dev), Kyoto Cabinet $(version libkyotocabinet-dev)" \
   -f bench/table.awk "$results" >"$pages/PERFORMANCE.md" || fail "the page"

@@ -197,8 +197,8 @@ uint32_t bhtf_check(const uint8_t *image, size_t image_len,
  * offset of each withdrawn message to 0. Keys stay in their slots; offsets that
  * bhtf_lookup gave before are void. Refused with 1, 5 and 6, and with 15 where
  * bhtf_check does not say sound; then no byte changes.
- * Time: a check, and for every MiB of the data area that is in use one pass
- * over the slots.
+ * Time: a check, one pass over the slots, and, where something is dead, about
+ * one more for every 131,072 texts; the bytes that move.
  * Stack: up to 1,344 KiB (1,376,256 bytes), which a small thread may not
  * have. */
 uint32_t bhtf_compact(uint8_t *image, size_t image_len);

@@ -23,7 +23,8 @@ use Rattle.bhtf.proofs.Bytes.{AreBytes, part-length, part-store-other}
 use Rattle.bhtf.proofs.Stores.{store-append}
 use Rattle.bhtf.proofs.Slots.{Room, keyOf-slot}
 use Rattle.runs.proofs.Little.{bytes-part}
-use Rattle.packing.specs.Stages.{offsetIn, keyIn, deadIn, withOffset, tableEnd}
+use Rattle.bhtf.proofs.Tests.{by-bool}
+use Rattle.packing.specs.Stages.{offsetIn, keyIn, spanIn, deadIn, activeIn, withOffset, tableEnd}
 
 -- ---- four bytes
 digit-first : (a b c d : ℕ) → a < 256 → b < 256 → c < 256 → d < 256
@@ -124,6 +125,23 @@ module _ (img : Bytes) (i : ℕ) where
   pub vacant-taken : vacant (layoutOf img) (slot (layoutOf img) img i) ≡ false → taken (layoutOf img) img i ≡ true
   unfolding taken
   vacant-taken v = ap not v
+
+-- ---- the bytes of an active message
+
+module _ (img : Bytes) (i : ℕ) where
+  pub active-vacant : vacant (layoutOf img) (slot (layoutOf img) img i) ≡ true → activeIn img i ≡ 0
+  unfolding activeIn taken
+  active-vacant v = rw v refl
+
+  pub active-quiet : isActive img (offsetIn img i) ≡ false → activeIn img i ≡ 0
+  unfolding activeIn
+  active-quiet a =
+      by-bool (taken (layoutOf img) img i) (λ t. rw (t, a) refl) (λ t. rw t refl)
+
+  pub active-is : vacant (layoutOf img) (slot (layoutOf img) img i) ≡ false → isActive img (offsetIn img i) ≡ true
+      → activeIn img i ≡ spanIn img i
+  unfolding activeIn taken
+  active-is v a = rw (v, a) refl
 
 -- ---- the offset's field
 pub offset-written : (g : Layout) (img : Bytes) (i o : ℕ) → slotStart g i + slotSize g ≤ length img

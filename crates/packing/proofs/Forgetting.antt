@@ -1,9 +1,11 @@
 -- Slot by slot, the offsets of inactive messages are set to 0.
 --     Forgetting g img img′ n      done below slot n
---     forgetting-start, forgetting-on, forgotten      the loop: nothing done, one slot, all
+--     forgetting-start, forgetting-on, forgotten-all      the loop: nothing done, one slot, all
+--     active-same, active-on      the bytes of active messages, added up meanwhile
 -- Assumes nothing.
 use mathlib.Core.Path.{_≡_, refl, sym, ap, ap₂, _∙_, subst}
 use Prim.Native.Nat.{ℕ, zero, suc, _+_, _-_, _*_, _≤_, _<_}
+use native.Mathlib.Numerals.{add-one}
 use native.Mathlib.Omega.{arith}
 use mathlib.Core.Bool.{Bool, true, false, cond, not, _&&_, _||_}
 use mathlib.Core.List.{[]}
@@ -16,16 +18,20 @@ use Rattle.bhtf.specs.Limits.{tableStart, freeField}
 use Rattle.bhtf.specs.Image.{field, Layout, layoutOf, slotSize, slotStart, slot, putSlot, keyOf, offsetOf, slotBytes, vacant}
 use Rattle.bhtf.specs.Messages.{headSize, letterAt, lengthAt, isActive}
 use Rattle.bhtf.specs.Inspect.{taken}
-use Rattle.compaction.specs.Compact.{packedBelow}
+use Rattle.compaction.specs.Compact.{packedBelow, packed}
 use Rattle.bhtf.proofs.Tests.{by-bool, by-eq, by-le, and-left, and-right, and-true, not-both}
 use Rattle.bhtf.proofs.Slots.{Room, length-slot, length-keyOf, length-entry, length-putSlot, slot-putSlot-same, slot-putSlot-other, part-putSlot-outside}
 use Rattle.bhtf.proofs.Opened.{Opened, opened-facts}
 use Rattle.bhtf.proofs.Stretch.{span, Lies, sound-lies}
 use Rattle.bhtf.proofs.Verdict.{check-messages}
 use Rattle.compaction.proofs.Packing.{startAt, Live, Stretches, sound-stretches, below-start}
+use Rattle.bhtf.proofs.Total.{total, total-same, total-bound}
+use Rattle.bhtf.proofs.Table.{weigh, weight}
+use Rattle.compaction.proofs.Packed.{activeSpan, packed-weight}
 use Rattle.layout.specs.Shapes.{Open}
+use Rattle.layout.proofs.Shaped.{shape-head}
 use Rattle.layout.specs.declared.shape.Shape.{Shape}
-use Rattle.packing.specs.Stages.{offsetIn, keyIn, offsetNow, slotNow, tableEnd, deadIn, withOffset, Stage, Sound}
+use Rattle.packing.specs.Stages.{offsetIn, keyIn, spanIn, offsetNow, slotNow, tableEnd, deadIn, activeIn, withOffset, Stage, Forgotten, Sound}
 use Rattle.packing.proofs.Entries.{slot-back, slot-bytes, behind-putSlot}
 use Rattle.packing.proofs.Stages.{front-layout, front-open}
 
@@ -65,12 +71,15 @@ module _ (img : Bytes) (s : Shape) (ok : Sound img s) where
       sound-lies g img (startAt g img i)
       (check-messages img (ok .checked) i l (not-true (vacant g (slot g img i)) t)) z
 
-  -- its offset lies in the image
-  pub taken-inside : (i : ℕ) → i < g .N → taken g img i ≡ true → startAt g img i < length img
-  unfolding headSize
+  head-small : headSize g ≡ 4
+  unfolding headSize layoutOf
+  head-small = refl
+
+  -- its header lies in the image
+  pub taken-inside : (i : ℕ) → i < g .N → taken g img i ≡ true → startAt g img i + headSize g ≤ length img
   taken-inside i l t =
       by-eq (startAt g img i) 0
-      (λ z. omega (arith, z, facts .size-low))
+      (λ z. omega (arith, z, head-small, facts .size-low))
       (λ z. omega (arith, taken-lies i l t z .end, facts .free-high))
 
   own : (i : ℕ) → i < g .N → slotBytes (keyOf g (slot g img i)) (startAt g img i) ≡ slot g img i
@@ -127,8 +136,9 @@ module _ (img : Bytes) (s : Shape) (ok : Sound img s) where
     key-here : keyIn img′ i ≡ keyOf g (slot g img i)
     key-here = ap₂ (λ (x : Layout) (v : Bytes). keyOf x v) layout-same here
 
-    pub forgetting-inside : taken (layoutOf img′) img′ i ≡ true → offsetIn img′ i < length img′
-    forgetting-inside t = omega (arith, offset-here, taken-inside i l (sym taken-here ∙ t), F .size)
+    pub forgetting-inside : taken (layoutOf img′) img′ i ≡ true → offsetIn img′ i + s .head ≤ length img′
+    forgetting-inside t =
+        omega (arith, offset-here, taken-inside i l (sym taken-here ∙ t), F .size, shape-head (ok .opened))
 
     -- whether the message is active can still be read
     active-here : taken g img i ≡ true → (startAt g img i ≡ 0 → ⊥)
@@ -138,6 +148,27 @@ module _ (img : Bytes) (s : Shape) (ok : Sound img s) where
         ap (isActive img′) offset-here
         ∙ ap (λ (v : Bytes). not (eqb (startAt g img i) 0) && eqb (number v) 97)
         (F .area (startAt g img i) 1 (taken-lies i l t z .low))
+
+    -- and how long it is
+    span-here : taken g img i ≡ true → (startAt g img i ≡ 0 → ⊥) → spanIn img′ i ≡ spanIn img i
+    unfolding lengthAt
+    span-here t z =
+        ap₂ (λ (x : Layout) (o : ℕ). headSize x + number (part img′ (o + 1) (x .W))) layout-same offset-here
+        ∙ ap (λ (v : Bytes). headSize g + number v)
+        (F .area (startAt g img i + 1) (g .W) (omega (arith, taken-lies i l t z .low)))
+
+    quiet-zero : isActive img′ 0 ≡ false
+    unfolding isActive
+    quiet-zero = refl
+
+    pub active-same : activeIn img′ i ≡ activeIn img i
+    unfolding activeIn
+    active-same =
+        by-bool (taken g img i)
+        (λ t. by-eq (startAt g img i) 0
+        (λ z. rw (taken-here, t, offset-here, z, none-active, quiet-zero) refl)
+        (λ z. rw (taken-here, t, active-here t z, span-here t z) refl))
+        (λ t. rw (taken-here, t) refl)
 
     dead-yes : taken g img i ≡ true → (startAt g img i ≡ 0 → ⊥) → isActive img (startAt g img i) ≡ false
         → deadIn img′ i ≡ true
@@ -228,7 +259,46 @@ module _ (img : Bytes) (s : Shape) (ok : Sound img s) where
         (λ d. subst (λ (x : Bytes). Forgetting g img x (i + 1)) (sym (e ∙ rw d refl ∙ with-none)) (step-forgot d))
         (λ d. subst (λ (x : Bytes). Forgetting g img x (i + 1)) (sym (e ∙ rw d refl)) (step-kept d))
 
-  pub forgotten : (img′ : Bytes) (n : ℕ) → g .N ≤ n → Forgetting g img img′ n → Stage g img img′ (g .D) (g .D)
+  -- ---- what the active messages have together
+
+  active-weight : (i : ℕ) → activeIn img i ≡ weigh g (activeSpan g img) (slot g img i)
+  unfolding activeIn weigh activeSpan taken
+  active-weight i =
+      by-bool (vacant g (slot g img i))
+      (λ v. rw v refl)
+      (λ v. by-bool (isActive img (startAt g img i)) (λ a. rw (v, a) refl) (λ a. rw (v, a) refl))
+
+  active-all : total (activeIn img) (g .N) ≡ length (packed g img)
+  active-all =
+      total-same (activeIn img) (λ i. weigh g (activeSpan g img) (slot g img i)) (g .N) (λ i l. active-weight i)
+      ∙ sym (packed-weight g img S ∙ (unfold weight in refl))
+
+  -- no message is longer than an image
+  pub active-one : (i : ℕ) → i < g .N → activeIn img i ≤ 1073741824
+  unfolding activeIn
+  active-one i l =
+      by-bool (taken g img i)
+      (λ t. by-bool (isActive img (startAt g img i))
+      (λ a.
+      rw (t, a)
+      (omega (arith, S .end i (record { low = l; is = t; active = a }), S .free-high, facts .size-high)))
+      (λ a. rw (t, a) (omega arith)))
+      (λ t. rw t (omega arith))
+
+  pub active-small : (n : ℕ) → n ≤ g .N → total (activeIn img) n ≤ n * 1073741824
+  active-small n h = total-bound (activeIn img) n 1073741824 (λ i l. active-one i (omega (arith, l, h)))
+
+  pub active-on : (n : ℕ) → total (activeIn img) (n + 1) ≡ total (activeIn img) n + activeIn img n
+  unfolding total
+  active-on n = ap (total (activeIn img)) (add-one n)
+
+  pub active-none : total (activeIn img) 0 ≡ 0
+  unfolding total
+  active-none = refl
+
+  -- ---- the end
+
+  forgotten : (img′ : Bytes) (n : ℕ) → g .N ≤ n → Forgetting g img img′ n → Stage g img img′ (g .D) (g .D)
   forgotten img′ n h F =
       let none : packedBelow g img (g .D) ≡ [] = below-start g img (g .D) (omega arith) in
       record {
@@ -239,4 +309,13 @@ module _ (img : Bytes) (s : Shape) (ok : Sound img s) where
         place = omega (arith, ap length none);
         filled = rw none (unfold part in refl);
         waiting = λ i a b c w. F .area (startAt g img i) (span g img (startAt g img i)) w;
+      }
+
+  pub forgotten-all : (img′ : Bytes) (n bytes : ℕ) → n ≡ g .N → Forgetting g img img′ n
+      → bytes ≡ total (activeIn img) n → Forgotten img img′ bytes
+  forgotten-all img′ n bytes h F e =
+      record {
+        stage = forgotten img′ n (omega (arith, h)) F;
+        area = F .area;
+        bytes = e ∙ ap (total (activeIn img)) h ∙ active-all;
       }

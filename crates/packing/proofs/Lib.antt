@@ -4,6 +4,9 @@ pub mod Stages
 pub mod Steps
 pub mod Forgetting
 pub mod Fills
+pub mod Passing
 pub mod Cells
+pub mod Listings
 pub mod Ends
+pub mod Tight
 pub mod Told

@@ -2,6 +2,7 @@
 -- on, and their slots say so; the others are as at first; no slot has an inactive message any more.
 --     offsetNow, slotNow      a slot at that stage
 --     Stage g img img′ s q      img′ is img at that stage; q is the next free place
+--     Forgotten      the first one
 --     Staged      a stage of a sound image
 --     Onward      what a step leaves of a stage
 --     Movable, movedTo      the message of a slot that can be moved down to q, and the image with it moved
@@ -12,11 +13,11 @@ use Prim.Native.Nat.{ℕ, _+_, _-_, _*_, _≤_, _<_}
 use lib.ListN.{length, getD}
 use lib.Dec.{ltb, eqb}
 use Rattle.bhtf.specs.Bytes.{Bytes, part, store, zeros}
-use Rattle.bhtf.specs.Limits.{tableStart}
-use Rattle.bhtf.specs.Image.{Layout, layoutOf, slotSize, slot, putSlot, keyOf, offsetOf, slotBytes}
+use Rattle.bhtf.specs.Limits.{tableStart, freeField}
+use Rattle.bhtf.specs.Image.{field, Layout, layoutOf, slotSize, slot, putSlot, keyOf, offsetOf, slotBytes}
 use Rattle.bhtf.specs.Messages.{headSize, lengthAt, isActive}
 use Rattle.bhtf.specs.Inspect.{taken, check, sound}
-use Rattle.compaction.specs.Compact.{packedBelow, packedOffset, lowerFree}
+use Rattle.compaction.specs.Compact.{packedBelow, packedOffset, packed, lowerFree}
 use Rattle.layout.specs.Shapes.{Open}
 use Rattle.layout.specs.declared.shape.Shape.{Shape}
 
@@ -40,6 +41,10 @@ withOffset img i o = putSlot (layoutOf img) img i (slotBytes (keyIn img i) o)
 unfoldable pub deadIn : Bytes → ℕ → Bool
 deadIn img i =
     taken (layoutOf img) img i && (not (eqb (offsetIn img i) 0) && not (isActive img (offsetIn img i)))
+
+-- how many bytes its active message has, 0 where it has none
+unfoldable pub activeIn : Bytes → ℕ → ℕ
+activeIn img i = cond (taken (layoutOf img) img i && isActive img (offsetIn img i)) (spanIn img i) 0
 
 -- ---- stages
 
@@ -73,6 +78,12 @@ pub record Sound (img : Bytes) (s : Shape) : Type 0 where
   pub bytes : (i : ℕ) → getD img i 0 < 256
   pub checked : check img ≡ sound
 
+-- the first stage: only the offsets of inactive messages are gone. The active ones have n bytes
+pub record Forgotten (img img′ : Bytes) (n : ℕ) : Type 0 where
+  pub stage : Stage (layoutOf img) img img′ (layoutOf img .D) (layoutOf img .D)
+  pub area : (p m : ℕ) → layoutOf img .D ≤ p → part img′ p m ≡ part img p m
+  pub bytes : n ≡ length (packed (layoutOf img) img)
+
 -- a stage of a sound image
 pub record Staged (img img′ : Bytes) (s : Shape) (lo q : ℕ) : Type 0 where
   pub sound : Sound img s
@@ -82,6 +93,13 @@ pub record Staged (img img′ : Bytes) (s : Shape) (lo q : ℕ) : Type 0 where
 -- whatever image lo and q are a stage of, hi and r are one of it afterwards
 abbrev pub Onward : Shape → Bytes → Bytes → ℕ → ℕ → ℕ → ℕ → Type 0
 Onward s img′ img″ lo q hi r = (img : Bytes) → Staged img img′ s lo q → Stage (layoutOf img) img img″ hi r
+
+-- the first stage of a sound image; and whatever image it is one of, the last stage of it afterwards
+abbrev pub Begun : Bytes → Bytes → Shape → Type 0
+Begun img img′ s = Staged img img′ s (layoutOf img .D) (layoutOf img .D)
+
+abbrev pub Swept : Shape → Bytes → Bytes → ℕ → Type 0
+Swept s img′ img″ r = (img : Bytes) → Begun img img′ s → Stage (layoutOf img) img img″ (field img freeField) r
 
 -- ---- a message moved
 

@@ -4,6 +4,7 @@ use mathlib.Core.Path.{sym, ap, _∙_}
 use mathlib.Core.Bool.{not}
 use borrow.Author.Needs.{needs}
 use Rattle.bhtf.specs.Messages.{isActive}
+use Rattle.layout.proofs.Shaped.{head-width}
 use Rattle.packing.proofs.Entries.{dead-none, dead-vacant, dead-is, vacant-taken}
 use Rattle.packing.proofs.slots.is_dead.Statement.{statement}
 use Rattle.packing.proofs.slots.is_dead.Tie as tie
@@ -37,6 +38,7 @@ is-active-requires c κs =
     omega (
       arith,
       O .offset-of .ensures,
+      head-width (S .pre .0),
       S .pre .2 (vacant-taken img (S .args .i .0) (sym (c .before .is-vacant .ensures) ∙ c .if2 .left)),
     )
 
