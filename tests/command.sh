@@ -110,7 +110,7 @@ holds "uninstalls what it installed" uninstalls
 through_pkg_config() {
   # shellcheck disable=SC2046
   gcc -std=c99 "$work/uses.c" -o "$work/uses" \
-    $(PKG_CONFIG_PATH="$work/usr/lib/pkgconfig" pkg-config --cflags --libs bhtf) && "$work/uses"
+    $(PKG_CONFIG_PATH="$work/usr/lib/pkgconfig" pkg-config --cflags --libs bhtf) && LD_LIBRARY_PATH="$work/usr/lib" "$work/uses"
 }
 holds "a program builds with pkg-config" through_pkg_config
 holds "the man page passes mandoc" mandoc -Tlint host/bhtf.1
