@@ -3,20 +3,21 @@
  * An image is a whole file in memory. Every call takes the image and its
  * length, and answers a number: BHTF_ACCEPTED (0), or the number of the first
  * question that was answered "no". A refused call changes no byte of the
- * image, and nothing but the results it hands back through pointers.
+ * image, a list or a journal, and nothing but the results it hands back through
+ * pointers; what a working slice holds after any call is of no use.
  *
  * What the caller must see to:
  *
- * - A pointer with a length stands for that many bytes, readable and, for the
- *   image of create, add and delete, writable. A key or data of length 0 may
- *   be NULL; the image may not.
+ * - A pointer with a length stands for that many bytes, readable and, where
+ *   it is not to const, writable. What has the length 0 may be NULL, but for
+ *   the image.
  * - Pointers to results (uint32_t *) are not NULL and are aligned.
- * - What a call writes (the image of create, add and delete; the results)
- *   overlaps nothing else that is handed to the same call. Two slices that
- *   are only read may overlap: lookup's key may be a part of its image.
- * - From the start of a call to its end nobody else writes to its image, key
- *   or data, and nobody else reads an image that it writes. The calls take no
- *   lock; the command bhtf shows one way (see LOCKS in bhtf(1)).
+ * - What a call writes (what is not const, and the results) overlaps nothing
+ *   else that is handed to the same call. Two slices that are only read may
+ *   overlap: lookup's key may be a part of its image.
+ * - From the start of a call to its end nobody else writes to what it was
+ *   handed, and nobody else reads what it writes. The calls take no lock; the
+ *   command bhtf shows one way (see LOCKS in bhtf(1)).
  *
  * The calls allocate nothing, keep nothing between calls and always return.
  */
@@ -39,6 +40,9 @@ extern "C" {
 #define BHTF_SLOTS_DEFAULT 5507u    /* what create makes of 0 slots */
 #define BHTF_MESSAGE_MAX 16777215u  /* bytes in the longest message */
 #define BHTF_MESSAGE_HEADER 4u      /* bytes that a message takes besides */
+#define BHTF_PAIR 8u                /* bytes that a pair takes in a list */
+#define BHTF_MARKED 0xA5u           /* the mark of a journal that is to be
+                                       written to its image */
 
 /* ---- modes of bhtf_add ---- */
 
@@ -68,11 +72,12 @@ extern "C" {
 #define BHTF_ABSENT 14u        /* the key is not there: lookup, delete, and add
                                   in mode 4, where it is asked after 8 */
 #define BHTF_UNSOUND 15u       /* compact: bhtf_check does not say sound */
-#define BHTF_SHORT_SLICE 16u   /* list below 8 bytes, or working slice shorter
-                                  than the image */
-#define BHTF_BAD_JOURNAL 17u   /* journal too short, or its mark is not 0 */
+#define BHTF_SHORT_SLICE 16u   /* list shorter than BHTF_PAIR, or working slice
+                                  than the image; asked before 1 */
+#define BHTF_BAD_JOURNAL 17u   /* journal too short for what would change, or
+                                  its mark is not 0; asked last */
 #define BHTF_UNRECOVERABLE 18u /* recover: the journal is empty, or marked and
-                                  not one of an update of this image */
+                                  not of this image */
 
 /* ---- verdicts of bhtf_check ---- */
 
@@ -200,12 +205,29 @@ uint32_t bhtf_compact(uint8_t *image, size_t image_len);
 
 /* ---- what a call changed ----
  *
- * Add and delete, which also fill a list with what they changed: pairs of
- * offset and length, each a number of 4 bytes with the most significant byte
- * first, sorted by offset, one for each unbroken run of bytes whose value
- * changed. *pairs is how many pairs were written, 0 when refused. work is a
- * working slice of at least image_len bytes, list one of at least 8; else the
- * call is refused with 16, before any other question. */
+ * Add, delete and compact, with the same numbers and bytes, which also list
+ * what they changed, so that a copy of the image elsewhere is refreshed with
+ * little to send: copying the listed stretches of the image into a copy of it
+ * as it was before the call gives it as it is now.
+ *   work    a working slice of at least image_len bytes, for what the call
+ *           itself has to remember. It need not be cleared before.
+ *   list    at least BHTF_PAIR bytes. It takes from its start a pair for each
+ *           unbroken run of bytes whose value changed, sorted by offset: the
+ *           offset in the image, then the length, 4 bytes each, the most
+ *           significant byte first. Bytes that were written with the value that
+ *           they had are in no pair, and two pairs never touch. The rest of the
+ *           list stays as it was.
+ *   *pairs  how many pairs were written: 0 when nothing changed, and when
+ *           refused.
+ * A shorter working slice or list is refused with 16, before any other
+ * question. Where the pairs do not fit, the list is the single pair 0,
+ * image_len, and the whole image is to be sent. A list of 4 * image_len bytes
+ * always suffices, since there are at most image_len / 2 pairs. An add or a
+ * delete needs few as a rule: it changes some numbers of the header, slots, and
+ * bytes of the message. A compaction may need one for every few bytes of what
+ * it moves.
+ * Time: the plain call's, and copying the image once and reading it twice.
+ * Stack: as the plain call, so bhtf_compact_listed up to 1,344 KiB. */
 
 uint32_t bhtf_add_listed(uint8_t *image, size_t image_len, const uint8_t *key,
                          size_t key_len, const uint8_t *data, size_t data_len,
@@ -221,11 +243,46 @@ uint32_t bhtf_compact_listed(uint8_t *image, size_t image_len, uint8_t *work,
                              size_t work_len, uint8_t *list, size_t list_len,
                              uint32_t *pairs);
 
-/* ---- calls that a cut does not harm ----
+/* ---- a cut in the middle ----
  *
- * Add and delete by way of a journal, and recovery. work is as above. Refused
- * with 17 where the journal is too short, or where its mark, the last byte, is
- * not 0; recovery only with 18. */
+ * Add, delete and compact, with the same numbers and bytes, by way of a
+ * journal, so that wherever a cut falls bhtf_recover gives the image before the
+ * call or the one after it.
+ *   work     as above.
+ *   journal  takes from its start how many pairs there are, 4 bytes; the pairs,
+ *            as in a list; and the new bytes of their stretches, one behind the
+ *            other. Its last byte is the mark. A new journal is all zero. Its
+ *            length must be the same at the call and at recovery, since the
+ *            mark is looked for at its end.
+ * The writes are made in this order: the content of the journal; the mark
+ * becomes BHTF_MARKED; each stretch of the image; the mark becomes 0. The
+ * content stays. Refused with 16 where the working slice is too short, before
+ * any other question; and after all others, before any write, with 17: the
+ * journal is too short for content and mark, or the mark is not 0, which says
+ * that a call was cut and bhtf_recover is to be called first.
+ * Size: 4 + 8 * pairs + changed bytes, and 1 for the mark. For every call
+ * image_len / 2 * 9 + 6 bytes suffice; for an add 300 + 5 * m, where m is the
+ * length of the key's message before or after, whichever is longer, and before
+ * it may be a withdrawn one.
+ * Time: the plain call's, and copying the image once and reading it three
+ * times. Stack: as the plain call, so bhtf_compact_journaled up to 1,344 KiB.
+ *
+ * Storage that loses power. The order is that of writes to memory. For
+ * memory that keeps its bytes, and for files that are mapped shared where only
+ * the process may be killed, it is enough. But a system writes the pages of
+ * mapped files in any order, so that a power cut may find the image's on the
+ * disk and the journal's not. There, call on an image and a journal in memory,
+ * and then bring them to the disk in four steps, each of which must be there
+ * (fsync, or msync with MS_SYNC) before the next begins:
+ *   1. the journal's content, with the mark still 0;
+ *   2. the mark, BHTF_MARKED;
+ *   3. the stretches that the journal's pairs name, to the image;
+ *   4. the mark, 0: at the latest before step 1 of the next call.
+ * A disk writes whole blocks: lend a journal so long that the mark's block
+ * holds no content, that is 4,096 bytes longer than needed. At every start,
+ * before any other call on the image, read both, call bhtf_recover, and where
+ * the mark was BHTF_MARKED do steps 3 and 4, where it was another than 0 step
+ * 4. */
 
 uint32_t bhtf_add_journaled(uint8_t *image, size_t image_len,
                             const uint8_t *key, size_t key_len,
@@ -242,6 +299,18 @@ uint32_t bhtf_compact_journaled(uint8_t *image, size_t image_len,
                                 uint8_t *work, size_t work_len,
                                 uint8_t *journal, size_t journal_len);
 
+/* Recovers an image from its journal: where the mark is BHTF_MARKED, the
+ * journal's stretches are written to the image; with any other mark the image
+ * stays. Either way the mark becomes 0, and no other byte of the journal
+ * changes. To recover again changes nothing, and a recovery that is cut is made
+ * good by the next one. It asks no question of the image, so that it must be
+ * this image's journal.
+ * Refused with 18 alone: the journal is of length 0; or it is marked, and its
+ * content reaches the mark, or a pair leaves the image or begins before the end
+ * of the one before it. No call leaves such a journal, wherever it is cut:
+ * image or journal are others, or not as long as they were. Then no byte
+ * changes, the mark neither: keep both, and look. Takes no stack to speak of,
+ * and the time to copy the stretches. */
 uint32_t bhtf_recover(uint8_t *image, size_t image_len, uint8_t *journal,
                       size_t journal_len);
 

@@ -18,7 +18,11 @@ static const char *const sentences[] = {
     "The message would be longer than 16,777,215 bytes.",
     "There is no room left in the file for the message.",
     "There is no point of that name.",
-    "The file is not sound."
+    "The file is not sound.",
+    ("The list is shorter than 8 bytes, or the working slice is shorter than "
+     "the file."),
+    "The journal is too short for the change, or its mark is not 0.",
+    "The journal is empty, or it is marked and does not fit the file."
 };
 
 const char *bhtf_message(uint32_t number)

@@ -9,7 +9,7 @@ use Rattle.bhtf.specs.Bytes.{Bytes, zeros}
 use Rattle.bhtf.specs.Calls.{Outcome, plain, settled}
 use Rattle.bhtf.specs.Lists.{adding}
 use Rattle.updates.specs.Changes.{Pair, joined, runs, pairBytes, changesIn, copied, listAllowed, workAllowed, workedNumber, Listed, listed}
-use Rattle.updates.specs.Journal.{newBytes, content, markPlace, mark, journalAllowed, Disk, put, written, allWritten, putAll, stretches, toImages, setMark, updates, spoiltBytes, spoiltBlock, spoilt, cutAfter, pairCount, pairsFrom, pairsOf, bytesStart, blocks, blocksOf, total, contentInside, inOrder, isMarked, journalSound, recoverNumber, recovered, journaledNumber, Journaled, journaled}
+use Rattle.updates.specs.Journal.{newBytes, content, markPlace, mark, journalAllowed, Disk, put, written, allWritten, putAll, stretches, toImages, setMark, updates, spoiltBytes, spoiltBlock, spoilt, cutAfter, pairCount, pairsFrom, pairsOf, bytesStart, blocks, blocksOf, total, contentInside, inOrder, isMarked, journalSound, recoverNumber, recovered, recoveries, journaledNumber, Journaled, journaled}
 use Rattle.bhtf.proofs.CasesBase.{definitions, fresh, after, one}
 
 changes : ℕ
@@ -19,7 +19,8 @@ changes = 0
 journals : ℕ
 unfolding changes newBytes content markPlace mark journalAllowed put written allWritten putAll stretches toImages
     setMark updates spoiltBytes spoiltBlock spoilt cutAfter pairCount pairsFrom pairsOf bytesStart blocks blocksOf total
-    contentInside inOrder isMarked journalSound recoverNumber recovered journaledNumber journaled
+    contentInside inOrder isMarked journalSound recoverNumber recovered recoveries journaledNumber
+    journaled
 journals = 0
 
 abbrev pair : ℕ → ℕ → Pair
@@ -245,3 +246,19 @@ cut-unmark = refl
 uncut : cut 5 55 ≡ new
 unfolding cut journals new
 uncut = refl
+
+-- ---- Job 9: a recovery that is cut, in the first stretch and in the mark, and the next one
+
+cut-again : ℕ → ℕ → Bytes
+unfolding journals old held
+cut-again n byte =
+    let d : Disk = disk old (held ++ (165 ∷ [])) in
+    recovered (cutAfter n (λ i. byte) (recoveries (d .journal)) d) .image
+
+again-first : cut-again 0 55 ≡ new
+unfolding cut-again journals old new held
+again-first = refl
+
+again-mark : cut-again 2 165 ≡ new
+unfolding cut-again journals old new held
+again-mark = refl

@@ -2,4 +2,5 @@
 pub mod Changes  -- the list of changes: what it covers, and that copying it suffices
 pub mod Journal  -- what stands in a journal is read back
 pub mod Recovery  -- a cut, and recovery
+pub mod Enough  -- how long a list and a journal always suffice
 pub mod CasesChanges  -- the list of changes, the journal, recovery

@@ -3,6 +3,7 @@
 --     recovered-twice       a second recovery changes nothing, whatever the first one found
 --     updates-arrive        all writes done: the new image, and a journal without its mark
 --     cut-safe              the theorem: `CutSafe`
+--     recoveries-arrive, recovery-cut      recovery by its writes; a recovery that is cut is made good by the next one
 -- Four states carry it: content not whole, so that the mark is still 0; content whole and any mark; marked, and the
 -- image near the new one; the new image and any mark.
 -- Assumes nothing.
@@ -18,7 +19,7 @@ use borrow.Author.Tests.{le-leb, leb-true, eqb-true}
 use Rattle.bhtf.specs.Bytes.{Bytes, part, store}
 use Rattle.bhtf.specs.Calls.{settled}
 use Rattle.updates.specs.Changes.{Pair, runs, copied}
-use Rattle.updates.specs.Journal.{newBytes, content, markPlace, mark, marked, journalAllowed, Disk, Block, Write, toJournal, toImage, put, written, allWritten, putAll, stretches, toImages, setMark, updates, spoiltBytes, spoiltBlock, spoilt, cutAfter, blocksOf, isMarked, journalSound, recoverNumber, recovered, Safe, CutSafe}
+use Rattle.updates.specs.Journal.{newBytes, content, markPlace, mark, marked, journalAllowed, Disk, Block, Write, toJournal, toImage, put, written, allWritten, putAll, stretches, toImages, setMark, updates, spoiltBytes, spoiltBlock, spoilt, cutAfter, blocksOf, isMarked, journalSound, recoverNumber, recovered, recoveries, Safe, CutSafe}
 use Rattle.bhtf.proofs.Tests.{by-bool, by-eq, and-left, and-right, and-true}
 use Rattle.bhtf.proofs.Bytes.{part-length, length-store}
 use Rattle.bhtf.proofs.Stores.{store-inner}
@@ -265,14 +266,19 @@ module _ (old new j : Bytes) (l : length old ≡ length new) (small : length new
       ∙ mark-set (store j 0 c) m (omega (arith, room, length-full))
 
   -- content not whole: the mark is still 0
-  cut-content : (junk : ℕ → ℕ) → recovered (cutAfter 0 junk (updates old new j) before) .image ≡ old
+  unmarked-yet : (junk : ℕ → ℕ) → isMarked (cutAfter 0 junk (updates old new j) before .journal) ≡ false
   unfolding cutAfter updates written spoilt spoiltBlock put isMarked
+  unmarked-yet junk =
+      ap (λ (m : ℕ). eqb m marked)
+      (mark-kept j (spoiltBytes junk c) (omega (arith, room, length-spoilt junk c)) ∙ clear)
+
+  cut-content : (junk : ℕ → ℕ) → recovered (cutAfter 0 junk (updates old new j) before) .image ≡ old
+  unfolding cutAfter updates written spoilt spoiltBlock put
   cut-content junk =
       let v : Bytes = spoiltBytes junk c in
       let long : length v ≡ length c = length-spoilt junk c in
       let size : length (store j 0 v) ≡ length j = length-store j 0 v (omega (arith, room)) in
-      other-same old (store j 0 v) (omega (arith, room))
-      (ap (λ (m : ℕ). eqb m marked) (mark-kept j v (omega (arith, room)) ∙ clear))
+      other-same old (store j 0 v) (omega (arith, room)) (unmarked-yet junk)
 
   -- content whole, the mark anything
   cut-mark : (junk : ℕ → ℕ)
@@ -324,3 +330,85 @@ module _ (old new j : Bytes) (l : length old ≡ length new) (small : length new
       (putAll-stretches rs new old ∙ copied-near 0 rs new old spread (near-runs old new l))
       (store-inner (store j 0 c) place (0 ∷ []) place (marked ∷ []) (omega arith) (omega arith)
       (omega (arith, place-last, length-full)))
+
+  -- ---- recovery cut
+
+  -- what a cut leaves behind the content: an image near the new one, and the content still there
+  record Left (d : Disk) : Type 0 where
+    near : Near rs (d .image) new
+    holds′ : Holds c (d .journal)
+    long : place + 1 ≡ length (d .journal)
+
+  marked-again : (x J : Bytes) (m : ℕ) → Near rs x new → Holds c J → place + 1 ≡ length J
+      → Left (record { image = x; journal = store J place (m ∷ []) })
+  marked-again x J m near h e =
+      record {
+        near = near;
+        holds′ = holds-mark c J place m h e;
+        long = e ∙ sym (length-store J place (m ∷ []) (omega arith));
+      }
+
+  left : (k : ℕ) (rs′ : List Pair) → ((x : Bytes) → Near rs′ x new → Near rs x new) → (x : Bytes) → Near rs′ x new
+      → Spread k (length new) rs′ → (J : Bytes) → Holds c J → place + 1 ≡ length J
+      → (n : ℕ) (junk : ℕ → ℕ)
+      → Left (cutAfter n junk (toImages (stretches rs′ new) ++ (setMark 0 j ∷ [])) (record { image = x; journal = J }))
+  unfolding cutAfter written spoilt spoiltBlock put toImages stretches setMark spoiltBytes
+  left k [] up x near s J h e zero junk = marked-again x J (junk 0) (up x near) h e
+  left k [] up x near s J h e (suc n) junk = marked-again x J 0 (up x near) h e
+  left k (r ∷ rs′) up x near s J h e zero junk =
+      let v : Bytes = part new (r .at) (r .size) in
+      record {
+        near =
+            up (store x (r .at) (spoiltBytes junk v))
+            (near-any r rs′ x new (s .2) near (spoiltBytes junk v)
+            (length-spoilt junk v ∙ part-length new (r .at) (r .size) (s .2)));
+        holds′ = h;
+        long = e;
+      }
+  left k (r ∷ rs′) up x near s J h e (suc n) junk =
+      left (suc (r .at + r .size)) rs′ (λ y t. up y (near-more r rs′ y new t))
+      (store x (r .at) (part new (r .at) (r .size))) (near-copy r rs′ x new (s .2) near) (s .3) J h e n junk
+
+  full : place + 1 ≡ length (store j 0 c)
+  full = place-last ∙ sym length-full
+
+  cut-left : (n : ℕ) (junk : ℕ → ℕ) → Left (cutAfter (suc n) junk (updates old new j) before)
+  unfolding cutAfter updates written spoilt spoiltBlock put setMark spoiltBytes
+  cut-left zero junk =
+      marked-again old (store j 0 c) (junk 0) (near-runs old new l) (holds-content c j room) full
+  cut-left (suc n) junk =
+      left 0 rs (λ x t. t) old (near-runs old new l) spread (filled marked) (holds marked)
+      (full ∙ sym (length-store (store j 0 c) place (marked ∷ []) (omega (arith, full)))) n junk
+
+  -- recovery's own writes, cut: of what a cut left, if it is marked
+  again : (d : Disk) → Left d → isMarked (d .journal) ≡ true → (n : ℕ) (junk : ℕ → ℕ)
+      → recovered (cutAfter n junk (recoveries (d .journal)) d) .image ≡ new
+  unfolding recoveries setMark markPlace
+  again d w m n junk =
+      let J : Bytes = d .journal in
+      let same : length J ≡ length j = omega (arith, w .long, place-last) in
+      ap₂ (λ (bs : List Block) (p : ℕ).
+      recovered (cutAfter n junk
+      (toImages bs ++ (toJournal (record { place = p - 1; bytes = 0 ∷ [] }) ∷ [])) d) .image)
+      (content-blocks rs new J (w .holds′) spread few small) same
+      ∙ finish 0 rs (λ x t. t) (d .image) (w .near) spread J (w .holds′) m (w .long) n junk
+
+  -- wherever the update was cut, and wherever the recovery from it is cut again, the next recovery gives the new image,
+  -- if the journal was marked; if not, recovery writes the mark alone
+  pub recovery-cut : (n : ℕ) (junk : ℕ → ℕ) (n′ : ℕ) (junk′ : ℕ → ℕ)
+      → isMarked (cutAfter n junk (updates old new j) before .journal) ≡ true
+      → recovered (cutAfter n′ junk′ (recoveries (cutAfter n junk (updates old new j) before .journal))
+      (cutAfter n junk (updates old new j) before)) .image
+      ≡ new
+  recovery-cut zero junk n′ junk′ m = absurd (true≢false (sym m ∙ unmarked-yet junk))
+  recovery-cut (suc n) junk n′ junk′ m =
+      again (cutAfter (suc n) junk (updates old new j) before) (cut-left n junk) m n′ junk′
+
+-- recovery of a marked journal is its writes, all done
+pub recoveries-arrive : (img j : Bytes) → 1 ≤ length j → isMarked j ≡ true → journalSound (length img) j ≡ true
+    → allWritten (recoveries j) (record { image = img; journal = j })
+    ≡ recovered (record { image = img; journal = j })
+unfolding recoveries allWritten written put setMark
+recoveries-arrive img j some m s =
+    images-then (blocksOf j) (setMark 0 j ∷ []) img j
+    ∙ sym (recovered-marked img j some m s)

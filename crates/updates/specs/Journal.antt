@@ -176,6 +176,10 @@ recovered d =
       journal = settled n (d .journal) (store (d .journal) (markPlace (d .journal)) (0 ∷ []));
     }
 
+-- its writes, of a marked journal, in order: each stretch, then the mark
+unfoldable pub recoveries : Bytes → List Write
+recoveries j = toImages (blocksOf j) ++ (setMark 0 j ∷ [])
+
 -- ---- what a cut may leave
 
 -- "Wherever the cut falls, the recovered image is the one before the call or the one after it; once the mark was fully
