@@ -1,6 +1,7 @@
 /* create, add, withdraw, delete, get and count. */
 #include "commands.h"
 
+#include "follow.h"
 #include "header.h"
 #include "limits.h"
 #include "point.h"
@@ -135,6 +136,18 @@ static int open_for_point(struct image *i, struct buffer *key,
     return status;
 }
 
+/* The same to change it, with --delta. */
+static int open_for_change(struct image *i, struct follow *f,
+                           struct buffer *key, const struct options *o,
+                           uint32_t *key_size)
+{
+    int status = open_for_point(i, key, o, 1, key_size);
+
+    if (status == DONE && follow_begin(f, i, o->delta) != 0)
+        status = TROUBLE;
+    return status;
+}
+
 /* What the library said of a point. */
 struct answer {
     uint32_t number;
@@ -142,11 +155,13 @@ struct answer {
     uint64_t freed;      /* by compaction, if that made room; else 0 */
 };
 
-/* Ends a call for a point: closes the file and says what was refused. */
-static int close_point(struct image *i, const struct options *o,
-                       const struct answer *a, uint32_t key_size)
+/* Ends a call for a point: closes the file and says what was refused. `f` is
+ * NULL for a reader. */
+static int close_point(struct image *i, struct follow *f,
+                       const struct options *o, const struct answer *a,
+                       uint32_t key_size)
 {
-    int status = image_close(i) == 0 ? DONE : TROUBLE;
+    int status = follow_close(f, i) == 0 ? DONE : TROUBLE;
 
     if (a->number != BHTF_ACCEPTED)
         status = refuse_point(o->word[0], o->word[1], a->number, key_size,
@@ -266,9 +281,10 @@ static int change_text(const struct options *o, const struct piece *text,
                        uint32_t mode)
 {
     struct buffer key = { NULL, 0, 0 };
+    struct follow f;
     struct image i;
     uint32_t key_size;
-    int status = open_for_point(&i, &key, o, 1, &key_size);
+    int status = open_for_change(&i, &f, &key, o, &key_size);
 
     if (status == DONE) {
         const struct target to = { i.bytes, i.length };
@@ -279,8 +295,9 @@ static int change_text(const struct options *o, const struct piece *text,
         if (a.number == BHTF_NO_ROOM)
             a.freed = room_by_compaction(to, &key, text, mode);
         now = header_read(i.bytes).version[2];
-        status = close_point(&i, o, &a, key_size);
-        say_version(o->word[0], before, now);
+        status = close_point(&i, &f, o, &a, key_size);
+        if (status == DONE)
+            say_version(o->word[0], before, now);
     }
     buffer_free(&key);
     return status;
@@ -323,16 +340,17 @@ int run_withdraw(const struct options *o)
 int run_delete(const struct options *o)
 {
     struct buffer key = { NULL, 0, 0 };
+    struct follow f;
     struct image i;
     uint32_t key_size;
-    int status = open_for_point(&i, &key, o, 1, &key_size);
+    int status = open_for_change(&i, &f, &key, o, &key_size);
 
     if (status == DONE) {
         struct answer a = { 0, 0, 0 };
 
         a.number = bhtf_delete_slots(i.bytes, i.length, key.bytes, key.length,
                                      &a.slots_read);
-        status = close_point(&i, o, &a, key_size);
+        status = close_point(&i, &f, o, &a, key_size);
     }
     buffer_free(&key);
     return status;
@@ -373,7 +391,7 @@ int run_get(const struct options *o)
         if (buffer_put(&text, i.bytes + offset, length) != 0)
             status = out_of_memory();
         if (status == DONE)
-            status = close_point(&i, o, &a, key_size);
+            status = close_point(&i, NULL, o, &a, key_size);
         else
             image_close(&i);
     }

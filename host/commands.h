@@ -31,6 +31,7 @@
 #define OPTION_SLOTS_READ OPTION(18)
 #define OPTION_NO_TEXT OPTION(19)
 #define OPTION_FORMAT OPTION(20)
+#define OPTION_DELTA OPTION(21)
 #define OPTION_AGAINST OPTION(32)
 #define OPTION_PAPER OPTION(33)
 #define OPTION_STATION OPTION(34)
@@ -69,6 +70,7 @@ struct options {
     const char *sigma;
     const char *by;
     const char *format;
+    const char *delta;
     int quiet;
     int help;
     int version;
@@ -111,6 +113,8 @@ int run_import(const struct options *o);
 int run_export(const struct options *o);
 int run_dump(const struct options *o);
 int run_load(const struct options *o);
+int run_delta(const struct options *o);
+int run_apply(const struct options *o);
 int run_diff(const struct options *o);
 int run_plot(const struct options *o);
 int run_figure(const struct options *o);

@@ -2,6 +2,7 @@
 #include "commands.h"
 
 #include "bhtf.h"
+#include "follow.h"
 #include "header.h"
 
 /* Bytes of the data: all of it, and what of it is used. */
@@ -79,6 +80,7 @@ static int explain(const struct options *o, uint32_t number)
 int run_compact(const struct options *o)
 {
     struct spaces s;
+    struct follow f;
     struct image i;
     uint32_t number, key_size;
 
@@ -87,9 +89,11 @@ int run_compact(const struct options *o)
     if (image_open(&i, o->word[0], 1, (unsigned)o->wait) != 0)
         return TROUBLE;
     number = ask_header(i.bytes, i.length, &key_size);
+    if (follow_begin(&f, &i, number == BHTF_ACCEPTED ? o->delta : NULL) != 0)
+        return TROUBLE;
     if (number == BHTF_ACCEPTED)
         number = compact(i.bytes, i.length, &s);
-    if (image_close(&i) != 0)
+    if (follow_close(&f, &i) != 0)
         return TROUBLE;
     return number == BHTF_ACCEPTED ? report(o, &s) : explain(o, number);
 }

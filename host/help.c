@@ -19,6 +19,9 @@
 #define SLOTS_READ \
     "      --slots        say on standard error how many slots were read\n"
 
+#define DELTA \
+    "      --delta FILE   append what changed to FILE, for bhtf apply\n"
+
 #define QUIET "  -q, --quiet        say nothing but errors and warnings\n"
 
 static const struct command commands[] = {
@@ -41,8 +44,8 @@ static const struct command commands[] = {
       "                     1.0.2 (5), until an empty text is stored\n" },
     { "add", OPTION_REPLACE | OPTION_APPEND | OPTION_EASTING |
              OPTION_NORTHING | OPTION_HEIGHT | OPTION_NOTE |
-             OPTION_NO_TEXT | OPTION_SLOTS_READ, 2, 3, run_add,
-      "bhtf add FILE NAME [TEXT] [--replace | --append] [--slots]\n"
+             OPTION_NO_TEXT | OPTION_SLOTS_READ | OPTION_DELTA, 2, 3, run_add,
+      "bhtf add FILE NAME [TEXT] [--replace | --append] [--slots] ..\n"
       "bhtf add FILE NAME --easting E --northing N [--height H] [--note TEXT]\n"
       "bhtf add FILE NAME --no-text\n"
       "Stores a point with a text: TEXT, or all of standard input, or one of\n"
@@ -57,15 +60,15 @@ static const struct command commands[] = {
       "A point that is already there is refused, but for\n"
       "  -r, --replace      put the text in place of its own\n"
       "  -a, --append       put the text behind its own\n"
-      SLOTS_READ QUIET WAITING NAMES },
-    { "withdraw", OPTION_SLOTS_READ, 2, 2, run_withdraw,
-      "bhtf withdraw FILE NAME [--slots]\n"
+      SLOTS_READ DELTA QUIET WAITING NAMES },
+    { "withdraw", OPTION_SLOTS_READ | OPTION_DELTA, 2, 2, run_withdraw,
+      "bhtf withdraw FILE NAME [--slots] [--delta FILE]\n"
       "Takes a point's text away; the point stays, without a text.\n"
-      SLOTS_READ WAITING NAMES },
-    { "delete", OPTION_SLOTS_READ, 2, 2, run_delete,
-      "bhtf delete FILE NAME [--slots]\n"
+      SLOTS_READ DELTA WAITING NAMES },
+    { "delete", OPTION_SLOTS_READ | OPTION_DELTA, 2, 2, run_delete,
+      "bhtf delete FILE NAME [--slots] [--delta FILE]\n"
       "Takes a point out.\n"
-      SLOTS_READ WAITING NAMES },
+      SLOTS_READ DELTA WAITING NAMES },
     { "get", OPTION_TSV | OPTION_JSON | OPTION_SLOTS_READ, 2, ANY_NUMBER,
       run_get,
       "bhtf get FILE NAME.. [--tsv | --json] [--slots]\n"
@@ -111,15 +114,15 @@ static const struct command commands[] = {
       "where,\n"
       "which two points share bytes, and what to do about that.\n"
       QUIET WAITING },
-    { "compact", OPTION_DRY_RUN, 1, 1, run_compact,
-      "bhtf compact FILE [--dry-run]\n"
+    { "compact", OPTION_DRY_RUN | OPTION_DELTA, 1, 1, run_compact,
+      "bhtf compact FILE [--dry-run] [--delta FILE]\n"
       "Gives the bytes of texts that were replaced, withdrawn or deleted back, "
       "and\n"
       "says how much is used before and after. A file that is not sound is left "
       "as\n"
       "it is, with the words of check and status 1.\n"
       "  -n, --dry-run      change nothing; say what would be\n"
-      QUIET WAITING },
+      DELTA QUIET WAITING },
     { "book", 0, 1, 1, run_book,
       "bhtf book FILE\n"
       "Prints the book that calls on a sound file start from: its terms, and "
@@ -138,7 +141,8 @@ static const struct command commands[] = {
       WAITING },
     { "import", OPTION_REPLACE | OPTION_COLUMNS | OPTION_DELIMITER |
                 OPTION_DECIMAL | OPTION_SKIP | OPTION_ANY_TEXT |
-                OPTION_DRY_RUN | OPTION_GSI | OPTION_LANDXML, 2, 2, run_import,
+                OPTION_DRY_RUN | OPTION_GSI | OPTION_LANDXML |
+                OPTION_DELTA, 2, 2, run_import,
       "bhtf import FILE CSV [--columns ORDER] [--replace] [--dry-run] ..\n"
       "Stores a point for each line of a CSV file; of standard input if CSV is "
       "-.\n"
@@ -162,7 +166,7 @@ static const struct command commands[] = {
       "                     line that would be refused\n"
       "      --gsi          CSV is a Leica GSI-16 file\n"
       "      --landxml      CSV is a LandXML file; its CgPoints are read\n"
-      QUIET WAITING NAMES },
+      DELTA QUIET WAITING NAMES },
     { "export", OPTION_CRLF | OPTION_GSI | OPTION_LANDXML | OPTION_DXF, 1, 1,
       run_export,
       "bhtf export FILE [--crlf | --gsi | --landxml | --dxf]\n"
@@ -197,6 +201,25 @@ static const struct command commands[] = {
       "(5).\n"
       "                     An empty text then has no place\n"
       QUIET },
+    { "delta", 0, 2, 2, run_delta,
+      "bhtf delta OLD NEW > CHANGES\n"
+      "Prints, for bhtf apply, what changed from OLD to NEW: a record of bytes, "
+      "with\n"
+      "check sums of both. Both files have the same length.\n"
+      QUIET WAITING },
+    { "apply", OPTION_DRY_RUN, 1, 2, run_apply,
+      "bhtf apply COPY [CHANGES] [--dry-run]\n"
+      "Makes of COPY what the office's file became: CHANGES, or standard input "
+      "if\n"
+      "that is - or not given, is what delta printed or --delta wrote. Records "
+      "that\n"
+      "the copy already has are passed over. If one is missing, out of order or "
+      "for\n"
+      "another file the status is 1; if one is cut short or damaged it is 2; "
+      "COPY is\n"
+      "then as it was.\n"
+      "  -n, --dry-run      change nothing; say what would be\n"
+      QUIET WAITING },
     { "diff", OPTION_TSV, 2, 2, run_diff,
       "bhtf diff OLD NEW [--tsv]\n"
       "Says point by point what became of OLD in NEW: new, gone, moved by how\n"
@@ -299,6 +322,8 @@ void help_print(FILE *to)
           "  bhtf export FILE            print all points as CSV\n"
           "  bhtf dump FILE              print all of it as text\n"
           "  bhtf load FILE DUMP         make a file of such a text\n"
+          "  bhtf delta OLD NEW          print what changed, for a copy\n"
+          "  bhtf apply COPY             bring a copy up to date with that\n"
           "  bhtf diff OLD NEW           say what became of the points\n"
           "  bhtf plot FILE              print a plan as SVG\n"
           "  bhtf figure FILE --station E,N NAME..\n"

@@ -358,16 +358,13 @@ static int directory_of(struct buffer *directory, const char *path)
     return buffer_put_byte(directory, '\0');
 }
 
-/* Puts a new file's name on the disk, which is a matter of its directory: 0,
- * or an error. A directory that may not be read, or that its file system does
- * not write on demand, is left to the system. */
-static int sync_name(const struct image *i)
+int sync_name(const char *path)
 {
     struct buffer directory = { NULL, 0, 0 };
     int error = ENOMEM;
     int fd = -1;
 
-    if (directory_of(&directory, i->path) == 0) {
+    if (directory_of(&directory, path) == 0) {
         fd = open((const char *)directory.bytes, O_RDONLY | O_CLOEXEC);
         error = fd >= 0 && fsync(fd) == 0 ? 0 : errno;
     }
@@ -388,7 +385,7 @@ int image_close(struct image *i)
     if (i->writing && error == 0 && fsync(i->fd) != 0)
         error = errno;
     if (i->created && error == 0)
-        error = sync_name(i);
+        error = sync_name(i->path);
     if (error == 0)
         error = release(i);
     else

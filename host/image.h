@@ -44,6 +44,11 @@ void image_discard(struct image *i);
 /* Removes a file just created, when its closing failed. */
 void image_forget(const struct image *i);
 
+/* Puts a new file's name on the disk, which is a matter of its directory: 0,
+ * or an error. A directory that may not be read, or that its file system does
+ * not write on demand, is left to the system. */
+int sync_name(const char *path);
+
 /* A copy of a whole file, taken under the lock, which is given back. */
 int image_copy(struct buffer *copy, const char *path, unsigned wait);
 

@@ -6,6 +6,7 @@
 #include "commands.h"
 
 #include "columns.h"
+#include "follow.h"
 #include "foreign.h"
 #include "neighbours.h"
 #include "header.h"
@@ -44,6 +45,7 @@ struct import {
     struct record apart;     /* of texts that are taken apart */
     struct batch batch;
     struct image image;      /* open unless it is a dry run */
+    struct follow follow;
     struct buffer copy;      /* in its place in a dry run */
     struct buffer key;
     struct buffer place;     /* words: input and line */
@@ -686,6 +688,8 @@ static int open_image(struct import *m)
     image_pause(&m->image);
     if (status != DONE)
         image_close(&m->image);
+    else if (follow_begin(&m->follow, &m->image, m->o->delta) != 0)
+        status = TROUBLE;
     return status;
 }
 
@@ -757,8 +761,10 @@ static int import_points(struct import *m)
     if (status != DONE)
         return status;
     status = read_input(m);
-    if (image_close(&m->image) != 0)
+    if (follow_close(&m->follow, &m->image) != 0)
         status = TROUBLE;
+    if (m->follow.taken_back)
+        m->stored = m->swapped = 0;
     warn_of_swapped(m);
     return finish_output(report_import(m, status));
 }

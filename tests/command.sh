@@ -497,7 +497,7 @@ holds "import and export under the sanitizers" csv_cleanly
 
 # ---- parts in files of their own ----
 
-for part in slots notes compact import roundtrip habits completion; do
+for part in slots notes compact delta import roundtrip habits completion; do
   # shellcheck source=/dev/null
   . "$root/tests/command/$part.sh"
 done
@@ -521,6 +521,7 @@ gives "a reader waits for another program's lock, and says so" 2 \
   "still locked by process $locker \\(writing\\) after 1 s" bhtf count a --wait 1
 gives "so does a writer" 2 'still locked by process' bhtf add a locked x --wait 0
 gives "and one that compacts" 2 'still locked by process' bhtf compact a --wait 0
+gives "and one that applies a delta" 2 'still locked by process' bhtf apply a stations/step --wait 0
 cp a before
 gives "with standard error closed too" 2 '' sh -c 'bhtf add a locked x --wait 0 2>&-'
 holds "the locked file is as it was" cmp before a
@@ -537,6 +538,8 @@ gives "readers read side by side" 0 '^5$' bhtf count a --wait 0
 gives "a writer waits for readers" 2 '\(reading\)' bhtf add a locked x --wait 0
 gives "so does one that compacts" 2 '\(reading\)' bhtf compact a --wait 0
 gives "its dry run is a reader" 0 'would be' bhtf compact a --dry-run --wait 0
+gives "and one that applies a delta waits" 2 '\(reading\)' bhtf apply a stations/step --wait 0
+gives "its dry run is a reader" 1 'is for a file of 16384 bytes' bhtf apply a stations/step --dry-run --wait 0
 unlock
 
 # A file that is replaced while a writer waits for its lock.
@@ -723,9 +726,19 @@ mkdir deeper
 gives "in another directory as well" 0 'fsync of a directory' put_on_disk bhtf create deeper/durable
 gives "a change is put on the disk" 0 'fsync of a file' put_on_disk bhtf add durable n x
 gives "and a compaction" 0 'fsync of a file' put_on_disk bhtf compact durable
+cp durable durable2
+gives "and its record, with its name" 0 'fsync of a directory' put_on_disk bhtf add durable r x --delta durable.delta
+same "behind the change" $'fsync of a file\nfsync of a file\nfsync of a directory' "$(cat "$work/out")"
+gives "and what a copy is made" 0 'fsync of a file' put_on_disk bhtf apply durable2 durable.delta
 export FSYNC_FAILS=yes
 gives "a disk that fails at add" 2 'written to the disk: Input/output error' put_on_disk bhtf add durable m x
 gives "a disk that fails at compact" 2 'written to the disk: Input/output error' put_on_disk bhtf compact durable
+cp durable.delta before
+gives "a disk that fails at a change with --delta" 2 'written to the disk: Input/output error' \
+  put_on_disk bhtf add durable s x --delta durable.delta
+holds "leaves no record" cmp before durable.delta
+gives "nor a new file of records" 2 'written to the disk' put_on_disk bhtf add durable t x --delta new.delta
+holds "which is not there" test ! -e new.delta
 gives "a disk that fails at create" 2 'written to the disk: Input/output error' put_on_disk bhtf create lost
 unset FSYNC_FAILS
 holds "leaves no new file" test ! -e lost
@@ -755,6 +768,7 @@ gives "and listed" 0 '^CP-1$' as_other bhtf list readonly
 gives "but not written to" 2 'cannot open: Permission denied' as_other bhtf add readonly x y
 gives "nor deleted from" 2 'Permission denied' as_other bhtf delete readonly CP-1
 gives "nor compacted" 2 'Permission denied' as_other bhtf compact readonly
+gives "nor brought up to date" 2 'Permission denied' as_other bhtf apply readonly stations/step
 gives "but a dry run can tell" 0 'would be' as_other bhtf compact readonly -n
 holds "it is as it was" cmp a readonly
 

@@ -8,17 +8,28 @@ _bhtf_options() {
   echo --help
 }
 
-# Which word of the command line this is, options not counted: 1 the command,
-# 2 the file, 3 what is behind it.
+# Which word of the command line this is, options and files of records not
+# counted: 1 the command, 2 the file, 3 what is behind it.
 _bhtf_place() {
   local i place=1
   for ((i = 1; i < COMP_CWORD; i++)); do
-    case ${COMP_WORDS[i]} in
-      -*) ;;
+    case ${COMP_WORDS[i - 1]}:${COMP_WORDS[i]} in
+      *:-* | --delta:*) ;;
       *) place=$((place + 1)) ;;
     esac
   done
   echo "$place"
+}
+
+# The first word behind the command that is no option: the file.
+_bhtf_file() {
+  local i
+  for ((i = 2; i < COMP_CWORD; i++)); do
+    case ${COMP_WORDS[i - 1]}:${COMP_WORDS[i]} in
+      *:-* | --delta:*) ;;
+      *) echo "${COMP_WORDS[i]}"; return ;;
+    esac
+  done
 }
 
 _bhtf() {
@@ -39,10 +50,11 @@ _bhtf() {
       --by | -b) words=(name slot) ;;
       --format) words=(1.0.2 1.0.1 1.0.0) ;;
       --paper | -p) words=(A4 A3 A2 A1 A0) ;;
+      --delta) compopt -o default 2>/dev/null ;;
       *)
         if { [ "$place" -eq 3 ] && [[ $command =~ ^(get|delete|withdraw|add)$ ]]; } ||
           { [ "$place" -gt 2 ] && [[ $command =~ ^(get|figure)$ ]]; }; then
-          mapfile -t words < <("$program" list "${COMP_WORDS[2]}" --wait 0 2>/dev/null)
+          mapfile -t words < <("$program" list "$(_bhtf_file)" --wait 0 2>/dev/null)
         else
           compopt -o default 2>/dev/null
         fi

@@ -1,0 +1,251 @@
+/* --delta FILE: what a command changed, appended for the stations.
+ *
+ * The record is written while the change can still be undone, and put on the
+ * disk when the image is: a copy is never ahead of its file. */
+#include "follow.h"
+
+#include <errno.h>
+#include <fcntl.h>
+#include <string.h>
+#include <sys/stat.h>
+#include <unistd.h>
+
+static int fail(const struct follow *f, const char *what)
+{
+    complain("%s: %s: %s", f->path, what, strerror(errno));
+    return -1;
+}
+
+/* ---- the file of records ---- */
+
+/* A lock on a file is lost when the process closes the file anywhere. */
+static int is_image(const struct follow *f, const struct image *i)
+{
+    struct stat a, b;
+
+    if (stat(f->path, &a) != 0 || fstat(i->fd, &b) != 0 ||
+        a.st_dev != b.st_dev || a.st_ino != b.st_ino)
+        return 0;
+    complain("%s: is the file itself; --delta needs another", f->path);
+    return 1;
+}
+
+static int open_records(struct follow *f)
+{
+    const int flags = O_RDWR | O_APPEND | O_CLOEXEC | O_NONBLOCK | O_NOCTTY;
+    int fd = open(f->path, flags);
+
+    if (fd < 0 && errno == ENOENT) {
+        fd = open(f->path, flags | O_CREAT | O_EXCL, 0666);
+        f->created = fd >= 0;
+    }
+    f->file = fd < 0 ? NULL : fdopen(fd, "r");
+    if (f->file == NULL && fd >= 0)
+        close(fd);
+    return f->file != NULL ? 0 : fail(f, "cannot open");
+}
+
+static int learn_end(struct follow *f)
+{
+    struct stat about;
+
+    if (fstat(fileno(f->file), &about) != 0)
+        return fail(f, "cannot be examined");
+    if (!S_ISREG(about.st_mode)) {
+        complain("%s: not a regular file", f->path);
+        return -1;
+    }
+    f->end = about.st_size;
+    return 0;
+}
+
+static int refuse_records(const struct follow *f, const struct image *i,
+                          const char *why)
+{
+    complain("%s: %s, so that no copy could follow; nothing is changed. Name "
+             "another file for --delta, and send the stations all of %s, or "
+             "what bhtf delta prints", f->path, why, i->path);
+    return -1;
+}
+
+/* Where the last record begins; -1 if there is more, or less, than records. */
+static off_t find_last(const struct follow *f)
+{
+    off_t last = 0, at = 0;
+
+    while (at < f->end) {
+        uint8_t head[DELTA_HEAD];
+        size_t size = 0;
+
+        if (fseeko(f->file, at, SEEK_SET) == 0 &&
+            fread(head, 1, sizeof head, f->file) == sizeof head)
+            size = delta_size(head);
+        if (size == 0 || (uint64_t)size > (uint64_t)(f->end - at))
+            return -1;
+        last = at;
+        at += (off_t)size;
+    }
+    return last;
+}
+
+/* A change goes on where the last record ends. */
+static int ask_last(const struct follow *f, const struct image *i,
+                    struct buffer *bytes)
+{
+    off_t last = find_last(f);
+    struct delta d;
+
+    if (last < 0)
+        return refuse_records(f, i, "not a file of whole records");
+    if (fseeko(f->file, last, SEEK_SET) != 0 ||
+        buffer_read(bytes, f->file, (size_t)(f->end - last)) != 0)
+        return fail(f, "cannot be read");
+    if (delta_read(&d, bytes->bytes, bytes->length) != DELTA_RECORD)
+        return refuse_records(f, i, "its last record is damaged");
+    if (memcmp(d.after, f->before.sum, SHA256_SIZE) != 0)
+        return refuse_records(f, i, "its last record leads to another file, or "
+                                    "there was a change without --delta since");
+    return 0;
+}
+
+static int ask_records(const struct follow *f, const struct image *i)
+{
+    struct buffer bytes = { NULL, 0, 0 };
+    int done = f->end == 0 ? 0 : ask_last(f, i, &bytes);
+
+    buffer_free(&bytes);
+    return done;
+}
+
+/* Takes a file away that was made for nothing. */
+static void close_records(struct follow *f)
+{
+    struct stat about;
+
+    if (f->file != NULL && f->created &&
+        fstat(fileno(f->file), &about) == 0 && about.st_size == 0)
+        unlink(f->path);
+    if (f->file != NULL)
+        fclose(f->file);
+    f->file = NULL;
+    buffer_free(&f->copy);
+}
+
+/* ---- before the change ---- */
+
+static int copy_before(struct follow *f, const struct image *i)
+{
+    if (buffer_put(&f->copy, i->bytes, i->length) != 0) {
+        out_of_memory();
+        return -1;
+    }
+    f->before = state_of(f->copy.bytes, f->copy.length);
+    return 0;
+}
+
+int follow_begin(struct follow *f, struct image *i, const char *path)
+{
+    int held = i->held;
+
+    memset(f, 0, sizeof *f);
+    f->path = path;
+    if (path == NULL)
+        return 0;
+    image_pause(i);
+    if (!is_image(f, i) && open_records(f) == 0 && learn_end(f) == 0 &&
+        copy_before(f, i) == 0 && ask_records(f, i) == 0 &&
+        (!held || image_resume(i) == 0))
+        return 0;
+    close_records(f);
+    image_close(i);
+    return -1;
+}
+
+/* ---- behind the change ---- */
+
+static int write_record(const struct follow *f, const struct buffer *record)
+{
+    size_t done = 0;
+
+    while (done < record->length) {
+        ssize_t written = write(fileno(f->file), record->bytes + done,
+                                record->length - done);
+
+        if (written < 0 && errno != EINTR)
+            return fail(f, "cannot be written to");
+        done += written < 0 ? 0 : (size_t)written;
+    }
+    return 0;
+}
+
+static int append(struct follow *f, const struct image *i)
+{
+    struct buffer record = { NULL, 0, 0 };
+    const struct state after = state_of(i->bytes, i->length);
+    int done = -1;
+
+    if (delta_put(&record, &f->before, &after) != 0)
+        out_of_memory();
+    else
+        done = write_record(f, &record);
+    buffer_free(&record);
+    return done;
+}
+
+/* Takes away what was appended. */
+static void take_record_back(struct follow *f)
+{
+    if (ftruncate(fileno(f->file), f->end) != 0)
+        fail(f, "cannot be made as long as it was");
+}
+
+static void undo(struct follow *f, struct image *i)
+{
+    take_record_back(f);
+    if (!i->held && image_resume(i) != 0) {
+        complain("%s: what was changed stays, and stands in no record",
+                 i->path);
+        return;
+    }
+    memcpy(i->bytes, f->copy.bytes, i->length);
+    f->taken_back = 1;
+    complain("%s: is as it was", i->path);
+}
+
+static int put_on_disk(const struct follow *f)
+{
+    int error = fsync(fileno(f->file)) == 0 ? 0 : errno;
+
+    if (error == 0 && f->created)
+        error = sync_name(f->path);
+    errno = error;
+    return error == 0 ? 0 : fail(f, "cannot be written to the disk");
+}
+
+/* Of an image that did change. */
+static int close_changed(struct follow *f, struct image *i)
+{
+    int appended = append(f, i);
+
+    if (appended != 0)
+        undo(f, i);
+    if (image_close(i) != 0) {
+        take_record_back(f);
+        return -1;
+    }
+    return appended == 0 ? put_on_disk(f) : -1;
+}
+
+int follow_close(struct follow *f, struct image *i)
+{
+    int done;
+
+    if (f == NULL || f->path == NULL)
+        return image_close(i);
+    if (memcmp(f->copy.bytes, i->bytes, i->length) == 0)
+        done = image_close(i);
+    else
+        done = close_changed(f, i);
+    close_records(f);
+    return done;
+}

@@ -1,0 +1,33 @@
+/* --delta FILE: what a command changed, appended for the stations. */
+#ifndef FOLLOW_H
+#define FOLLOW_H
+
+#include "delta.h"
+#include "image.h"
+
+#include <sys/types.h>
+
+struct follow {
+    const char *path;     /* NULL: nothing is appended */
+    FILE *file;           /* to be read; its descriptor appends */
+    int created;          /* its name is new in its directory */
+    off_t end;            /* its length before */
+    struct buffer copy;   /* the image before the change */
+    struct state before;  /* of that copy */
+    int taken_back;       /* for want of a record the change was undone */
+};
+
+/* What answers an int answers 0, or -1 after a complaint. */
+
+/* Before a change of an image that is open to be changed; readers are let in
+ * while it is copied. `path` may be NULL. A FILE whose last record leads to
+ * another image is refused: no copy could go on from there. On -1 the image is
+ * closed. */
+int follow_begin(struct follow *f, struct image *i, const char *path);
+
+/* In place of image_close. Where nothing changed no record is written; where
+ * one cannot be written the image becomes again what it was. `f` may be
+ * NULL. */
+int follow_close(struct follow *f, struct image *i);
+
+#endif
