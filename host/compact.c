@@ -86,7 +86,7 @@ int run_compact(const struct options *o)
 
     if (o->given & OPTION_DRY_RUN)
         return try_compact(o);
-    if (image_open(&i, o->word[0], 1, (unsigned)o->wait) != 0)
+    if (image_open(&i, o->word[0], to_change(o)) != 0)
         return TROUBLE;
     number = ask_header(i.bytes, i.length, &key_size);
     if (follow_begin(&f, &i, number == BHTF_ACCEPTED ? o->delta : NULL) != 0)

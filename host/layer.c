@@ -695,6 +695,16 @@ uint32_t bhtf_file_commit(bhtf_file *file)
     return number == BHTF_ACCEPTED ? commit(file) : number;
 }
 
+uint8_t *bhtf_file_batch_image(bhtf_file *file, size_t *image_len)
+{
+    *image_len = 0;
+    if (ask_batch(file) != BHTF_ACCEPTED)
+        return NULL;
+    file->all = 1;
+    *image_len = file->length;
+    return file->image;
+}
+
 uint32_t bhtf_file_rollback(bhtf_file *file)
 {
     uint32_t number = ask_batch(file);

@@ -8,6 +8,7 @@
 #include <stdio.h>
 #include <stdlib.h>
 #include <string.h>
+#include <sys/mman.h>
 #include <sys/stat.h>
 #include <unistd.h>
 
@@ -15,7 +16,7 @@
  * had. Six letters X are replaced. */
 #define TEMPORARY ".new-XXXXXX"
 
-struct making {
+struct layer_new {
     const char *path;
     struct bhtf_file_error *why;
     char *directory;
@@ -23,9 +24,11 @@ struct making {
     char *temporary;  /* name, if it has one */
     int fd;
     int sync;
+    uint8_t *bytes;
+    size_t length;
 };
 
-static uint32_t fail(struct making *m, const char *what, int error)
+static uint32_t fail(struct layer_new *m, const char *what, int error)
 {
     if (m->why != NULL) {
         m->why->number = BHTF_FILE_SYSTEM;
@@ -37,7 +40,7 @@ static uint32_t fail(struct making *m, const char *what, int error)
     return BHTF_FILE_SYSTEM;
 }
 
-static uint32_t is_there(struct making *m)
+static uint32_t is_there(struct layer_new *m)
 {
     if (m->why != NULL) {
         m->why->number = BHTF_FILE_SYSTEM;
@@ -60,7 +63,7 @@ static char *joined(const char *a, size_t length, const char *b)
     return words;
 }
 
-static uint32_t make_names(struct making *m)
+static uint32_t make_names(struct layer_new *m)
 {
     const char *slash = strrchr(m->path, '/');
 
@@ -73,7 +76,7 @@ static uint32_t make_names(struct making *m)
 }
 
 /* A journal without its file: of one that is gone, or stands elsewhere. */
-static uint32_t ask_names(struct making *m)
+static uint32_t ask_names(struct layer_new *m)
 {
     struct stat about;
 
@@ -98,7 +101,7 @@ static mode_t usual_rights(void)
     return 0666 & ~mask;
 }
 
-static uint32_t open_new(struct making *m)
+static uint32_t open_new(struct layer_new *m)
 {
 #ifdef O_TMPFILE
     m->fd = open(m->directory, O_TMPFILE | O_RDWR | O_CLOEXEC, 0666);
@@ -123,39 +126,36 @@ static uint32_t open_new(struct making *m)
     return BHTF_ACCEPTED;
 }
 
-static int is_zero(const uint8_t *bytes, size_t length)
-{
-    return bytes[0] == 0 && memcmp(bytes, bytes + 1, length - 1) == 0;
-}
-
-/* A new file has zeros by itself. */
-static uint32_t write_image(struct making *m, const uint8_t *image,
-                            size_t length)
+/* Every page gets its place on the disk now: a full disk is then an error here
+ * and not a signal later. */
+static uint32_t map_new(struct layer_new *m)
 {
     int error;
 
+    if (m->length == 0)
+        return fail(m, "cannot create", EINVAL);
     do
-        error = length == 0 ? 0 : posix_fallocate(m->fd, 0, (off_t)length);
+        error = posix_fallocate(m->fd, 0, (off_t)m->length);
     while (error == EINTR);
     if (error != 0)
         return fail(m, "cannot allocate its space", error);
-    for (size_t at = 0; at < length;) {
-        size_t part = length - at < LAYER_PAGE ? length - at : LAYER_PAGE;
-        ssize_t done = is_zero(image + at, part)
-            ? (ssize_t)part : pwrite(m->fd, image + at, part, (off_t)at);
+    m->bytes = mmap(NULL, m->length, PROT_READ | PROT_WRITE, MAP_SHARED, m->fd,
+                    0);
+    if (m->bytes != MAP_FAILED)
+        return BHTF_ACCEPTED;
+    m->bytes = NULL;
+    return fail(m, "cannot be mapped", errno);
+}
 
-        if (done < 0 && errno == EINTR)
-            continue;
-        if (done <= 0)
-            return fail(m, "cannot be written", done < 0 ? errno : EIO);
-        at += (size_t)done;
-    }
-    if (m->sync && fsync(m->fd) != 0)
+static uint32_t flush_new(struct layer_new *m)
+{
+    if (m->sync &&
+        (msync(m->bytes, m->length, MS_SYNC) != 0 || fsync(m->fd) != 0))
         return fail(m, "cannot be written to the disk", errno);
     return BHTF_ACCEPTED;
 }
 
-static int link_new(const struct making *m)
+static int link_new(const struct layer_new *m)
 {
     char name[64];
 
@@ -165,7 +165,7 @@ static int link_new(const struct making *m)
     return linkat(AT_FDCWD, name, AT_FDCWD, m->path, AT_SYMLINK_FOLLOW);
 }
 
-static uint32_t name_it(struct making *m)
+static uint32_t name_it(struct layer_new *m)
 {
     int error = 0;
 
@@ -181,7 +181,9 @@ static uint32_t name_it(struct making *m)
                       : fail(m, "cannot be written to the disk", error);
 }
 
-static uint32_t make(struct making *m, const uint8_t *image, size_t length)
+/* ---- a new file, in two steps ---- */
+
+static uint32_t begin(struct layer_new *m)
 {
     uint32_t number = make_names(m);
 
@@ -189,29 +191,72 @@ static uint32_t make(struct making *m, const uint8_t *image, size_t length)
         number = ask_names(m);
     if (number == BHTF_ACCEPTED)
         number = open_new(m);
+    return number == BHTF_ACCEPTED ? map_new(m) : number;
+}
+
+struct layer_new *layer_new_begin(const char *path, size_t length, int sync,
+                                  struct bhtf_file_error *why)
+{
+    struct layer_new *m = calloc(1, sizeof *m);
+
+    if (m == NULL) {
+        struct layer_new none = { path, why, NULL, NULL, NULL, -1, 0, NULL, 0 };
+
+        fail(&none, "cannot create", ENOMEM);
+        return NULL;
+    }
+    m->path = path;
+    m->why = why;
+    m->fd = -1;
+    m->length = length;
+    m->sync = sync;
+    if (begin(m) == BHTF_ACCEPTED)
+        return m;
+    layer_new_drop(m);
+    return NULL;
+}
+
+uint8_t *layer_new_bytes(struct layer_new *m)
+{
+    return m->bytes;
+}
+
+void layer_new_drop(struct layer_new *m)
+{
+    int error = errno;
+
+    if (m->bytes != NULL)
+        munmap(m->bytes, m->length);
+    if (m->fd >= 0)
+        close(m->fd);
+    if (m->temporary != NULL)
+        unlink(m->temporary);
+    free(m->temporary);
+    free(m->directory);
+    free(m->journal);
+    free(m);
+    errno = error;
+}
+
+uint32_t layer_new_end(struct layer_new *m)
+{
+    uint32_t number = flush_new(m);
+
     if (number == BHTF_ACCEPTED)
-        number = write_image(m, image, length);
-    return number == BHTF_ACCEPTED ? name_it(m) : number;
+        number = name_it(m);
+    layer_new_drop(m);
+    return number;
 }
 
 uint32_t bhtf_file_create(const char *path, const uint8_t *image,
                           size_t image_len, const struct bhtf_file_how *how,
                           struct bhtf_file_error *why)
 {
-    struct making m = { path, why, NULL, NULL, NULL, -1, 1 };
-    uint32_t number;
-    int error;
+    int sync = how == NULL || !(how->flags & BHTF_FILE_NO_SYNC);
+    struct layer_new *m = layer_new_begin(path, image_len, sync, why);
 
-    m.sync = how == NULL || !(how->flags & BHTF_FILE_NO_SYNC);
-    number = make(&m, image, image_len);
-    error = errno;
-    if (m.fd >= 0)
-        close(m.fd);
-    if (m.temporary != NULL)
-        unlink(m.temporary);
-    free(m.temporary);
-    free(m.directory);
-    free(m.journal);
-    errno = error;
-    return number;
+    if (m == NULL)
+        return BHTF_FILE_SYSTEM;
+    memcpy(m->bytes, image, image_len);
+    return layer_new_end(m);
 }
