@@ -45,9 +45,9 @@ static void make_point(char key[KEY + 1], char text[TEXT + 1], int number)
 {
     memset(key, 0, KEY + 1);
     snprintf(key, KEY + 1, "CP-%08d", number);
-    snprintf(text, TEXT + 1, "%012d.402,%012d.118,489.271,bolt      ", number,
-             number);
+    snprintf(text, TEXT + 1, "%d.402,%d.118,489.271,bolt", number, number);
     memset(text + strlen(text), '.', TEXT - strlen(text));
+    text[TEXT] = '\0';
 }
 
 static const char *name(const char *last)

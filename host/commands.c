@@ -300,7 +300,7 @@ static int change_text(const struct options *o, const struct piece *text,
     int status = open_for_change(&i, &f, &key, o, &key_size);
 
     if (status == DONE) {
-        const struct target to = { i.bytes, i.length };
+        const struct target to = { i.bytes, i.length, i.file };
         uint8_t before = header_read(i.bytes).version[2], now;
         struct answer a = { 0, 0, 0 };
 
@@ -360,9 +360,11 @@ int run_delete(const struct options *o)
 
     if (status == DONE) {
         struct answer a = { 0, 0, 0 };
+        uint32_t offset, length;
 
-        a.number = bhtf_delete_slots(i.bytes, i.length, key.bytes, key.length,
-                                     &a.slots_read);
+        bhtf_lookup_slots(i.bytes, i.length, key.bytes, key.length, &offset,
+                          &length, &a.slots_read);
+        a.number = bhtf_file_delete(i.file, key.bytes, key.length);
         status = close_point(&i, &f, o, &a, key_size);
     }
     buffer_free(&key);

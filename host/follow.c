@@ -87,8 +87,20 @@ static off_t find_last(const struct follow *f)
     return last;
 }
 
+/* A record that was written by a command that was ended before its change was
+ * made: nothing leads to it. */
+static int drop_last(struct follow *f, off_t last)
+{
+    if (ftruncate(fileno(f->file), last) != 0)
+        return fail(f, "cannot be written to");
+    f->end = last;
+    complain("%s: warning: its last record was of a change that was cut short, "
+             "and is taken away", f->path);
+    return 0;
+}
+
 /* A change goes on where the last record ends. */
-static int ask_last(const struct follow *f, const struct image *i,
+static int ask_last(struct follow *f, const struct image *i,
                     struct buffer *bytes)
 {
     off_t last = find_last(f);
@@ -101,13 +113,15 @@ static int ask_last(const struct follow *f, const struct image *i,
         return fail(f, "cannot be read");
     if (delta_read(&d, bytes->bytes, bytes->length) != DELTA_RECORD)
         return refuse_records(f, i, "its last record is damaged");
-    if (memcmp(d.after, f->before.sum, SHA256_SIZE) != 0)
+    if (memcmp(d.after, f->before.sum, SHA256_SIZE) == 0)
+        return 0;
+    if (memcmp(d.before, f->before.sum, SHA256_SIZE) != 0)
         return refuse_records(f, i, "its last record leads to another file, or "
                                     "there was a change without --delta since");
-    return 0;
+    return drop_last(f, last);
 }
 
-static int ask_records(const struct follow *f, const struct image *i)
+static int ask_records(struct follow *f, const struct image *i)
 {
     struct buffer bytes = { NULL, 0, 0 };
     int done = f->end == 0 ? 0 : ask_last(f, i, &bytes);

@@ -54,23 +54,31 @@ static void clear(struct image *i, const char *path)
     catch_bus_error();
 }
 
-/* A reader's bytes are not to be written to, which the system sees to. */
 static int take_bytes(struct image *i)
 {
-    if (!i->writing) {
-        i->bytes = (uint8_t *)bhtf_file_image(i->file, &i->length);
-        return 0;
-    }
-    if (bhtf_file_begin(i->file) != BHTF_ACCEPTED)
+    i->bytes = (uint8_t *)bhtf_file_image(i->file, &i->length);
+    if (i->writing && bhtf_file_begin(i->file) != BHTF_ACCEPTED)
         return fail(bhtf_file_error(i->file));
-    i->bytes = bhtf_file_batch_image(i->file, &i->length);
     return 0;
+}
+
+uint8_t *image_writable(struct image *i)
+{
+    return bhtf_file_batch_image(i->file, &i->length);
+}
+
+/* One limit holds for opening and for the commit. */
+static void shorten_wait(bhtf_file *file, int64_t waited)
+{
+    file->how.wait = waited < file->how.wait
+        ? file->how.wait - (uint32_t)waited : 0;
 }
 
 int image_open(struct image *i, const char *path, struct manner how)
 {
     struct bhtf_file_how manner = { 0, 0, is_stopped, NULL };
     struct bhtf_file_error why;
+    int64_t start = layer_now();
 
     clear(i, path);
     i->writing = how.writing;
@@ -82,6 +90,7 @@ int image_open(struct image *i, const char *path, struct manner how)
     i->file = bhtf_file_open(path, &manner, &why);
     if (i->file == NULL)
         return fail(&why);
+    shorten_wait(i->file, layer_now() - start);
     if (how.writing && bhtf_file_recovered(i->file))
         complain("%s: a change that was cut short has been finished", path);
     return take_bytes(i);

@@ -14,7 +14,8 @@ struct image {
     const char *path;
     bhtf_file *file;
     struct layer_new *created; /* instead, if it is a new one */
-    uint8_t *bytes;  /* never NULL once it is open; a writer may change them */
+    uint8_t *bytes;  /* never NULL once it is open; only those of a new file may
+                        be written to, and what image_writable answers */
     size_t length;
     int writing;     /* opened to be changed */
     int sync;        /* changes are on the disk when they are told */
@@ -37,6 +38,9 @@ int image_create(struct image *i, const char *path, size_t length, int sync);
 
 /* An existing file, to be read or to be changed. */
 int image_open(struct image *i, const char *path, struct manner how);
+
+/* A writer's bytes, to be changed by other ways than calls on i->file. */
+uint8_t *image_writable(struct image *i);
 
 /* Brings what was changed to the file, as one change. */
 int image_commit(struct image *i);

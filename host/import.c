@@ -425,6 +425,7 @@ static struct target target(const struct import *m)
 
     to.image = is_dry(m) ? m->copy.bytes : m->image.bytes;
     to.length = is_dry(m) ? m->copy.length : m->image.length;
+    to.file = is_dry(m) ? NULL : m->image.file;
     return to;
 }
 

@@ -23,6 +23,13 @@
 /* Room for the pairs of one call; more of them, and all pages are compared. */
 #define LIST_BYTES (1u << 16)
 
+/* Files up to this length are compared as a whole, and so is a file in which a
+ * batch makes more than so many calls. */
+#ifndef COMPARED_BYTES /* tests set another */
+#define COMPARED_BYTES (1u << 22)
+#endif
+#define LISTED_CALLS 16
+
 /* Runs that so few equal bytes part are one: a pair takes as much. */
 #define GAP 8u
 
@@ -148,6 +155,7 @@ static bhtf_file *make_handle(const char *path, const struct bhtf_file_how *how)
     if (f == NULL)
         return NULL;
     f->how = how == NULL ? usual : *how;
+    f->limit = f->how.wait;
     f->writing = (f->how.flags & BHTF_FILE_WRITE) != 0;
     f->fd = -1;
     f->journal = -1;
@@ -261,10 +269,11 @@ static uint32_t map_view(bhtf_file *f, uint8_t **view, int access, int flags)
     return BHTF_ACCEPTED;
 }
 
-/* The file that has the name when its lock is had. */
+/* The file that has the name when its lock is had: one that was replaced in
+ * the meantime is left for the new one, some times. */
 static uint32_t open_reader(bhtf_file *f, int64_t deadline)
 {
-    for (;;) {
+    for (int tries = 1;; tries++) {
         uint32_t number = open_name(f);
 
         if (number == BHTF_ACCEPTED)
@@ -277,7 +286,7 @@ static uint32_t open_reader(bhtf_file *f, int64_t deadline)
             number = map_view(f, &f->image, PROT_READ, MAP_SHARED);
         if (number == BHTF_ACCEPTED)
             number = layer_journal_read(f);
-        if (number != BHTF_FILE_REPLACED)
+        if (number != BHTF_FILE_REPLACED || tries == 100)
             return number;
         release(f);
     }
@@ -428,6 +437,7 @@ static void forget_changes(bhtf_file *f)
 {
     memset(f->touched, 0, pages_of(f) / 8 + 1);
     f->all = 0;
+    f->calls = 0;
 }
 
 static int put_run(bhtf_file *f, size_t from, size_t size)
@@ -503,6 +513,7 @@ static uint32_t find_runs(bhtf_file *f)
 static uint32_t map_anew(bhtf_file *f)
 {
     forget_changes(f);
+    f->kept = 0;
     if (f->length > 0 &&
         mmap(f->image, f->length, PROT_READ | PROT_WRITE, MAP_PRIVATE |
              MAP_NORESERVE | MAP_FIXED, f->fd, 0) == MAP_FAILED) {
@@ -523,7 +534,8 @@ static uint32_t commit(bhtf_file *f)
     if (number != BHTF_ACCEPTED)
         return number;
     f->batch = 0;
-    if (f->run_bytes > KEPT_BYTES)
+    f->kept += f->run_bytes + f->run_count * (uint64_t)LAYER_PAGE;
+    if (f->kept > KEPT_BYTES)
         return map_anew(f);
     forget_changes(f);
     return BHTF_ACCEPTED;
@@ -581,6 +593,16 @@ static void touch_list(bhtf_file *f, uint32_t pairs)
         touch(f, layer_u32(f->list + 8 * i), layer_u32(f->list + 8 * i + 4));
 }
 
+/* Will the next call list what it changes? */
+static int is_listed(bhtf_file *f)
+{
+    if (f->length <= COMPARED_BYTES || f->calls >= LISTED_CALLS)
+        f->all = 1;
+    else
+        f->calls++;
+    return !f->all;
+}
+
 static uint32_t add_listed(bhtf_file *f, const uint8_t *key, size_t key_len,
                            const uint8_t *data, size_t data_len, uint32_t mode)
 {
@@ -608,7 +630,6 @@ static uint32_t delete_listed(bhtf_file *f, const uint8_t *key, size_t key_len)
     return refused(f, number);
 }
 
-/* In a batch the pages are compared once, when it is committed. */
 uint32_t bhtf_file_add(bhtf_file *file, const uint8_t *key, size_t key_len,
                        const uint8_t *data, size_t data_len, uint32_t mode)
 {
@@ -616,12 +637,10 @@ uint32_t bhtf_file_add(bhtf_file *file, const uint8_t *key, size_t key_len,
 
     if (number != BHTF_ACCEPTED)
         return number;
-    if (file->batch) {
-        file->all = 1;
-        return refused(file, bhtf_add(file->image, file->length, key, key_len,
-                                      data, data_len, mode));
-    }
-    number = add_listed(file, key, key_len, data, data_len, mode);
+    number = is_listed(file)
+        ? add_listed(file, key, key_len, data, data_len, mode)
+        : refused(file, bhtf_add(file->image, file->length, key, key_len, data,
+                                 data_len, mode));
     return number == BHTF_ACCEPTED ? settle(file) : number;
 }
 
@@ -642,12 +661,10 @@ uint32_t bhtf_file_delete(bhtf_file *file, const uint8_t *key, size_t key_len)
 
     if (number != BHTF_ACCEPTED)
         return number;
-    if (file->batch) {
-        file->all = 1;
-        return refused(file,
-                       bhtf_delete(file->image, file->length, key, key_len));
-    }
-    number = delete_listed(file, key, key_len);
+    number = is_listed(file)
+        ? delete_listed(file, key, key_len)
+        : refused(file,
+                  bhtf_delete(file->image, file->length, key, key_len));
     return number == BHTF_ACCEPTED ? settle(file) : number;
 }
 

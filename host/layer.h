@@ -12,6 +12,7 @@
 
 struct bhtf_file {
     struct bhtf_file_how how;
+    uint32_t limit;       /* of a wait, as it was asked for */
     struct bhtf_file_error why;
     char *path;           /* as it was given */
     char *real;           /* without symbolic links: names one file */
@@ -32,6 +33,8 @@ struct bhtf_file {
     /* what was changed and not yet committed */
     uint8_t *touched;     /* a bit for each page */
     int all;              /* any page may be */
+    int calls;            /* that listed what they changed */
+    uint64_t kept;        /* bytes of pages changed since it was mapped */
     uint8_t *work;        /* the listed calls' working slice */
     uint8_t *list;
     /* the journal */

@@ -25,6 +25,7 @@
 #include <string.h>
 #include <sys/mman.h>
 #include <sys/stat.h>
+#include <time.h>
 #include <unistd.h>
 
 #define MARK 0xA5u
@@ -206,11 +207,28 @@ static int take_head(int fd, struct copy *c)
            head_take(bytes, &c->head, c->length);
 }
 
+/* Between the making of a journal and the giving of its rights there is a
+ * moment: one that may not be read is tried again. */
+static int open_to_read(const bhtf_file *f)
+{
+    const struct timespec pause = { 0, 2000000 };
+    int fd = -1;
+
+    for (int i = 0; i < 20 && fd < 0; i++) {
+        if (i > 0)
+            nanosleep(&pause, NULL);
+        fd = open(f->journal_path, O_RDONLY | O_CLOEXEC | O_NONBLOCK |
+                  O_NOCTTY | O_NOFOLLOW);
+        if (fd < 0 && errno != EACCES)
+            break;
+    }
+    return fd;
+}
+
 /* Opens the journal if it holds an unfinished change: *fd is -1 if not. */
 static uint32_t open_unfinished(bhtf_file *f, int *fd, struct copy *c)
 {
-    *fd = open(f->journal_path, O_RDONLY | O_CLOEXEC | O_NONBLOCK | O_NOCTTY |
-               O_NOFOLLOW);
+    *fd = open_to_read(f);
     if (*fd < 0)
         return errno == ENOENT
             ? BHTF_ACCEPTED
@@ -484,33 +502,34 @@ uint32_t layer_journal_recover(bhtf_file *f, int64_t deadline)
 /* ---- a change: the journal's place ---- */
 
 /* The same people may read it as the file. */
-static void share(const bhtf_file *f)
+static void share(const bhtf_file *f, const struct stat *about)
 {
-    struct stat about;
-    int ignored;
+    int ignored = fchown(f->journal, about->st_uid, about->st_gid);
 
-    if (fstat(f->fd, &about) != 0)
-        return;
-    ignored = fchown(f->journal, about.st_uid, about.st_gid);
-    ignored = fchmod(f->journal, about.st_mode & 0666);
+    ignored = fchmod(f->journal, about->st_mode & 0666);
     (void)ignored;
 }
 
 /* What is there is unmarked: it was asked when the file was opened. */
 static uint32_t make_journal(bhtf_file *f)
 {
+    struct stat about;
+
+    if (fstat(f->fd, &about) != 0)
+        return layer_fail(f, BHTF_FILE_SYSTEM, errno, "cannot be examined");
     if (!is_leavings(f))
         return fail_on_journal(f, "has the name of something else", EEXIST);
     if (unlink(f->journal_path) != 0 && errno != ENOENT)
         return fail_on_journal(f, "is in the way and cannot be removed", errno);
     f->journal = open(f->journal_path,
-                      O_RDWR | O_CREAT | O_EXCL | O_CLOEXEC, 0600);
+                      O_RDWR | O_CREAT | O_EXCL | O_CLOEXEC,
+                      about.st_mode & 0666);
     if (f->journal < 0)
         return fail_on_journal(f, "cannot be created", errno);
     f->room = 0;
     f->named = 0;
     f->unmarked = 0;
-    share(f);
+    share(f, &about);
     return BHTF_ACCEPTED;
 }
 

@@ -18,9 +18,13 @@
 
 #include "layer.h"
 
+#include <dirent.h>
 #include <errno.h>
 #include <fcntl.h>
+#include <stdio.h>
+#include <stdlib.h>
 #include <string.h>
+#include <sys/stat.h>
 #include <time.h>
 
 #ifdef F_OFD_SETLK
@@ -123,13 +127,75 @@ static int find_holder(const bhtf_file *f, short type, struct stretch s,
     return ask(f, GET_LOCK, type, s, lock) == 0 && lock->l_type != F_UNLCK;
 }
 
+/* Is there, in what the system tells of a descriptor, this lock on the file?
+ * Locks of open files name no process: so all are looked through. */
+static int tells_lock(const char *path, ino_t inode, const struct flock *lock)
+{
+    FILE *info = fopen(path, "re");
+    char line[256];
+    int found = 0;
+
+    while (info != NULL && !found && fgets(line, sizeof line, info) != NULL) {
+        unsigned long number;
+        long long start;
+
+        found = sscanf(line, "lock: %*d: %*s %*s %*s %*d %*x:%*x:%lu %lld",
+                       &number, &start) == 2 &&
+                number == inode && start == (long long)lock->l_start;
+    }
+    if (info != NULL)
+        fclose(info);
+    return found;
+}
+
+static int process_holds(const char *process, ino_t inode,
+                         const struct flock *lock)
+{
+    char path[300];
+    struct dirent *entry;
+    int found = 0;
+    DIR *d;
+
+    snprintf(path, sizeof path, "/proc/%.20s/fdinfo", process);
+    d = opendir(path);
+    while (d != NULL && !found && (entry = readdir(d)) != NULL) {
+        snprintf(path, sizeof path, "/proc/%.20s/fdinfo/%.20s", process,
+                 entry->d_name);
+        found = tells_lock(path, inode, lock);
+    }
+    if (d != NULL)
+        closedir(d);
+    return found;
+}
+
+/* The process that holds a lock, as far as this one may know; else 0. */
+static long find_process(const bhtf_file *f, const struct flock *lock)
+{
+    struct dirent *entry;
+    struct stat about;
+    long found = 0;
+    DIR *d;
+
+    if (lock->l_pid > 0)
+        return (long)lock->l_pid;
+    d = fstat(f->fd, &about) == 0 ? opendir("/proc") : NULL;
+    while (d != NULL && found == 0 && (entry = readdir(d)) != NULL)
+        if (entry->d_name[0] >= '1' && entry->d_name[0] <= '9' &&
+            process_holds(entry->d_name, about.st_ino, lock))
+            found = atol(entry->d_name);
+    if (d != NULL)
+        closedir(d);
+    return found;
+}
+
 /* Whoever holds the gate waits for one that holds the bytes: that one is to
  * blame. */
 static uint32_t blame(bhtf_file *f, short type, struct stretch s)
 {
-    double seconds = f->how.wait / 1000.0;
+    double seconds = f->limit / 1000.0;
     struct flock lock;
     const char *what;
+    long process;
 
     if (!find_holder(f, F_WRLCK, bytes_lock, &lock) &&
         !find_holder(f, type, s, &lock))
@@ -137,10 +203,11 @@ static uint32_t blame(bhtf_file *f, short type, struct stretch s)
                           "still locked by another process after %g s",
                           seconds);
     what = lock.l_type == F_WRLCK ? "writing" : "reading";
-    if (lock.l_pid > 0)
+    process = find_process(f, &lock);
+    if (process > 0)
         return layer_fail(f, BHTF_FILE_LOCKED, 0,
                           "still locked by process %ld (%s) after %g s",
-                          (long)lock.l_pid, what, seconds);
+                          process, what, seconds);
     return layer_fail(f, BHTF_FILE_LOCKED, 0,
                       "still locked by another process (%s) after %g s", what,
                       seconds);

@@ -181,7 +181,7 @@ static int refuse_line(struct load *l, uint32_t number)
 
 static int store_point(struct load *l, int has_text)
 {
-    const struct target to = { l->image, l->length };
+    const struct target to = { l->image, l->length, NULL };
     const struct piece text = { l->text.bytes, l->text.length };
     uint32_t number, read;
 

@@ -252,7 +252,7 @@ static int write_copy(struct refresh *r)
                     r->now.length) != 0)
         status = out_of_memory();
     else
-        content_write(content.bytes, r->image.bytes);
+        content_write(content.bytes, image_writable(&r->image));
     buffer_free(&content);
     return status;
 }

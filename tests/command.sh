@@ -377,6 +377,15 @@ truncate -s 1073745920 long
 gives "long: count refused 1" 1 'refused \(1\)' bhtf count long
 gives "long: add refused 1" 1 'refused \(1\)' bhtf add long n t
 same "no block of it is written" 0 "$(stat -c %b long)"
+# A file that is not one of ours is not touched at all.
+truncate -s 8192 holes
+touch -d '2020-01-01' holes
+before=$(stat -c '%b %Y %Z' holes)
+for words in 'add:n:t' 'delete:n' 'compact' 'import:out1'; do
+  IFS=: read -r command one two <<<"$words"
+  gives "holes: $command refused 5" 1 'refused \(5\)' bhtf "$command" holes ${one:+"$one"} ${two:+"$two"}
+done
+same "neither its blocks nor its times have changed" "$before" "$(stat -c '%b %Y %Z' holes)"
 # With standard error closed the file must not be opened in its place, and the
 # message written into it.
 cp header before
@@ -508,7 +517,7 @@ done
 
 mkfifo hold reply
 lock() { # FILE KIND [LENGTH]: another program's lock on the whole file, or on its first bytes
-  ./locker "$@" <hold >reply &
+  ./locker "$@" <hold >reply 9>&- &
   locker=$!
   helpers+=("$locker")
   exec 8>hold
@@ -544,6 +553,18 @@ gives "and one that applies a delta waits" 2 '\(reading\)' bhtf apply a stations
 gives "its dry run is a reader" 1 'is for a file of 16384 bytes' bhtf apply a stations/step --dry-run --wait 0
 unlock
 
+# A reader that is stuck, and a writer that waits for it: other readers pass, and each is told the truth.
+lock a read 1
+(bhtf add a late x --wait 3 >waited 2>&1; echo $? >>waited) 8>&- &
+waiter=$!
+helpers+=("$waiter")
+sleep 0.3
+gives "behind a stuck reader and a waiting writer a reader has its turn" 0 '^5$' bhtf count a --wait 2
+wait "$waiter"
+gives "the writer names the reader" 0 "still locked by process $locker \\(reading\\) after 3 s" cat waited
+same "after the time that was given, for all locks together" 2 "$(tail -n 1 waited)"
+unlock
+
 # A file that is replaced while a writer waits for its lock.
 cp a replaced
 cp a newer
@@ -574,7 +595,7 @@ start_import shared
 feed 1 600
 holds "an import under way has the writer's lock" until_true is_busy shared
 gives "readers see nothing of it" 0 '^0$' bhtf count shared --wait 0
-gives "there is one writer" 2 'still locked' bhtf add shared other x --wait 0
+gives "there is one writer" 2 "still locked by process $importer \\(writing\\)" bhtf add shared other x --wait 0
 gives "the file is sound for readers" 0 sound bhtf check shared --wait 0
 exec 9>&-
 wait "$importer"
@@ -742,17 +763,18 @@ same "which is stored" x "$(bhtf get durable n2)"
 gives "nor at create" 0 '' put_on_disk bhtf create durable2 --no-sync
 cp durable durable2
 gives "and its record, with its name" 0 'fsync of a directory' put_on_disk bhtf add durable r x --delta durable.delta
-same "behind the change" $'fsync of a file\nfsync of a file\nfsync of a directory' "$(cat "$work/out")"
+same "behind the change" 'journal its-name mark file mark-0 record its-name' "$(tr '\n' ' ' <"$work/out" |
+  sed 's/^fsync of a file fsync of a directory fsync of a file fsync of a file fsync of a file fsync of a file fsync of a directory $/journal its-name mark file mark-0 record its-name/')"
 gives "and what a copy is made" 0 'fsync of a file' put_on_disk bhtf apply durable2 durable.delta
 export FSYNC_FAILS=yes
 gives "a disk that fails at add" 2 'nothing was changed.*written: Input/output error' put_on_disk bhtf add durable m x
-env -u FSYNC_FAILS bhtf add durable n longer-still --replace
+env -u FSYNC_FAILS bhtf add durable n longer-still --replace --delta durable.delta
 gives "a disk that fails at compact" 2 'nothing was changed.*written: Input/output error' put_on_disk bhtf compact durable
 cp durable.delta before
-gives "a disk that fails at a change with --delta" 2 'written to the disk: Input/output error' \
+gives "a disk that fails at a change with --delta" 2 'nothing was changed.*written: Input/output error' \
   put_on_disk bhtf add durable s x --delta durable.delta
 holds "leaves no record" cmp before durable.delta
-gives "nor a new file of records" 2 'written to the disk' put_on_disk bhtf add durable t x --delta new.delta
+gives "nor a new file of records" 2 'nothing was changed' put_on_disk bhtf add durable t x --delta new.delta
 holds "which is not there" test ! -e new.delta
 gives "a disk that fails at create" 2 'written to the disk: Input/output error' put_on_disk bhtf create lost
 unset FSYNC_FAILS
@@ -815,7 +837,8 @@ if full_disk; then
   cp --sparse=always sparse disk/sparse
   cp sparse before
   head -c 1048576 /dev/zero >disk/filler 2>/dev/null
-  gives "a file with holes on a full disk" 2 'cannot allocate its space' bhtf add disk/sparse n x
+  # In memory a hole takes space when it is read; on a disk, when it is written.
+  gives "a file with holes on a full disk" 2 'cannot allocate its space|its disk failed' bhtf add disk/sparse n x
   holds "is as it was" cmp before disk/sparse
   gives "nor is there room for a journal" 2 'nothing was changed: its journal .*has no space: No space left' bhtf add disk/g n x
   rm disk/filler

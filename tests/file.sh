@@ -161,13 +161,33 @@ fi
 
 # ---- seeded faults ----
 
-# fault NAME FILE OLD NEW SCENES [STATES]: the cuts of a library with OLD made NEW, which must stand there once, are not all passed
+station=${LIB:-target/staticlib/libstation.a}
+station=$(realpath "$station")
+
+# builds: the cuts over a copy of the layer in $work/copy, in which calls list what they change however short the file is
+builds() {
+  # shellcheck disable=SC2086
+  gcc -std=c99 -O1 -D_POSIX_C_SOURCE=200809L -D_FILE_OFFSET_BITS=64 -DCOMPARED_BYTES=0 -Wno-format-truncation "$work"/copy/*.c \
+    tests/file/cuts.c tests/file/trace.c tests/file/disk.c "$station" ${LDLIBS:-} -o "$work/copy/program"
+}
+
+# copies: a fresh copy of the layer
+copies() {
+  rm -rf "$work/copy"
+  mkdir "$work/copy" "$work/copy/cuts" && cp host/layer* host/messages.c host/bhtf.h host/bhtf_file.h "$work/copy"
+}
+
+# runs SCENES STATES: the cuts over the copy
+runs() { timeout 300 "$work/copy/program" --seed "$seed" --random 2 --states "$2" --scenes "$1" "$work/copy/cuts"; }
+
+copies
+holds "calls that list what they change: builds" builds
+holds "calls that list what they change: cut" runs 13 4
+
+# fault NAME FILE OLD NEW SCENES [STATES]: the cuts of a layer with OLD made NEW, which must stand there once, are not all passed
 fault() {
-  local tree=$work/fault
-  rm -rf "$tree"
-  mkdir "$tree" "$tree/cuts"
-  cp host/layer* host/messages.c host/bhtf.h host/bhtf_file.h "$tree"
-  if ! python3 - "$tree/$2" "$3" "$4" <<'END'
+  copies
+  if ! python3 - "$work/copy/$2" "$3" "$4" <<'END'
 import sys
 path, old, new = sys.argv[1:]
 text = open(path).read()
@@ -176,20 +196,14 @@ if text.count(old) != 1:
 open(path, "w").write(text.replace(old, new))
 END
   then fail "$1: the fault cannot be seeded"; return; fi
-  # shellcheck disable=SC2086
-  if ! gcc -std=c99 -O1 -D_POSIX_C_SOURCE=200809L -D_FILE_OFFSET_BITS=64 -Wno-format-truncation "$tree"/*.c tests/file/cuts.c tests/file/trace.c \
-    tests/file/disk.c "$station" ${LDLIBS:-} -o "$tree/program" >"$work/out" 2>&1; then
+  if ! builds >"$work/out" 2>&1; then
     fail "$1: does not build" "$(head -n 3 "$work/out")"
-    return
-  fi
-  if timeout 300 "$tree/program" --seed "$seed" --random 2 --states "${6:-4}" --scenes "$5" "$tree/cuts" >"$work/out" 2>&1; then
+  elif runs "$5" "${6:-4}" >"$work/out" 2>&1; then
     fail "not found: $1"
   else
     pass "found: $1"
   fi
 }
-station=${LIB:-target/staticlib/libstation.a}
-station=$(realpath "$station")
 fault "the mark before the content is flushed" layer_journal.c '    if (error == 0)
         error = flush(f, f->journal);
     if (error == 0 && !f->named' '    if (error == 0 && !f->named' 3
@@ -211,8 +225,8 @@ fault "the journal's name not flushed" layer_journal.c 'error = layer_sync_direc
 fault "a head that is not asked for its length" layer_journal.c '&&
            h->number[JOURNAL_LENGTH] == length' '&& (length == length)' 4 200
 fault "a reader that does not look for a journal" layer.c '            number = layer_journal_read(f);
-        if (number != BHTF_FILE_REPLACED)' '            number = 0;
-        if (number != BHTF_FILE_REPLACED)' 3
+        if (number != BHTF_FILE_REPLACED ||' '            number = 0;
+        if (number != BHTF_FILE_REPLACED ||' 3
 fault "a writer that does not look for a journal" layer.c 'number = layer_journal_recover(f, deadline);' 'number = 0;' 3
 fault "a commit that is not flushed" layer_journal.c 'error = flush(f, f->fd);' 'error = 0;' 3
 fault "a page that is forgotten" layer.c 'page <= (from + size - 1) / LAYER_PAGE; page++)

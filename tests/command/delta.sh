@@ -194,6 +194,14 @@ bhtf delta copy1 office >>changes
 gives "what is missing can be put there" 0 '' bhtf add office CP-5 x --delta changes
 gives "a copy follows" 0 '^2 records applied' bhtf apply copy1 changes
 holds "and is equal" cmp office copy1
+cp changes changes9
+cp office office9
+bhtf add office CP-9 x --delta changes
+cp office9 office
+gives "a record of a change that was cut short is taken away" 0 'its last record was of a change that was cut short' \
+  bhtf add office CP-9 y --delta changes
+gives "and a copy follows" 0 '^1 record applied' bhtf apply copy1 changes
+holds "and is equal, again" cmp office copy1
 long=$(head -c 3000 /dev/zero | tr '\0' t)
 limited() { sh -c 'limit=$1; shift; ulimit -f "$limit"; exec "$@"' - $(($(stat -c %s changes) / 512 + 1)) "$@"; }
 undone "a disk that is full" 2 'changes: cannot be written to: File too large' limited bhtf add office CP-6 "$long" --delta changes

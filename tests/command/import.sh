@@ -79,7 +79,7 @@ a decimal comma|"4482113,402",2,3,|the easting 4482113,402 has a decimal comma
 an easting alone|1,,3,|no northing beside the easting
 a northing alone|,2,3,|no easting beside the northing
 LIST
-gives "the lines in front are stored" 0 '^1,2,3,$' bhtf get office ok1
+gives "the lines in front are not stored" 1 'refused \(14\)' bhtf get office ok1
 for number in 0 -12.5 +7 .5 5. 000123.4560 123456789012345678901234567890.123; do
   holds "the number $number is kept as written" stores number "$number,2,,x" "P,E,N,Z,D"$'\n'"number,$number,2,,x"$'\n'
 done
