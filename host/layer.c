@@ -38,7 +38,7 @@
 
 /* ---- words ---- */
 
-static void put_error(char *words, size_t room, int error)
+void layer_put_error(char *words, size_t room, int error)
 {
     char text[128] = "";
     size_t used = strlen(words);
@@ -63,7 +63,7 @@ uint32_t layer_fail(bhtf_file *f, uint32_t number, int error,
     vsnprintf(why->words + used, sizeof why->words - used, format, list);
     va_end(list);
     if (error != 0)
-        put_error(why->words, sizeof why->words, error);
+        layer_put_error(why->words, sizeof why->words, error);
     errno = error;
     return number;
 }

@@ -57,6 +57,9 @@ struct bhtf_file {
 uint32_t layer_fail(bhtf_file *f, uint32_t number, int error,
                     const char *format, ...);
 
+/* ": " and what errno means, behind the words that are there. */
+void layer_put_error(char *words, size_t room, int error);
+
 /* Does the name still lead to the open file? 0 or BHTF_FILE_REPLACED. */
 uint32_t layer_ask_name(bhtf_file *f);
 

@@ -33,8 +33,8 @@ static uint32_t fail(struct layer_new *m, const char *what, int error)
     if (m->why != NULL) {
         m->why->number = BHTF_FILE_SYSTEM;
         m->why->error = error;
-        snprintf(m->why->words, sizeof m->why->words, "%s: %s: %s", m->path,
-                 what, strerror(error));
+        snprintf(m->why->words, sizeof m->why->words, "%s: %s", m->path, what);
+        layer_put_error(m->why->words, sizeof m->why->words, error);
     }
     errno = error;
     return BHTF_FILE_SYSTEM;

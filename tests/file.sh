@@ -232,7 +232,7 @@ fault "a commit that is not flushed" layer_journal.c 'error = flush(f, f->fd);' 
 fault "a page that is forgotten" layer.c 'page <= (from + size - 1) / LAYER_PAGE; page++)
         f->touched' 'page < (from + size - 1) / LAYER_PAGE; page++)
         f->touched' 3
-fault "a new file named before it is flushed" layer_create.c 'if (m->sync && fsync(m->fd) != 0)' 'if (m->sync && 0)' 0
+fault "a new file named before it is flushed" layer_create.c 'fsync(m->fd) != 0))' '0))' 0
 fault "a new file's name not flushed" layer_create.c 'error = layer_sync_directory(m->directory);' 'error = 0;' 0
 
 echo "$passed passed, $failed failed"
