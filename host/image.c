@@ -119,12 +119,10 @@ static int name_new(struct image *i)
     return layer_new_end(created) == BHTF_ACCEPTED ? 0 : fail(&i->why);
 }
 
-int image_commit(struct image *i)
+static int commit(const struct image *i)
 {
-    if (bhtf_file_commit(i->file) != BHTF_ACCEPTED ||
-        bhtf_file_begin(i->file) != BHTF_ACCEPTED)
-        return fail(bhtf_file_error(i->file));
-    return 0;
+    return bhtf_file_commit(i->file) == BHTF_ACCEPTED
+        ? 0 : fail(bhtf_file_error(i->file));
 }
 
 static int close_file(struct image *i)
@@ -145,7 +143,7 @@ int image_close(struct image *i)
     if (i->created != NULL)
         return name_new(i);
     if (i->writing)
-        done = image_commit(i);
+        done = commit(i);
     return close_file(i) == 0 ? done : -1;
 }
 

@@ -42,10 +42,8 @@ int image_open(struct image *i, const char *path, struct manner how);
 /* A writer's bytes, to be changed by other ways than calls on i->file. */
 uint8_t *image_writable(struct image *i);
 
-/* Brings what was changed to the file, as one change. */
-int image_commit(struct image *i);
-
-/* image_commit, and gives the locks back. */
+/* Brings what was changed to the file, as one change, and gives the locks
+ * back. */
 int image_close(struct image *i);
 
 /* Closes it; what was changed is forgotten, and so is a file just created. */

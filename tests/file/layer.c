@@ -86,15 +86,20 @@ static void make_fresh(void)
 /* ---- an unfinished change ---- */
 
 static volatile int armed;
+static int fails_at, flushes;
 
 /* In the place of the library's: the child ends where the stretches would be
- * flushed. */
+ * flushed; or the disk fails at one of the flushes. */
 int fdatasync(int fd)
 {
     static int calls;
 
     if (armed && ++calls == 3)
         _exit(7);
+    if (++flushes == fails_at) {
+        errno = EIO;
+        return -1;
+    }
     return fsync(fd);
 }
 
@@ -161,6 +166,41 @@ static void try_unfinished(void)
     if (f != NULL)
         bhtf_file_close(f);
     chmod(journal, 0644);
+}
+
+/* A disk that fails at a flush of a change: content, mark, file. */
+static void try_failing(void)
+{
+    char name[100];
+    bhtf_file *f;
+
+    for (int at = 1; at <= 3; at++) {
+        uint32_t number;
+
+        make_fresh();
+        f = open_writer(NULL);
+        flushes = 0;
+        fails_at = at;
+        number = put(f, "A", "1");
+        fails_at = 0;
+        snprintf(name, sizeof name, "a disk that fails at flush %d", at);
+        holds(name, number == BHTF_FILE_SYSTEM &&
+              bhtf_file_error(f)->error == EIO &&
+              strstr(bhtf_file_error(f)->words, at < 3 ? "nothing was changed"
+                     : "is told when the file is opened again") != NULL);
+        holds("what it says of the next change", put(f, "B", "2") ==
+              (at < 3 ? 0 : BHTF_FILE_BROKEN));
+        bhtf_file_close(f);
+        holds("what it says of this one", at < 3
+              ? has(file, "A", NULL) && has(file, "B", "2") &&
+                !is_there(journal)
+              : has(file, "A", "1") && has(file, "B", NULL) &&
+                is_there(journal));
+    }
+    f = open_writer(NULL);
+    holds("the next writer finishes it", f != NULL && bhtf_file_recovered(f) &&
+          !is_there(journal) && put(f, "B", "2") == 0);
+    bhtf_file_close(f);
 }
 
 /* A marked journal beside another file. */
@@ -430,6 +470,7 @@ int main(int argc, char **argv)
     try_locks();
     try_names();
     try_unfinished();
+    try_failing();
     try_foreign();
     try_damaged();
     try_large();
