@@ -96,10 +96,12 @@ def forge(kind, old, new):
         pairs[-1] = (length - pairs[-1][1] + 1, pairs[-1][1])
     elif kind == "far":          # offset and length wrap around together
         pairs[-1] = (0xFFFFFFFF, pairs[-1][1])
-    elif kind == "order":        # two pairs in the wrong order
+    elif kind == "order":        # two pairs, and their bytes, in the wrong order
         pairs[0], pairs[1] = pairs[1], pairs[0]
-    elif kind == "overlap":      # the second begins in the first
-        pairs = [(pairs[0][0], len(data) - 1), (pairs[0][0], 1)]
+        data = stretches(pairs, new)
+    elif kind == "overlap":      # the second begins in the first; the bytes are right
+        pairs.insert(1, pairs[0])
+        data = stretches(pairs, new)
     elif kind == "more":         # a pair more than there are
         return record(length, before, after, pairs, data, len(pairs) + 1)
     elif kind == "many":         # more pairs than any record has bytes

@@ -38,8 +38,9 @@ bhtf add tuesday CP-3 ''
 gives "delta" 0 '' sh -c 'bhtf delta monday tuesday >step'
 delta_py make monday tuesday >made
 holds "is what the document says, byte by byte" cmp made step
+hex() { od -An -v -tx1 -j "$2" -N "$3" "$1" | tr -d ' \n'; } # FILE PLACE BYTES
 sum_of() { sha256sum "$1" | cut -c 1-64; }
-same "its check sums are those of sha256sum" "$(sum_of monday)$(sum_of tuesday)" "$(xxd -s 16 -l 64 -p -c 64 step)"
+same "its check sums are those of sha256sum" "$(sum_of monday)$(sum_of tuesday)" "$(hex step 16 64)"
 delta_py apply monday step >became
 holds "and another program makes the new file of the old one" cmp became tuesday
 cp monday copy
@@ -60,8 +61,8 @@ bhtf create example --key-size 8 --slots 64 --size 16384
 cp example example2
 bhtf add example2 a first
 bhtf delta example example2 >step1
-same "the example of the document" "179 6 0000001700000001 0000003700000005 0000097400000001 0000097e00000001 0000100000000001 0000100300000006 010900000000611061056669727374 31a82d4e" \
-  "$(delta_py walk step1 | cut -d ' ' -f 1-2) $(xxd -s 84 -l 48 -p -c 8 step1 | tr '\n' ' ')$(xxd -s 132 -l 15 -p step1) $(tail -c 4 step1 | xxd -p)"
+same "the example of the document" "179 6 0000001700000001000000370000000500000974000000010000097e0000000100001000000000010000100300000006 010900000000611061056669727374 31a82d4e" \
+  "$(delta_py walk step1 | cut -d ' ' -f 1-2) $(hex step1 84 48) $(hex step1 132 15) $(hex step1 175 4)"
 # Every second byte of the texts: the pairs would be longer than the image.
 bhtf create stripes --key-size 4 --slots 4 --size 8192
 cp stripes stripes2
@@ -106,6 +107,10 @@ refused "one that was lost in front" 1 'record 1 of step2 does not go on from he
 gives "and is told in a dry run" 1 'Send the missing ones first' bhtf apply copy step2 -n
 refused "out of order" 1 'record 2 of standard input does not go on' sh -c 'cat step2 step | bhtf apply copy'
 refused "one missing between" 1 'record 2 of standard input' sh -c 'bhtf delta wednesday monday | cat step - | bhtf apply copy'
+cp wednesday thursday
+bhtf add thursday CP-5 'still more'
+bhtf delta wednesday thursday >step3
+refused "a later one in front of one that the copy has" 1 'record 2 of' sh -c 'cat step3 still | bhtf apply copy'
 refused "something behind the record" 2 'record 2: this is no delta' sh -c '(cat step; echo) | bhtf apply copy'
 refused "a good one in front of a damaged one" 2 'record 2: .*damaged' sh -c '(cat step; head -c 150 step2) | bhtf apply copy'
 refused "good ones in front of one that is missing" 1 'record 2 of' sh -c 'cat step still | bhtf apply copy'
