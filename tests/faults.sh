@@ -606,14 +606,14 @@ fault "shared bytes behind 2 MiB are passed over" \
 
 # The list of what changed.
 fault "runs with a byte between them are one pair" \
-    'size_t end = run_end(old, new, at, length);' \
-    'size_t end = run_end(old, new, at, length); if (length - end > 1 && old[end + 1] != new[end + 1]) end = run_end(old, new, end + 1, length);'
+    'to = write_pair(to, at, end - at);' \
+    'if (length - end > 1 && old[end + 1] != new[end + 1]) end = run_end(old, new, end + 1, length); to = write_pair(to, at, end - at);'
 fault "a run cut short" \
     'to = write_pair(to, at, end - at);' \
     'to = write_pair(to, at, end - at - (end - at > 4));'
 fault "a run is two pairs where a page begins" \
-    'size_t end = run_end(old, new, at, length);' \
-    'size_t end = run_end(old, new, at, length); if (end / PAGE > at / PAGE) end = (at / PAGE + 1) * PAGE;'
+    'to = write_pair(to, at, end - at);' \
+    'if (end / PAGE > at / PAGE) end = (at / PAGE + 1) * PAGE; to = write_pair(to, at, end - at);'
 fault "a byte that kept its value is listed, behind a run" \
     'to = write_pair(to, at, end - at);' \
     'to = write_pair(to, at, end - at + (end < length));'

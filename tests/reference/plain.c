@@ -1066,11 +1066,11 @@ static void write_back(uint8_t *image, const uint8_t *journal)
 
 /* Question 16; then the working slice is a copy on which the call is made. */
 static uint32_t begin_journaled(const uint8_t *image, size_t image_len,
-                                uint8_t *work, size_t work_len)
+                                uint8_t *fresh, size_t work_len)
 {
     if (work_len < image_len)
         return 16;
-    copy(work, image, image_len);
+    copy(fresh, image, image_len);
     return ACCEPTED;
 }
 
