@@ -228,17 +228,18 @@ run_check() {
 }
 [ "$self" = 1 ] || [ "$quick" = 1 ] || run_check
 
-# Compaction: answers and images are compared, ratios only shown.
-run_compact() {
-  local out=$bin/compact.txt
-  if "${pin[@]}" "$bin/compact" "$([ "$quick" = 1 ] && echo 1 || echo 7)" 65536 >"$out"; then
+# compared PROGRAM SAMPLES..: a program that compares answers and images by itself; its ratios are only shown
+compared() {
+  local out=$bin/$1.txt
+  if "${pin[@]}" "$bin/$1" "${@:2}" >"$out"; then
     passed=$((passed + 1))
   else
-    fail "compaction: an answer or an image differs"
+    fail "$1: an answer or an image differs"
   fi
   sed '$d' "$out"
 }
-run_compact
+compared compact "$([ "$quick" = 1 ] && echo 1 || echo 7)" 65536
+[ "$self" = 1 ] || compared listed "$([ "$quick" = 1 ] && echo 1 || echo 15)"
 
 # How many slots lookups read, by load: counted, so that one run is enough.
 slots_key=16 slots_tables=$([ "$quick" = 1 ] && echo 2 || echo 20)
