@@ -184,6 +184,11 @@ copies
 holds "calls that list what they change: builds" builds
 holds "calls that list what they change: cut" runs 13 4
 
+copies
+sed -i 's/^#ifdef O_TMPFILE/#ifdef NO_TMPFILE/' "$work/copy/layer_create.c"
+holds "a new file under a temporary name: builds" builds
+holds "a new file under a temporary name: cut" runs 0 4
+
 # fault NAME FILE OLD NEW SCENES: the cuts of a layer with OLD made NEW, which must stand there once, are not all passed
 fault() {
   copies
