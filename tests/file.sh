@@ -83,6 +83,7 @@ holds "the programs build" make -C tests/file OUT="$work/programs" LIB="$lib" LD
 mkdir "$work/layer" "$work/cuts" "$work/busy"
 counted "the layer's calls" "$work/programs/layer" "$work/layer"
 counted "two writers and six readers" "$work/programs/busy" "$seconds" "$work/busy/site"
+counted "and writers that are killed" "$work/programs/busy" "$seconds" "$work/busy/site2" kill
 counted "cuts" "$work/programs/cuts" --seed "$seed" --random "$random" --states "$states" --command "$work/host/bhtf" "$work/cuts"
 
 # ---- as others use it ----
