@@ -32,7 +32,8 @@ row() {
   local layer tdb lmdb
   layer=$(of "$2" "file layer") tdb=$(of "$2" tdb) lmdb=$(of "$2" LMDB)
   awk -v words="$1" -v a="$layer" -v b="$tdb" -v c="$lmdb" \
-    'BEGIN { printf "| %s | %.4g | %.4g | %.4g | %.2f | %.2f |\n", words, a, b, c, a / b, a / c }'
+    'function say(t) { return sprintf(t < 100 ? "%.1f" : "%.0f", t) }
+    BEGIN { printf "| %s | %s | %s | %s | %.2f | %.2f |\n", words, say(a), say(b), say(c), a / b, a / c }'
 }
 {
   cat bench/files-head.md

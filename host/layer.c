@@ -28,7 +28,7 @@
 #ifndef COMPARED_BYTES /* tests set another */
 #define COMPARED_BYTES (1u << 22)
 #endif
-#define LISTED_CALLS 16
+#define LISTED_CALLS 256
 
 /* Runs that so few equal bytes part are one: a pair takes as much. */
 #define GAP 8u
@@ -492,17 +492,26 @@ static int put_page(bhtf_file *f, size_t start, size_t end)
     return 0;
 }
 
+/* The first page from this one on that may have changed, or one behind all;
+ * passes over eight at a time. */
+static size_t next_touched(const bhtf_file *f, size_t page)
+{
+    while (page < pages_of(f) && !is_touched(f, page))
+        page = page % 8 == 0 && f->touched[page / 8] == 0 ? page + 8 : page + 1;
+    return page;
+}
+
 static uint32_t find_runs(bhtf_file *f)
 {
     f->run_count = 0;
     f->run_bytes = 0;
-    for (size_t page = 0; page < pages_of(f); page++) {
+    for (size_t page = next_touched(f, 0); page < pages_of(f);
+         page = next_touched(f, page + 1)) {
         size_t start = page * LAYER_PAGE;
         size_t left = f->length - start;
 
-        if (is_touched(f, page) &&
-            put_page(f, start, start + (left < LAYER_PAGE ? left : LAYER_PAGE))
-                != 0)
+        if (put_page(f, start,
+                     start + (left < LAYER_PAGE ? left : LAYER_PAGE)) != 0)
             return layer_fail(f, BHTF_FILE_SYSTEM, ENOMEM,
                               "nothing was changed");
     }

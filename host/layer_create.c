@@ -104,7 +104,10 @@ static mode_t usual_rights(void)
 static uint32_t open_new(struct layer_new *m)
 {
 #ifdef O_TMPFILE
-    m->fd = open(m->directory, O_TMPFILE | O_RDWR | O_CLOEXEC, 0666);
+    if (access("/proc/self/fd", X_OK) == 0) /* by which it gets its name */
+        m->fd = open(m->directory, O_TMPFILE | O_RDWR | O_CLOEXEC, 0666);
+    else
+        errno = EOPNOTSUPP;
     if (m->fd >= 0)
         return BHTF_ACCEPTED;
     if (errno == ENOENT || errno == ENOTDIR || errno == EACCES ||
@@ -155,12 +158,29 @@ static uint32_t flush_new(struct layer_new *m)
     return BHTF_ACCEPTED;
 }
 
+/* One name in place of another, if there is no file of that name; at no time
+ * does the file have both, where the system can do that. */
+static int rename_new(const struct layer_new *m)
+{
+#ifdef RENAME_NOREPLACE
+    if (renameat2(AT_FDCWD, m->temporary, AT_FDCWD, m->path,
+                  RENAME_NOREPLACE) == 0)
+        return 0;
+    if (errno != EINVAL && errno != ENOSYS)
+        return -1;
+#endif
+    if (link(m->temporary, m->path) != 0)
+        return -1;
+    unlink(m->temporary);
+    return 0;
+}
+
 static int link_new(const struct layer_new *m)
 {
     char name[64];
 
     if (m->temporary != NULL)
-        return link(m->temporary, m->path);
+        return rename_new(m);
     snprintf(name, sizeof name, "/proc/self/fd/%d", m->fd);
     return linkat(AT_FDCWD, name, AT_FDCWD, m->path, AT_SYMLINK_FOLLOW);
 }
@@ -171,8 +191,6 @@ static uint32_t name_it(struct layer_new *m)
 
     if (link_new(m) != 0)
         return errno == EEXIST ? is_there(m) : fail(m, "cannot create", errno);
-    if (m->temporary != NULL)
-        unlink(m->temporary);
     free(m->temporary);
     m->temporary = NULL;
     if (m->sync)

@@ -338,13 +338,6 @@ static uint32_t apply(bhtf_file *f, uint8_t *image, struct copy *c)
 
 /* ---- a reader ---- */
 
-static uint8_t *map_own(const bhtf_file *f, uint8_t *at)
-{
-    return mmap(at, f->length, PROT_READ | PROT_WRITE,
-                MAP_PRIVATE | MAP_NORESERVE | (at == NULL ? 0 : MAP_FIXED),
-                f->fd, 0);
-}
-
 /* Makes the image the reader's own copy, and finishes the change in it. */
 static uint32_t recover_own(bhtf_file *f, struct copy *c)
 {
@@ -353,7 +346,8 @@ static uint32_t recover_own(bhtf_file *f, struct copy *c)
 
     if (number != BHTF_ACCEPTED)
         return number;
-    own = map_own(f, NULL);
+    own = mmap(NULL, f->length, PROT_READ | PROT_WRITE,
+               MAP_PRIVATE | MAP_NORESERVE, f->fd, 0);
     if (own == MAP_FAILED)
         return layer_fail(f, BHTF_FILE_SYSTEM, errno, "cannot be mapped");
     munmap(f->image, f->length);

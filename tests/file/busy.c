@@ -1,8 +1,9 @@
-/* busy SECONDS FILE: two writers and six readers at once, each a process with
- * its own handle, on a new file. A writer replaces the texts of its ten points
- * by ones of the same letter in a batch, adds, deletes and compacts; a reader
- * must see texts of one letter alone, a sound file, and numbers that never go
- * back. Prints what each did; the last line is 'N passed, M failed'. */
+/* busy SECONDS FILE [kill]: two writers and six readers at once, each a process
+ * with its own handle, on a new file. A writer gives the texts of its ten points
+ * the next number in a batch, and compacts now and then; a reader must see one
+ * number in all ten, a sound file, and no number below what it saw before or
+ * what was acknowledged. With kill the writers are killed and started again all
+ * the time. Prints what each did; the last line is 'N passed, M failed'. */
 #define _GNU_SOURCE
 
 #include "../../host/bhtf_file.h"
@@ -20,6 +21,7 @@ enum { WRITERS = 2, READERS = 6, POINTS = 10, KEY = 8, SIZE = 262144 };
 
 struct board {
     volatile unsigned long rounds[WRITERS + READERS];
+    volatile long acknowledged[WRITERS];
     volatile int end;
 };
 
@@ -62,22 +64,32 @@ static int change(bhtf_file *f, int writer, unsigned long round)
     return bhtf_file_commit(f) == 0 ? 0 : -1;
 }
 
+static long told(const uint8_t *image, size_t length, int writer);
+
 static int write_on(int writer)
 {
     const struct bhtf_file_how how = { BHTF_FILE_WRITE, 30000, NULL, NULL };
 
-    for (unsigned long round = 1; !board->end;) {
+    while (!board->end) {
         struct bhtf_file_error why;
         bhtf_file *f = bhtf_file_open(path, &how, &why);
+        const uint8_t *image;
+        size_t length;
+        long round;
 
         if (f == NULL)
             return fail("writer", writer, why.words);
-        for (int i = 0; i < 5 && !board->end; i++, round++) {
-            if (change(f, writer, round) != 0) {
+        image = bhtf_file_image(f, &length);
+        round = told(image, length, writer);
+        if (round < board->acknowledged[writer])
+            return fail("writer", writer, "what was acknowledged is gone");
+        for (int i = 0; i < 5 && !board->end; i++) {
+            if (change(f, writer, (unsigned long)++round) != 0) {
                 fail("writer", writer, bhtf_file_error(f)->words);
                 bhtf_file_close(f);
                 return 1;
             }
+            board->acknowledged[writer] = round;
             board->rounds[writer]++;
         }
         if (bhtf_file_close(f) != 0)
@@ -137,6 +149,9 @@ static int read_on(int reader)
         board->rounds[WRITERS + reader]++;
         bhtf_file_pause(f);
         usleep(200);
+        for (int w = 0; w < WRITERS; w++)
+            if (last[w] < board->acknowledged[w])
+                last[w] = board->acknowledged[w];
         if (bhtf_file_refresh(f) != 0)
             return fail("reader", reader, bhtf_file_error(f)->words);
     }
@@ -164,23 +179,64 @@ static int make_file(void)
     return number == 0 ? 0 : -1;
 }
 
+static pid_t start(int i)
+{
+    pid_t child;
+
+    fflush(stdout);
+    child = fork();
+    if (child == 0)
+        _exit(i < WRITERS ? write_on(i) : read_on(i - WRITERS));
+    return child;
+}
+
+/* Kills writers and starts them again, until the time is over. */
+static unsigned long kill_writers(pid_t *writers, int seconds)
+{
+    time_t end = time(NULL) + seconds;
+    unsigned long kills = 0;
+    int status;
+
+    while (time(NULL) < end) {
+        int w = rand() % WRITERS;
+
+        usleep((useconds_t)(rand() % 15000 + 500));
+        kill(writers[w], SIGKILL);
+        if (waitpid(writers[w], &status, 0) != writers[w] ||
+            !WIFSIGNALED(status))
+            return 0;
+        writers[w] = start(w);
+        kills++;
+    }
+    return kills;
+}
+
 int main(int argc, char **argv)
 {
     int status, bad = 0, starved = 0;
     struct timespec pause = { 0, 0 };
+    pid_t writers[WRITERS];
 
-    if (argc != 3)
+    if (argc < 3)
         return 2;
     path = argv[2];
     board = mmap(NULL, sizeof *board, PROT_READ | PROT_WRITE,
                  MAP_SHARED | MAP_ANONYMOUS, -1, 0);
     if (board == MAP_FAILED || make_file() != 0)
         return 2;
-    for (int i = 0; i < WRITERS + READERS; i++)
-        if (fork() == 0)
-            _exit(i < WRITERS ? write_on(i) : read_on(i - WRITERS));
+    for (int i = 0; i < WRITERS; i++)
+        writers[i] = start(i);
+    for (int i = WRITERS; i < WRITERS + READERS; i++)
+        start(i);
     pause.tv_sec = atoi(argv[1]);
-    nanosleep(&pause, NULL);
+    if (argc == 3) {
+        nanosleep(&pause, NULL);
+    } else {
+        unsigned long kills = kill_writers(writers, atoi(argv[1]));
+
+        printf("  %lu times killed\n", kills);
+        bad += kills < 10;
+    }
     board->end = 1;
     while (wait(&status) > 0)
         bad += !(WIFEXITED(status) && WEXITSTATUS(status) == 0);

@@ -104,7 +104,7 @@ int fdatasync(int fd)
 }
 
 /* The child's point X is stored, and the mark is there. */
-static int leave_unfinished(void)
+static int leave_unfinished_text(const char *text)
 {
     int status = 0;
     pid_t child;
@@ -116,11 +116,16 @@ static int leave_unfinished(void)
 
         armed = 1;
         if (f != NULL)
-            put(f, "X", "unfinished");
+            put(f, "X", text);
         _exit(8);
     }
     waitpid(child, &status, 0);
     return WIFEXITED(status) && WEXITSTATUS(status) == 7;
+}
+
+static int leave_unfinished(void)
+{
+    return leave_unfinished_text("unfinished");
 }
 
 static void copy_file(const char *from, const char *to)
@@ -266,6 +271,23 @@ static void flip(const char *path, off_t at)
     if (pwrite(fd, &byte, 1, at) != 1)
         exit(2);
     close(fd);
+}
+
+/* A journal whose length did not reach the disk before the power failed: its
+ * last byte is one of the content, and looks like a mark. */
+static void try_short(void)
+{
+    char text[6001];
+
+    memset(text, 0xA5, sizeof text);
+    text[6000] = '\0';
+    make_fresh();
+    copy_file(file, other);
+    holds("a long text, unfinished", leave_unfinished_text(text));
+    copy_file(other, file);
+    holds("cut short where it looks marked", truncate(journal, 9192) == 0 &&
+          has(file, "X", NULL));
+    unlink(journal);
 }
 
 static void try_damaged(void)
@@ -472,6 +494,7 @@ int main(int argc, char **argv)
     try_unfinished();
     try_failing();
     try_foreign();
+    try_short();
     try_damaged();
     try_large();
     printf("%d passed, %d failed\n", passed, failed);
