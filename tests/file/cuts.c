@@ -723,11 +723,13 @@ static void try_command(const char *name, char *const *words, int absent)
 
 static void try_commands(void)
 {
-    char path[700], csv[700];
+    char path[700], csv[700], records[700];
     FILE *f;
 
     snprintf(path, sizeof path, "%s/site", cut_place);
     snprintf(csv, sizeof csv, "%s/points.csv", work);
+    snprintf(records, sizeof records, "%s/records", work);
+    unlink(records);
     f = fopen(csv, "w");
     must(f != NULL, "a CSV file");
     for (int i = 50; i < 60; i++)
@@ -738,6 +740,10 @@ static void try_commands(void)
                 WORDS("add", path, "K03", "another text", "--replace"), 0);
     try_command("add --append",
                 WORDS("add", path, "K03", " and more", "--append"), 0);
+    /* What a cut left in the records is of a change that the file, set back
+     * each time, does not have. */
+    try_command("add --delta",
+                WORDS("add", path, "K50", "a text", "--delta", records), 0);
     try_command("withdraw", WORDS("withdraw", path, "K04"), 0);
     try_command("delete", WORDS("delete", path, "K06"), 0);
     try_command("compact", WORDS("compact", path), 0);
