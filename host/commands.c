@@ -114,6 +114,21 @@ int copy_accepted(struct buffer *copy, const struct options *o,
     return number == BHTF_ACCEPTED ? DONE : refuse(o->word[0], number);
 }
 
+struct manner to_change(const struct options *o)
+{
+    const struct manner how = { 1, (unsigned)o->wait,
+                                !(o->given & OPTION_NO_SYNC) };
+
+    return how;
+}
+
+static struct manner to_read(const struct options *o)
+{
+    const struct manner how = { 0, (unsigned)o->wait, 1 };
+
+    return how;
+}
+
 /* Opens a file and makes a key of the second word: DONE, or the status after
  * a complaint; the file is then closed again. */
 static int open_for_point(struct image *i, struct buffer *key,
@@ -124,7 +139,7 @@ static int open_for_point(struct image *i, struct buffer *key,
     uint32_t number;
     int status = DONE;
 
-    if (image_open(i, o->word[0], writing, (unsigned)o->wait) != 0)
+    if (image_open(i, o->word[0], writing ? to_change(o) : to_read(o)) != 0)
         return TROUBLE;
     number = ask_header(i->bytes, i->length, key_size);
     if (number != BHTF_ACCEPTED)
@@ -132,7 +147,7 @@ static int open_for_point(struct image *i, struct buffer *key,
     else if (key_from(key, (const uint8_t *)name, strlen(name), *key_size) != 0)
         status = out_of_memory();
     if (status != DONE)
-        image_close(i);
+        image_drop(i);
     return status;
 }
 
@@ -201,20 +216,18 @@ int run_create(const struct options *o)
         return TROUBLE;
     if (!size_fits(size))
         return refuse(o->word[0], BHTF_BAD_LENGTH);
-    if (image_create(&i, o->word[0], (size_t)size) != 0)
+    if (image_create(&i, o->word[0], (size_t)size,
+                     !(o->given & OPTION_NO_SYNC)) != 0)
         return TROUBLE;
     number = bhtf_create(i.bytes, i.length, (uint32_t)key_size,
                          (uint32_t)o->slots, (uint32_t)o->seed);
     if (number != BHTF_ACCEPTED) {
-        image_discard(&i);
+        image_drop(&i);
         return refuse_create(o->word[0], number, key_size, o->slots);
     }
     if (o->format != NULL)
         write_version(i.bytes, format);
-    if (image_close(&i) == 0)
-        return DONE;
-    image_forget(&i);
-    return TROUBLE;
+    return image_close(&i) == 0 ? DONE : TROUBLE;
 }
 
 /* ---- add ---- */
@@ -287,7 +300,7 @@ static int change_text(const struct options *o, const struct piece *text,
     int status = open_for_change(&i, &f, &key, o, &key_size);
 
     if (status == DONE) {
-        const struct target to = { i.bytes, i.length };
+        const struct target to = { i.bytes, i.length, i.file };
         uint8_t before = header_read(i.bytes).version[2], now;
         struct answer a = { 0, 0, 0 };
 
@@ -347,9 +360,11 @@ int run_delete(const struct options *o)
 
     if (status == DONE) {
         struct answer a = { 0, 0, 0 };
+        uint32_t offset, length;
 
-        a.number = bhtf_delete_slots(i.bytes, i.length, key.bytes, key.length,
-                                     &a.slots_read);
+        bhtf_lookup_slots(i.bytes, i.length, key.bytes, key.length, &offset,
+                          &length, &a.slots_read);
+        a.number = bhtf_file_delete(i.file, key.bytes, key.length);
         status = close_point(&i, &f, o, &a, key_size);
     }
     buffer_free(&key);
@@ -393,7 +408,7 @@ int run_get(const struct options *o)
         if (status == DONE)
             status = close_point(&i, NULL, o, &a, key_size);
         else
-            image_close(&i);
+            image_drop(&i);
     }
     if (status == DONE)
         status = offset == 0 ? no_text(o, o->word[1]) : print_text(&text, o);
@@ -409,10 +424,10 @@ int run_count(const struct options *o)
     struct image i;
     uint32_t number, count;
 
-    if (image_open(&i, o->word[0], 0, (unsigned)o->wait) != 0)
+    if (image_open(&i, o->word[0], to_read(o)) != 0)
         return TROUBLE;
     number = bhtf_count(i.bytes, i.length, &count);
-    image_close(&i);
+    image_drop(&i);
     if (number != BHTF_ACCEPTED)
         return refuse(o->word[0], number);
     printf("%lu\n", (unsigned long)count);

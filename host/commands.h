@@ -32,6 +32,8 @@
 #define OPTION_NO_TEXT OPTION(19)
 #define OPTION_FORMAT OPTION(20)
 #define OPTION_DELTA OPTION(21)
+#define OPTION_NO_SYNC OPTION(22)
+#define OPTION_KEEP_GOING OPTION(23)
 #define OPTION_AGAINST OPTION(32)
 #define OPTION_PAPER OPTION(33)
 #define OPTION_STATION OPTION(34)
@@ -141,6 +143,9 @@ void say_slots(const struct options *o, const char *name, uint32_t slots_read);
  * name stays longer, and the library refuses it. 0, or -1 for no memory. */
 int key_from(struct buffer *key, const uint8_t *typed, size_t length,
              uint32_t key_size);
+
+/* How the command line wants its file opened to be changed. */
+struct manner to_change(const struct options *o);
 
 /* Asks questions 1, 5 and 6 and reads the key size. Answers the number. */
 uint32_t ask_header(const uint8_t *bytes, size_t length, uint32_t *key_size);

@@ -12,11 +12,14 @@ struct spaces {
     uint32_t after;
 };
 
-/* One call on an accepted image: the library's number. */
-static uint32_t compact(uint8_t *image, size_t length, struct spaces *s)
+/* One call on an accepted image, of a file or (NULL) of none: the library's
+ * number. */
+static uint32_t compact(bhtf_file *file, uint8_t *image, size_t length,
+                        struct spaces *s)
 {
     const struct header before = header_read(image);
-    uint32_t number = bhtf_compact(image, length);
+    uint32_t number = file == NULL ? bhtf_compact(image, length)
+                                   : bhtf_file_compact(file);
 
     s->room = length - before.data;
     s->before = before.next - before.data;
@@ -55,7 +58,7 @@ static int try_compact(const struct options *o)
     int status = copy_accepted(&copy, o, &key_size);
 
     if (status == DONE) {
-        uint32_t number = compact(copy.bytes, copy.length, &s);
+        uint32_t number = compact(NULL, copy.bytes, copy.length, &s);
 
         status = number == BHTF_ACCEPTED ? report(o, &s)
                                          : refuse_unsound(o, &copy, number);
@@ -86,13 +89,13 @@ int run_compact(const struct options *o)
 
     if (o->given & OPTION_DRY_RUN)
         return try_compact(o);
-    if (image_open(&i, o->word[0], 1, (unsigned)o->wait) != 0)
+    if (image_open(&i, o->word[0], to_change(o)) != 0)
         return TROUBLE;
     number = ask_header(i.bytes, i.length, &key_size);
     if (follow_begin(&f, &i, number == BHTF_ACCEPTED ? o->delta : NULL) != 0)
         return TROUBLE;
     if (number == BHTF_ACCEPTED)
-        number = compact(i.bytes, i.length, &s);
+        number = compact(i.file, i.bytes, i.length, &s);
     if (follow_close(&f, &i) != 0)
         return TROUBLE;
     return number == BHTF_ACCEPTED ? report(o, &s) : explain(o, number);

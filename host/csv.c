@@ -1,6 +1,8 @@
 /* Records of fields between delimiters, as RFC 4180 has them. */
 #include "csv.h"
 
+#include "progress.h"
+
 #include <string.h>
 
 /* ---- bytes in ---- */
@@ -71,6 +73,8 @@ static enum csv_answer read_line(struct csv *c)
     int byte = 0;
 
     while (byte != '\n' && (byte = getc(c->file)) != EOF) {
+        if (interrupted)
+            return CSV_NO_INPUT;
         if (c->head.length >= RECORD_MAX)
             return CSV_TOO_LONG;
         if (buffer_put_byte(&c->head, (uint8_t)byte) != 0)
@@ -154,6 +158,8 @@ void csv_free(struct csv *c)
 
 static enum csv_answer put(struct record *r, int byte)
 {
+    if (interrupted)
+        return CSV_NO_INPUT;
     if (r->bytes.length >= RECORD_MAX)
         return CSV_TOO_LONG;
     if (r->fields >= FIELDS_MAX)

@@ -18,12 +18,11 @@ static int fail(const struct follow *f, const char *what)
 
 /* ---- the file of records ---- */
 
-/* A lock on a file is lost when the process closes the file anywhere. */
 static int is_image(const struct follow *f, const struct image *i)
 {
     struct stat a, b;
 
-    if (stat(f->path, &a) != 0 || fstat(i->fd, &b) != 0 ||
+    if (stat(f->path, &a) != 0 || stat(i->path, &b) != 0 ||
         a.st_dev != b.st_dev || a.st_ino != b.st_ino)
         return 0;
     complain("%s: is the file itself; --delta needs another", f->path);
@@ -88,8 +87,20 @@ static off_t find_last(const struct follow *f)
     return last;
 }
 
+/* A record that was written by a command that was ended before its change was
+ * made: nothing leads to it. */
+static int drop_last(struct follow *f, off_t last)
+{
+    if (ftruncate(fileno(f->file), last) != 0)
+        return fail(f, "cannot be written to");
+    f->end = last;
+    complain("%s: warning: its last record was of a change that was cut short, "
+             "and is taken away", f->path);
+    return 0;
+}
+
 /* A change goes on where the last record ends. */
-static int ask_last(const struct follow *f, const struct image *i,
+static int ask_last(struct follow *f, const struct image *i,
                     struct buffer *bytes)
 {
     off_t last = find_last(f);
@@ -102,13 +113,15 @@ static int ask_last(const struct follow *f, const struct image *i,
         return fail(f, "cannot be read");
     if (delta_read(&d, bytes->bytes, bytes->length) != DELTA_RECORD)
         return refuse_records(f, i, "its last record is damaged");
-    if (memcmp(d.after, f->before.sum, SHA256_SIZE) != 0)
+    if (memcmp(d.after, f->before.sum, SHA256_SIZE) == 0)
+        return 0;
+    if (memcmp(d.before, f->before.sum, SHA256_SIZE) != 0)
         return refuse_records(f, i, "its last record leads to another file, or "
                                     "there was a change without --delta since");
-    return 0;
+    return drop_last(f, last);
 }
 
-static int ask_records(const struct follow *f, const struct image *i)
+static int ask_records(struct follow *f, const struct image *i)
 {
     struct buffer bytes = { NULL, 0, 0 };
     int done = f->end == 0 ? 0 : ask_last(f, i, &bytes);
@@ -145,19 +158,15 @@ static int copy_before(struct follow *f, const struct image *i)
 
 int follow_begin(struct follow *f, struct image *i, const char *path)
 {
-    int held = i->held;
-
     memset(f, 0, sizeof *f);
     f->path = path;
     if (path == NULL)
         return 0;
-    image_pause(i);
     if (!is_image(f, i) && open_records(f) == 0 && learn_end(f) == 0 &&
-        copy_before(f, i) == 0 && ask_records(f, i) == 0 &&
-        (!held || image_resume(i) == 0))
+        copy_before(f, i) == 0 && ask_records(f, i) == 0)
         return 0;
     close_records(f);
-    image_close(i);
+    image_drop(i);
     return -1;
 }
 
@@ -199,19 +208,6 @@ static void take_record_back(struct follow *f)
         fail(f, "cannot be made as long as it was");
 }
 
-static void undo(struct follow *f, struct image *i)
-{
-    take_record_back(f);
-    if (!i->held && image_resume(i) != 0) {
-        complain("%s: what was changed stays, and stands in no record",
-                 i->path);
-        return;
-    }
-    memcpy(i->bytes, f->copy.bytes, i->length);
-    f->taken_back = 1;
-    complain("%s: is as it was", i->path);
-}
-
 static int put_on_disk(const struct follow *f)
 {
     int error = fsync(fileno(f->file)) == 0 ? 0 : errno;
@@ -225,27 +221,38 @@ static int put_on_disk(const struct follow *f)
 /* Of an image that did change. */
 static int close_changed(struct follow *f, struct image *i)
 {
-    int appended = append(f, i);
-
-    if (appended != 0)
-        undo(f, i);
+    if (append(f, i) != 0) {
+        take_record_back(f);
+        image_drop(i);
+        complain("%s: is as it was", i->path);
+        return -1;
+    }
     if (image_close(i) != 0) {
         take_record_back(f);
         return -1;
     }
-    return appended == 0 ? put_on_disk(f) : -1;
+    f->committed = 1;
+    return i->sync ? put_on_disk(f) : 0;
 }
 
 int follow_close(struct follow *f, struct image *i)
 {
     int done;
 
-    if (f == NULL || f->path == NULL)
+    if (f == NULL)
         return image_close(i);
-    if (memcmp(f->copy.bytes, i->bytes, i->length) == 0)
-        done = image_close(i);
-    else
+    if (f->path != NULL && memcmp(f->copy.bytes, i->bytes, i->length) != 0) {
         done = close_changed(f, i);
+    } else {
+        done = image_close(i);
+        f->committed = done == 0;
+    }
     close_records(f);
     return done;
+}
+
+void follow_drop(struct follow *f, struct image *i)
+{
+    close_records(f);
+    image_drop(i);
 }

@@ -14,13 +14,13 @@ struct follow {
     off_t end;            /* its length before */
     struct buffer copy;   /* the image before the change */
     struct state before;  /* of that copy */
-    int taken_back;       /* for want of a record the change was undone */
+    int committed;        /* the change is in the file */
 };
 
 /* What answers an int answers 0, or -1 after a complaint. */
 
-/* Before a change of an image that is open to be changed; readers are let in
- * while it is copied. `path` may be NULL. A FILE whose last record leads to
+/* Before a change of an image that is open to be changed. `path` may be NULL.
+ * A FILE whose last record leads to
  * another image is refused: no copy could go on from there. On -1 the image is
  * closed. */
 int follow_begin(struct follow *f, struct image *i, const char *path);
@@ -29,5 +29,8 @@ int follow_begin(struct follow *f, struct image *i, const char *path);
  * one cannot be written the image becomes again what it was. `f` may be
  * NULL. */
 int follow_close(struct follow *f, struct image *i);
+
+/* In place of image_drop. */
+void follow_drop(struct follow *f, struct image *i);
 
 #endif

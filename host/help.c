@@ -22,11 +22,15 @@
 #define DELTA \
     "      --delta FILE   append what changed to FILE, for bhtf apply\n"
 
+#define NO_SYNC \
+    "      --no-sync      do not wait for the disk: faster, and safe if the\n" \
+    "                     command is killed, but not if the power fails\n"
+
 #define QUIET "  -q, --quiet        say nothing but errors and warnings\n"
 
 static const struct command commands[] = {
     { "create", OPTION_KEY_SIZE | OPTION_SLOTS | OPTION_SEED | OPTION_SIZE |
-                OPTION_FORMAT, 1, 1, run_create,
+                OPTION_FORMAT | OPTION_NO_SYNC, 1, 1, run_create,
       "bhtf create FILE [--key-size K] [--slots N] [--seed S] [--size BYTES] "
       "..\n"
       "Makes an empty file. An existing file is never overwritten.\n"
@@ -41,10 +45,11 @@ static const struct command commands[] = {
       "                     {image}, also as 64K or 16M; unless given, the\n"
       "                     table and {slot_bytes} bytes a slot\n"
       "      --format V     1.0.2 unless given; 1.0.1 for a station that refuses\n"
-      "                     1.0.2 (5), until an empty text is stored\n" },
+      "                     1.0.2 (5), until an empty text is stored\n" NO_SYNC },
     { "add", OPTION_REPLACE | OPTION_APPEND | OPTION_EASTING |
              OPTION_NORTHING | OPTION_HEIGHT | OPTION_NOTE |
-             OPTION_NO_TEXT | OPTION_SLOTS_READ | OPTION_DELTA, 2, 3, run_add,
+             OPTION_NO_TEXT | OPTION_SLOTS_READ | OPTION_DELTA |
+             OPTION_NO_SYNC, 2, 3, run_add,
       "bhtf add FILE NAME [TEXT] [--replace | --append] [--slots] ..\n"
       "bhtf add FILE NAME --easting E --northing N [--height H] [--note TEXT]\n"
       "bhtf add FILE NAME --no-text\n"
@@ -60,15 +65,17 @@ static const struct command commands[] = {
       "A point that is already there is refused, but for\n"
       "  -r, --replace      put the text in place of its own\n"
       "  -a, --append       put the text behind its own\n"
-      SLOTS_READ DELTA QUIET WAITING NAMES },
-    { "withdraw", OPTION_SLOTS_READ | OPTION_DELTA, 2, 2, run_withdraw,
+      SLOTS_READ DELTA NO_SYNC QUIET WAITING NAMES },
+    { "withdraw", OPTION_SLOTS_READ | OPTION_DELTA | OPTION_NO_SYNC, 2, 2,
+      run_withdraw,
       "bhtf withdraw FILE NAME [--slots] [--delta FILE]\n"
       "Takes a point's text away; the point stays, without a text.\n"
-      SLOTS_READ DELTA WAITING NAMES },
-    { "delete", OPTION_SLOTS_READ | OPTION_DELTA, 2, 2, run_delete,
+      SLOTS_READ DELTA NO_SYNC WAITING NAMES },
+    { "delete", OPTION_SLOTS_READ | OPTION_DELTA | OPTION_NO_SYNC, 2, 2,
+      run_delete,
       "bhtf delete FILE NAME [--slots] [--delta FILE]\n"
       "Takes a point out.\n"
-      SLOTS_READ DELTA WAITING NAMES },
+      SLOTS_READ DELTA NO_SYNC WAITING NAMES },
     { "get", OPTION_TSV | OPTION_JSON | OPTION_SLOTS_READ, 2, ANY_NUMBER,
       run_get,
       "bhtf get FILE NAME.. [--tsv | --json] [--slots]\n"
@@ -114,7 +121,8 @@ static const struct command commands[] = {
       "where,\n"
       "which two points share bytes, and what to do about that.\n"
       QUIET WAITING },
-    { "compact", OPTION_DRY_RUN | OPTION_DELTA, 1, 1, run_compact,
+    { "compact", OPTION_DRY_RUN | OPTION_DELTA | OPTION_NO_SYNC, 1, 1,
+      run_compact,
       "bhtf compact FILE [--dry-run] [--delta FILE]\n"
       "Gives the bytes of texts that were replaced, withdrawn or deleted back, "
       "and\n"
@@ -122,7 +130,7 @@ static const struct command commands[] = {
       "as\n"
       "it is, with the words of check and status 1.\n"
       "  -n, --dry-run      change nothing; say what would be\n"
-      DELTA QUIET WAITING },
+      DELTA NO_SYNC QUIET WAITING },
     { "book", 0, 1, 1, run_book,
       "bhtf book FILE\n"
       "Prints the book that calls on a sound file start from: its terms, and "
@@ -142,17 +150,17 @@ static const struct command commands[] = {
     { "import", OPTION_REPLACE | OPTION_COLUMNS | OPTION_DELIMITER |
                 OPTION_DECIMAL | OPTION_SKIP | OPTION_ANY_TEXT |
                 OPTION_DRY_RUN | OPTION_GSI | OPTION_LANDXML |
-                OPTION_DELTA, 2, 2, run_import,
+                OPTION_DELTA | OPTION_NO_SYNC | OPTION_KEEP_GOING, 2, 2,
+      run_import,
       "bhtf import FILE CSV [--columns ORDER] [--replace] [--dry-run] ..\n"
       "Stores a point for each line of a CSV file; of standard input if CSV is "
       "-.\n"
       "A heading says which column is which: name, easting, northing, height,\n"
-      "note or the usual other words, in any order. Stops at the first line "
-      "that\n"
-      "is refused and says how many points were stored. A line of empty fields "
-      "is a\n"
-      "point without a text; yes in a column empty makes it one with an empty "
-      "text.\n"
+      "note or the usual other words, in any order. All of it is stored, or, "
+      "if a\n"
+      "line is refused, nothing. A line of empty fields is a point without a "
+      "text;\n"
+      "yes in a column empty makes it one with an empty text.\n"
       "  -c, --columns ORDER  the columns of a file without a heading: PNEZD,\n"
       "                     PENZD, or words as above, with commas between "
       "them;\n"
@@ -162,11 +170,12 @@ static const struct command commands[] = {
       "      --skip N       pass over the first N lines\n"
       "      --any-text     take coordinates that are not numbers\n"
       "  -r, --replace      replace points that are already there\n"
+      "      --keep-going   store the other lines if some are refused\n"
       "  -n, --dry-run      store nothing; say what would happen, and every\n"
       "                     line that would be refused\n"
       "      --gsi          CSV is a Leica GSI-16 file\n"
       "      --landxml      CSV is a LandXML file; its CgPoints are read\n"
-      DELTA QUIET WAITING NAMES },
+      DELTA NO_SYNC QUIET WAITING NAMES },
     { "export", OPTION_CRLF | OPTION_GSI | OPTION_LANDXML | OPTION_DXF, 1, 1,
       run_export,
       "bhtf export FILE [--crlf | --gsi | --landxml | --dxf]\n"
@@ -187,7 +196,7 @@ static const struct command commands[] = {
       "names. load makes an equal file of it.\n"
       QUIET WAITING },
     { "load", OPTION_KEY_SIZE | OPTION_SLOTS | OPTION_SEED | OPTION_SIZE |
-              OPTION_FORMAT, 1, 2, run_load,
+              OPTION_FORMAT | OPTION_NO_SYNC, 1, 2, run_load,
       "bhtf load FILE [DUMP] [--size BYTES] [--slots N] ..\n"
       "Makes a file of what dump printed; of standard input if DUMP is - or "
       "not\n"
@@ -200,14 +209,14 @@ static const struct command commands[] = {
       "      --format V     its version; 1.0.1 for a station that refuses 1.0.2 "
       "(5).\n"
       "                     An empty text then has no place\n"
-      QUIET },
+      NO_SYNC QUIET },
     { "delta", 0, 2, 2, run_delta,
       "bhtf delta OLD NEW > CHANGES\n"
       "Prints, for bhtf apply, what changed from OLD to NEW: a record of bytes, "
       "with\n"
       "check sums of both. Both files have the same length.\n"
       QUIET WAITING },
-    { "apply", OPTION_DRY_RUN, 1, 2, run_apply,
+    { "apply", OPTION_DRY_RUN | OPTION_NO_SYNC, 1, 2, run_apply,
       "bhtf apply COPY [CHANGES] [--dry-run]\n"
       "Makes of COPY what the office's file became: CHANGES, or standard input "
       "if\n"
@@ -219,7 +228,7 @@ static const struct command commands[] = {
       "COPY is\n"
       "then as it was.\n"
       "  -n, --dry-run      change nothing; say what would be\n"
-      QUIET WAITING },
+      NO_SYNC QUIET WAITING },
     { "diff", OPTION_TSV, 2, 2, run_diff,
       "bhtf diff OLD NEW [--tsv]\n"
       "Says point by point what became of OLD in NEW: new, gone, moved by how\n"

@@ -1,151 +1,12 @@
-/* A file as an image in memory: mapped, locked, its space allocated.
- *
- * Three stretches of the file are locked (fcntl), the later two behind any
- * byte that a file can have:
- *
- *   bytes    shared by readers; exclusive to a writer while it changes them
- *   gate     held by whoever waits for the bytes, in the same way: a waiting
- *            writer keeps new readers out, and a waiting reader has its turn
- *            before the writer's next change
- *   writer   exclusive to one writer from its opening to its closing
- *
- * An exclusive lock on the whole file, which other writers of these files
- * take, covers all three.
- */
+/* A file as an image in memory, over the library's file layer: a writer's
+ * changes are a batch, which closing commits. */
 #include "image.h"
 
 #include "bhtf.h"
+#include "layer.h"
 
-#include <errno.h>
-#include <fcntl.h>
 #include <string.h>
-#include <sys/mman.h>
-#include <sys/stat.h>
-#include <time.h>
 #include <unistd.h>
-
-/* ---- locks ---- */
-
-struct stretch {
-    off_t start;
-    off_t length; /* 0: without end */
-};
-
-static const struct stretch bytes_lock = { 0, 0x40000000 };
-static const struct stretch gate_lock = { 0x40000000, 1 };
-static const struct stretch writer_lock = { 0x40000001, 0 };
-
-static int ask_lock(int fd, int command, short type, struct stretch s,
-                    struct flock *lock)
-{
-    memset(lock, 0, sizeof *lock);
-    lock->l_type = type;
-    lock->l_whence = SEEK_SET;
-    lock->l_start = s.start;
-    lock->l_len = s.length;
-    return fcntl(fd, command, lock);
-}
-
-static int is_taken(int error)
-{
-    return error == EACCES || error == EAGAIN;
-}
-
-static void complain_of_holder(const struct image *i, short type,
-                               struct stretch s)
-{
-    struct flock lock;
-
-    if (ask_lock(i->fd, F_GETLK, type, s, &lock) == 0 &&
-        lock.l_type != F_UNLCK && lock.l_pid > 0)
-        complain("%s: still locked by process %ld (%s) after %u s", i->path,
-                 (long)lock.l_pid,
-                 lock.l_type == F_WRLCK ? "writing" : "reading", i->wait);
-    else
-        complain("%s: still locked by another process after %u s", i->path,
-                 i->wait);
-}
-
-static void sleep_a_millisecond(void)
-{
-    const struct timespec pause = { 0, 1000000 };
-
-    nanosleep(&pause, NULL);
-}
-
-/* Takes a lock, waiting for it until i->wait seconds have passed. */
-static int take(const struct image *i, short type, struct stretch s)
-{
-    struct timespec start, now;
-    struct flock lock;
-
-    clock_gettime(CLOCK_MONOTONIC, &start);
-    while (ask_lock(i->fd, F_SETLK, type, s, &lock) != 0) {
-        if (!is_taken(errno) && errno != EINTR) {
-            complain("%s: cannot lock: %s", i->path, strerror(errno));
-            return -1;
-        }
-        if (i->stop != NULL && *i->stop) {
-            complain("%s: interrupted while others had it locked", i->path);
-            return -1;
-        }
-        clock_gettime(CLOCK_MONOTONIC, &now);
-        if (now.tv_sec - start.tv_sec > (time_t)i->wait ||
-            (now.tv_sec - start.tv_sec == (time_t)i->wait &&
-             now.tv_nsec >= start.tv_nsec)) {
-            complain_of_holder(i, type, s);
-            return -1;
-        }
-        sleep_a_millisecond();
-    }
-    return 0;
-}
-
-static void give(const struct image *i, struct stretch s)
-{
-    struct flock lock;
-
-    ask_lock(i->fd, F_SETLK, F_UNLCK, s, &lock);
-}
-
-/* Ctrl-C and the like wait until a change is done. */
-static void hold_signals(sigset_t *before)
-{
-    sigset_t held;
-
-    sigemptyset(&held);
-    sigaddset(&held, SIGHUP);
-    sigaddset(&held, SIGINT);
-    sigaddset(&held, SIGTERM);
-    sigprocmask(SIG_BLOCK, &held, before);
-}
-
-static int take_bytes(struct image *i)
-{
-    short type = i->writing ? F_WRLCK : F_RDLCK;
-    int taken;
-
-    if (take(i, type, gate_lock) != 0)
-        return -1;
-    taken = take(i, type, bytes_lock);
-    give(i, gate_lock);
-    if (taken != 0)
-        return -1;
-    if (i->writing)
-        hold_signals(&i->before);
-    i->held = 1;
-    return 0;
-}
-
-static void give_bytes(struct image *i)
-{
-    if (!i->held)
-        return;
-    give(i, bytes_lock);
-    i->held = 0;
-    if (i->writing)
-        sigprocmask(SIG_SETMASK, &i->before, NULL);
-}
 
 /* ---- a file that is cut short while it is mapped ---- */
 
@@ -173,249 +34,157 @@ static void catch_bus_error(void)
 
 /* ---- opening ---- */
 
-static int fail(const struct image *i, const char *what, int error)
+static int is_stopped(void *with)
 {
-    complain("%s: %s: %s", i->path, what, strerror(error));
+    const struct image *i = with;
+
+    return i->stop != NULL && *i->stop;
+}
+
+static int fail(const struct bhtf_file_error *why)
+{
+    complain("%s", why->words);
     return -1;
 }
 
-static int open_file(struct image *i, int flags)
-{
-    i->fd = open(i->path, flags | O_CLOEXEC | O_NONBLOCK | O_NOCTTY, 0666);
-    if (i->fd >= 0)
-        return 0;
-    if (flags & O_CREAT && errno == EEXIST) {
-        complain("%s: there already is a file of that name; "
-                 "it is left as it was", i->path);
-        return -1;
-    }
-    return fail(i, flags & O_CREAT ? "cannot create" : "cannot open", errno);
-}
-
-static int learn_length(struct image *i)
-{
-    struct stat about;
-
-    if (fstat(i->fd, &about) != 0)
-        return fail(i, "cannot be examined", errno);
-    if (!S_ISREG(about.st_mode)) {
-        complain("%s: not a regular file", i->path);
-        return -1;
-    }
-    if ((uintmax_t)about.st_size > SIZE_MAX / 2)
-        return fail(i, "cannot be mapped", EFBIG);
-    i->length = (size_t)about.st_size;
-    return 0;
-}
-
-/* Every page that will be written gets its place on the disk now: a full disk
- * is then an error here and not a signal later. */
-static int allocate(const struct image *i)
-{
-    int error;
-
-    if (i->length == 0 || i->length > BHTF_IMAGE_MAX)
-        return 0;
-    do
-        error = posix_fallocate(i->fd, 0, (off_t)i->length);
-    while (error == EINTR);
-    return error == 0 ? 0 : fail(i, "cannot allocate its space", error);
-}
-
-/* An empty file cannot be mapped; the library refuses its length. */
-static int map(struct image *i)
-{
-    int access = i->writing ? PROT_READ | PROT_WRITE : PROT_READ;
-    void *bytes;
-
-    i->bytes = &i->none;
-    if (i->length == 0)
-        return 0;
-    bytes = mmap(NULL, i->length, access, MAP_SHARED, i->fd, 0);
-    if (bytes == MAP_FAILED)
-        return fail(i, "cannot be mapped", errno);
-    i->bytes = bytes;
-    i->mapped = 1;
-    return 0;
-}
-
-/* Does the path still lead to the open file? What is written to a file that
- * was removed or replaced while its lock was waited for would be lost. */
-static int ask_path(const struct image *i)
-{
-    struct stat ours, there;
-
-    if (fstat(i->fd, &ours) == 0 && stat(i->path, &there) == 0 &&
-        ours.st_dev == there.st_dev && ours.st_ino == there.st_ino)
-        return 0;
-    complain("%s: another program removed or replaced the file while it was "
-             "in use", i->path);
-    return -1;
-}
-
-static int open_locked(struct image *i)
-{
-    if (i->writing && take(i, F_WRLCK, writer_lock) != 0)
-        return -1;
-    if (take_bytes(i) != 0 || learn_length(i) != 0)
-        return -1;
-    if (i->writing && (ask_path(i) != 0 || allocate(i) != 0))
-        return -1;
-    return map(i);
-}
-
-static int release(struct image *i)
-{
-    int error = 0;
-
-    give_bytes(i);
-    if (i->mapped && munmap(i->bytes, i->length) != 0)
-        error = errno;
-    i->mapped = 0;
-    if (i->fd >= 0 && close(i->fd) != 0)
-        error = errno;
-    i->fd = -1;
-    return error;
-}
-
-static void clear(struct image *i, const char *path, int writing, unsigned wait)
+static void clear(struct image *i, const char *path)
 {
     memset(i, 0, sizeof *i);
     i->path = path;
-    i->fd = -1;
-    i->writing = writing;
-    i->wait = wait;
-}
-
-int image_open(struct image *i, const char *path, int writing, unsigned wait)
-{
-    clear(i, path, writing, wait);
     catch_bus_error();
-    if (open_file(i, writing ? O_RDWR : O_RDONLY) != 0)
-        return -1;
-    if (learn_length(i) == 0 && open_locked(i) == 0)
-        return 0;
-    release(i);
-    return -1;
 }
 
-static int create_file(struct image *i)
+static int take_bytes(struct image *i)
 {
-    if (open_file(i, O_RDWR | O_CREAT | O_EXCL) != 0)
-        return -1;
-    i->created = 1;
-    if (take(i, F_WRLCK, writer_lock) == 0 && take_bytes(i) == 0 &&
-        allocate(i) == 0 && map(i) == 0)
-        return 0;
-    image_discard(i);
-    return -1;
+    i->bytes = (uint8_t *)bhtf_file_image(i->file, &i->length);
+    if (i->writing && bhtf_file_begin(i->file) != BHTF_ACCEPTED)
+        return fail(bhtf_file_error(i->file));
+    return 0;
 }
 
-/* Signals are held from before the file is there, so that none of them can
- * leave half a file behind. */
-int image_create(struct image *i, const char *path, size_t length)
+uint8_t *image_writable(struct image *i)
 {
-    sigset_t before;
+    return bhtf_file_batch_image(i->file, &i->length);
+}
 
-    clear(i, path, 1, 0);
+/* One limit holds for opening and for the commit. */
+static void shorten_wait(bhtf_file *file, int64_t waited)
+{
+    file->how.wait = waited < file->how.wait
+        ? file->how.wait - (uint32_t)waited : 0;
+}
+
+int image_open(struct image *i, const char *path, struct manner how)
+{
+    struct bhtf_file_how manner = { 0, 0, is_stopped, NULL };
+    struct bhtf_file_error why;
+    int64_t start = layer_now();
+
+    clear(i, path);
+    i->writing = how.writing;
+    i->sync = how.sync;
+    manner.flags = (how.writing ? BHTF_FILE_WRITE : 0) |
+                   (how.sync ? 0 : BHTF_FILE_NO_SYNC);
+    manner.wait = how.wait * 1000u;
+    manner.with = i;
+    i->file = bhtf_file_open(path, &manner, &why);
+    if (i->file == NULL)
+        return fail(&why);
+    shorten_wait(i->file, layer_now() - start);
+    if (how.writing && bhtf_file_recovered(i->file))
+        complain("%s: a change that was cut short has been finished", path);
+    return take_bytes(i);
+}
+
+int image_create(struct image *i, const char *path, size_t length, int sync)
+{
+    clear(i, path);
+    i->writing = 1;
     i->length = length;
-    catch_bus_error();
-    hold_signals(&before);
-    if (create_file(i) == 0) {
-        i->before = before;
+    i->sync = sync;
+    i->created = layer_new_begin(path, length, sync, &i->why);
+    if (i->created == NULL)
+        return fail(&i->why);
+    i->bytes = layer_new_bytes(i->created);
+    return 0;
+}
+
+/* ---- closing ---- */
+
+static int name_new(struct image *i)
+{
+    struct layer_new *created = i->created;
+
+    i->created = NULL;
+    return layer_new_end(created) == BHTF_ACCEPTED ? 0 : fail(&i->why);
+}
+
+static int commit(const struct image *i)
+{
+    return bhtf_file_commit(i->file) == BHTF_ACCEPTED
+        ? 0 : fail(bhtf_file_error(i->file));
+}
+
+static int close_file(struct image *i)
+{
+    uint32_t number = bhtf_file_close(i->file);
+
+    i->file = NULL;
+    if (number == BHTF_ACCEPTED)
         return 0;
-    }
-    sigprocmask(SIG_SETMASK, &before, NULL);
+    complain("%s: cannot be closed", i->path);
     return -1;
-}
-
-/* ---- between, and after ---- */
-
-void image_pause(struct image *i)
-{
-    give_bytes(i);
-}
-
-int image_resume(struct image *i)
-{
-    if (take_bytes(i) != 0)
-        return -1;
-    if (ask_path(i) == 0)
-        return 0;
-    give_bytes(i);
-    return -1;
-}
-
-/* The directory that a path's last name stands in; 0, or -1 for no memory. */
-static int directory_of(struct buffer *directory, const char *path)
-{
-    const char *slash = strrchr(path, '/');
-
-    if (slash == NULL)
-        return buffer_put(directory, ".", 2);
-    if (buffer_put(directory, path, (size_t)(slash - path) + 1) != 0)
-        return -1;
-    return buffer_put_byte(directory, '\0');
-}
-
-int sync_name(const char *path)
-{
-    struct buffer directory = { NULL, 0, 0 };
-    int error = ENOMEM;
-    int fd = -1;
-
-    if (directory_of(&directory, path) == 0) {
-        fd = open((const char *)directory.bytes, O_RDONLY | O_CLOEXEC);
-        error = fd >= 0 && fsync(fd) == 0 ? 0 : errno;
-    }
-    if (fd >= 0)
-        close(fd);
-    buffer_free(&directory);
-    return error == EACCES || error == EINVAL ? 0 : error;
 }
 
 int image_close(struct image *i)
 {
-    int error = 0;
+    int done = 0;
 
-    give_bytes(i);
-    if (i->writing && i->mapped &&
-        msync(i->bytes, i->length, MS_SYNC) != 0)
-        error = errno;
-    if (i->writing && error == 0 && fsync(i->fd) != 0)
-        error = errno;
-    if (i->created && error == 0)
-        error = sync_name(i->path);
-    if (error == 0)
-        error = release(i);
-    else
-        release(i);
-    return error == 0 ? 0 : fail(i, "cannot be written to the disk", error);
+    if (i->created != NULL)
+        return name_new(i);
+    if (i->writing)
+        done = commit(i);
+    return close_file(i) == 0 ? done : -1;
 }
 
-void image_discard(struct image *i)
+void image_drop(struct image *i)
 {
-    unlink(i->path);
-    release(i);
+    if (i->created != NULL)
+        layer_new_drop(i->created);
+    i->created = NULL;
+    if (i->file != NULL)
+        close_file(i);
 }
 
-void image_forget(const struct image *i)
-{
-    unlink(i->path);
-}
+/* ---- a copy ---- */
 
 int image_copy(struct buffer *copy, const char *path, unsigned wait)
 {
+    const struct manner how = { 0, wait, 1 };
     struct image i;
     int done;
 
-    if (image_open(&i, path, 0, wait) != 0)
+    if (image_open(&i, path, how) != 0)
         return -1;
     /* No longer file is accepted, and neither is the empty copy of one. */
     done = buffer_put(copy, i.bytes,
                       i.length > BHTF_IMAGE_MAX ? 0 : i.length);
     if (done != 0)
         out_of_memory();
-    release(&i);
+    image_drop(&i);
     return done;
+}
+
+int sync_name(const char *path)
+{
+    const char *slash = strrchr(path, '/');
+    struct buffer directory = { NULL, 0, 0 };
+    size_t length = slash == NULL ? 1 : (size_t)(slash - path) + 1;
+    int error = -1;
+
+    if (buffer_put(&directory, slash == NULL ? "." : path, length) == 0 &&
+        buffer_put_byte(&directory, '\0') == 0)
+        error = layer_sync_directory((const char *)directory.bytes);
+    buffer_free(&directory);
+    return error;
 }

@@ -1,55 +1,59 @@
-/* A file as an image in memory: mapped, locked, its space allocated. */
+/* A file as an image in memory, over the library's file layer. */
 #ifndef IMAGE_H
 #define IMAGE_H
 
+#include "bhtf_file.h"
 #include "text.h"
 
 #include <signal.h>
 #include <stdint.h>
 
+struct layer_new;
+
 struct image {
     const char *path;
-    int fd;
-    uint8_t *bytes;  /* never NULL once it is open */
+    bhtf_file *file;
+    struct layer_new *created; /* instead, if it is a new one */
+    uint8_t *bytes;  /* never NULL once it is open; only those of a new file may
+                        be written to, and what image_writable answers */
     size_t length;
-    uint8_t none;    /* what bytes points to when the file is empty */
-    int mapped;
-    unsigned wait;   /* seconds to wait for a lock */
-    const volatile sig_atomic_t *stop; /* ends such a wait; may be NULL */
     int writing;     /* opened to be changed */
-    int created;     /* its name is new in its directory */
-    int held;        /* the lock on the bytes is held */
-    sigset_t before; /* signals blocked before a change began */
+    int sync;        /* changes are on the disk when they are told */
+    const volatile sig_atomic_t *stop; /* ends a wait for locks; may be NULL */
+    struct bhtf_file_error why; /* a new one cannot be made */
+};
+
+/* How a file is opened: what the command line says of it. */
+struct manner {
+    int writing;
+    unsigned wait;   /* seconds for all locks together */
+    int sync;
 };
 
 /* What answers an int answers 0, or -1 after a complaint. */
 
-/* A new file of `length` zero bytes, locked and ready to be changed. An
+/* A new file of `length` zero bytes, without a name until it is closed. An
  * existing file is left alone. */
-int image_create(struct image *i, const char *path, size_t length);
+int image_create(struct image *i, const char *path, size_t length, int sync);
 
-/* An existing file, locked to be read or to be changed. */
-int image_open(struct image *i, const char *path, int writing, unsigned wait);
+/* An existing file, to be read or to be changed. */
+int image_open(struct image *i, const char *path, struct manner how);
 
-/* Between two changes: lets readers in, and takes the bytes back. */
-void image_pause(struct image *i);
-int image_resume(struct image *i);
+/* A writer's bytes, to be changed by other ways than calls on i->file. */
+uint8_t *image_writable(struct image *i);
 
-/* Gives the locks back. Changes are on the disk when it answers 0. */
+/* Brings what was changed to the file, as one change, and gives the locks
+ * back. */
 int image_close(struct image *i);
 
-/* Closes and removes a file just created. */
-void image_discard(struct image *i);
-
-/* Removes a file just created, when its closing failed. */
-void image_forget(const struct image *i);
-
-/* Puts a new file's name on the disk, which is a matter of its directory: 0,
- * or an error. A directory that may not be read, or that its file system does
- * not write on demand, is left to the system. */
-int sync_name(const char *path);
+/* Closes it; what was changed is forgotten, and so is a file just created. */
+void image_drop(struct image *i);
 
 /* A copy of a whole file, taken under the lock, which is given back. */
 int image_copy(struct buffer *copy, const char *path, unsigned wait);
+
+/* Puts a new file's name on the disk, which is a matter of its directory: 0,
+ * or an error. */
+int sync_name(const char *path);
 
 #endif

@@ -62,13 +62,18 @@ struct import {
     unsigned long swapped_line;
     unsigned long refused;   /* lines, in a dry run */
     unsigned long stop_line; /* the first of them */
-    unsigned long stop_after; /* points in front of it */
     int stop_status;
 };
 
 static int is_dry(const struct import *m)
 {
     return (m->o->given & OPTION_DRY_RUN) != 0;
+}
+
+/* Are the other lines stored when one is refused? */
+static int keeps_going(const struct import *m)
+{
+    return (m->o->given & OPTION_KEEP_GOING) != 0;
 }
 
 /* ---- words ---- */
@@ -90,7 +95,7 @@ static const char *place(struct import *m, unsigned long line)
 static int is_told(struct import *m)
 {
     progress_end(&m->progress);
-    return m->refused < REFUSALS_SHOWN;
+    return m->refused < REFUSALS_SHOWN || (keeps_going(m) && !is_dry(m));
 }
 
 static int complain_of_line(struct import *m, const char *words)
@@ -113,18 +118,16 @@ static int complain_of_input(struct import *m, enum csv_answer answer)
 }
 
 /* A dry run goes on behind a refused line, and keeps where an import would
- * have stopped. */
-static int goes_on(struct import *m, int status, unsigned long line,
-                   unsigned long after)
+ * have stopped; so does --keep-going. */
+static int goes_on(struct import *m, int status, unsigned long line)
 {
     if (status == DONE)
         return 1;
-    if (!is_dry(m) || m->columns.fields == 0)
+    if ((!is_dry(m) && !keeps_going(m)) || m->columns.fields == 0)
         return 0;
     m->refused++;
     if (m->stop_line == 0 || line < m->stop_line) {
         m->stop_line = line;
-        m->stop_after = after;
         m->stop_status = status;
     }
     return 1;
@@ -407,8 +410,7 @@ static int read_batch(struct import *m)
         if (answer != CSV_RECORD)
             return complain_of_input(m, answer);
         status = read_point(m);
-        if (!goes_on(m, status, m->record.line,
-                     m->stored + (unsigned long)m->batch.count))
+        if (!goes_on(m, status, m->record.line))
             return status;
     }
     return DONE;
@@ -423,6 +425,7 @@ static struct target target(const struct import *m)
 
     to.image = is_dry(m) ? m->copy.bytes : m->image.bytes;
     to.length = is_dry(m) ? m->copy.length : m->image.length;
+    to.file = is_dry(m) ? NULL : m->image.file;
     return to;
 }
 
@@ -484,48 +487,24 @@ static int store_point(struct import *m, const struct point *p)
     return DONE;
 }
 
-/* Once, of a file that gets its first empty text. */
-static void warn_of_version(struct import *m)
-{
-    uint8_t now = header_read(target(m).image).version[2];
-
-    if (now == m->version)
-        return;
-    progress_end(&m->progress);
-    say_version(m->o->word[0], m->version, now);
-    m->version = now;
-}
-
 static int store_points(struct import *m)
 {
     int status = DONE;
 
     for (size_t i = 0; i < m->batch.count; i++) {
         const struct point *p = &m->batch.points[i];
-        unsigned long before = m->stored;
 
         status = store_point(m, p);
-        if (!goes_on(m, status, p->line, before))
+        if (!goes_on(m, status, p->line))
             break;
         status = DONE;
     }
-    warn_of_version(m);
     return status;
 }
 
 static int store_batch(struct import *m)
 {
-    int status;
-
-    if (m->batch.count == 0)
-        return DONE;
-    if (is_dry(m))
-        return store_points(m);
-    if (image_resume(&m->image) != 0)
-        return TROUBLE;
-    status = store_points(m);
-    image_pause(&m->image);
-    return status;
+    return m->batch.count == 0 ? DONE : store_points(m);
 }
 
 static int store_all(struct import *m)
@@ -586,22 +565,32 @@ static int report_dry_run(struct import *m, int status)
         printf("%lu point%s would be stored in %s: %lu new, %lu in place of "
                "others\n", m->stored, plural(m->stored), m->o->word[0],
                m->stored - m->replaced, m->replaced);
-    if (m->refused > 0)
+    if (m->refused > 0 && keeps_going(m))
+        complain("%s: %lu line%s would be refused, the first is line %lu",
+                 m->input, m->refused, plural(m->refused), m->stop_line);
+    else if (m->refused > 0)
         complain("%s: %lu line%s would be refused; an import would stop at "
-                 "line %lu, with %lu point%s stored", m->input, m->refused,
-                 plural(m->refused), m->stop_line, m->stop_after,
-                 plural(m->stop_after));
+                 "line %lu, with nothing stored, unless --keep-going is given",
+                 m->input, m->refused, plural(m->refused), m->stop_line);
     return status == DONE ? m->stop_status : status;
 }
 
 static int report_import(const struct import *m, int status)
 {
-    if (status != DONE)
-        complain("%s: import stopped: %lu point%s stored in %s, the rest not",
-                 m->input, m->stored, plural(m->stored), m->o->word[0]);
-    else if (m->o->quiet)
+    if (!m->follow.committed) {
+        complain("%s: import stopped: nothing was stored in %s", m->input,
+                 m->o->word[0]);
         return status;
-    else if (mode_of(m->o) == BHTF_REPLACE)
+    }
+    if (status == DONE)
+        status = m->stop_status;
+    if (m->refused > 0)
+        complain("%s: %lu line%s refused, the first is line %lu; the others "
+                 "are stored", m->input, m->refused, plural(m->refused),
+                 m->stop_line);
+    if (m->o->quiet)
+        return status;
+    if (mode_of(m->o) == BHTF_REPLACE)
         printf("%lu point%s stored: %lu new, %lu in place of others\n",
                m->stored, plural(m->stored), m->stored - m->replaced,
                m->replaced);
@@ -638,7 +627,6 @@ static int read_options(struct import *m)
     return DONE;
 }
 
-/* A lock on a file is lost when the process closes the file anywhere. */
 static int same_file(FILE *file, const char *path)
 {
     struct stat a, b;
@@ -679,15 +667,14 @@ static int open_image(struct import *m)
     uint32_t number;
     int status;
 
-    if (image_open(&m->image, m->o->word[0], 1, (unsigned)m->o->wait) != 0)
+    if (image_open(&m->image, m->o->word[0], to_change(m->o)) != 0)
         return TROUBLE;
     m->image.stop = &interrupted;
     number = ask_header(m->image.bytes, m->image.length, &m->key_size);
     status = number == BHTF_ACCEPTED ? look_at_file(m)
                                      : refuse(m->o->word[0], number);
-    image_pause(&m->image);
     if (status != DONE)
-        image_close(&m->image);
+        image_drop(&m->image);
     else if (follow_begin(&m->follow, &m->image, m->o->delta) != 0)
         status = TROUBLE;
     return status;
@@ -754,18 +741,24 @@ static int read_input(struct import *m)
     return status;
 }
 
+/* All of the input is one change of the file. */
 static int import_points(struct import *m)
 {
     int status = open_image(m);
+    uint8_t now;
 
     if (status != DONE)
         return status;
     status = read_input(m);
-    if (follow_close(&m->follow, &m->image) != 0)
+    now = header_read(m->image.bytes).version[2];
+    if (status != DONE)
+        follow_drop(&m->follow, &m->image);
+    else if (follow_close(&m->follow, &m->image) != 0)
         status = TROUBLE;
-    if (m->follow.taken_back)
-        m->stored = m->swapped = 0;
-    warn_of_swapped(m);
+    if (m->follow.committed) {
+        say_version(m->o->word[0], m->version, now);
+        warn_of_swapped(m);
+    }
     return finish_output(report_import(m, status));
 }
 
@@ -779,6 +772,8 @@ static int try_import(struct import *m)
     if (status != DONE)
         return status;
     status = read_input(m);
+    say_version(m->o->word[0], m->version,
+                header_read(m->copy.bytes).version[2]);
     warn_of_swapped(m);
     return finish_output(report_dry_run(m, status));
 }

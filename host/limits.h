@@ -16,8 +16,7 @@
 #define WAIT_USUAL 10u
 #define WAIT_MAX 86400u
 
-/* Points that an import reads before the file is locked, and then stores in
- * one go: nobody waits for the input. */
+/* Points that an import reads, and then stores in one go. */
 #define BATCH_POINTS 256u
 #define BATCH_BYTES (1u << 20)
 

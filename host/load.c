@@ -181,7 +181,7 @@ static int refuse_line(struct load *l, uint32_t number)
 
 static int store_point(struct load *l, int has_text)
 {
-    const struct target to = { l->image, l->length };
+    const struct target to = { l->image, l->length, NULL };
     const struct piece text = { l->text.bytes, l->text.length };
     uint32_t number, read;
 
@@ -286,13 +286,12 @@ static int write_file(struct load *l)
 {
     struct image i;
 
-    if (image_create(&i, l->o->word[0], l->length) != 0)
+    if (image_create(&i, l->o->word[0], l->length,
+                     !(l->o->given & OPTION_NO_SYNC)) != 0)
         return TROUBLE;
     memcpy(i.bytes, l->image, l->length);
-    if (image_close(&i) != 0) {
-        image_forget(&i);
+    if (image_close(&i) != 0)
         return TROUBLE;
-    }
     if (!l->o->quiet)
         printf("%lu point%s loaded\n", l->stored, l->stored == 1 ? "" : "s");
     return finish_output(DONE);

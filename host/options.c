@@ -45,6 +45,8 @@ static const struct row all[] = {
     { 0, "--no-text", OPTION_NO_TEXT, PLAIN, 0, 0, 0 },
     { 0, "--format", OPTION_FORMAT, TEXT, AT(format), 0, 0 },
     { 0, "--delta", OPTION_DELTA, TEXT, AT(delta), 0, 0 },
+    { 0, "--no-sync", OPTION_NO_SYNC, PLAIN, 0, 0, 0 },
+    { 0, "--keep-going", OPTION_KEEP_GOING, PLAIN, 0, 0, 0 },
     { 0, "--against", OPTION_AGAINST, TEXT, AT(against), 0, 0 },
     { 'p', "--paper", OPTION_PAPER, TEXT, AT(paper), 0, 0 },
     { 's', "--station", OPTION_STATION, TEXT, AT(station), 0, 0 },

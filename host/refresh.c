@@ -230,20 +230,19 @@ static int open_copy(struct refresh *r)
 
     if (is_dry(r))
         return copy_accepted(&r->now, r->o, &key_size);
-    if (image_open(&r->image, path, 1, (unsigned)r->o->wait) != 0)
+    if (image_open(&r->image, path, to_change(r->o)) != 0)
         return TROUBLE;
     number = ask_header(r->image.bytes, r->image.length, &key_size);
     if (number != BHTF_ACCEPTED)
         status = refuse(path, number);
     else if (buffer_put(&r->now, r->image.bytes, r->image.length) != 0)
         status = out_of_memory();
-    image_pause(&r->image);
     if (status != DONE)
-        image_close(&r->image);
+        image_drop(&r->image);
     return status;
 }
 
-/* Writes the stretches that differ, and nothing else. */
+/* Changes the stretches that differ, and nothing else. */
 static int write_copy(struct refresh *r)
 {
     struct buffer content = { NULL, 0, 0 };
@@ -252,10 +251,8 @@ static int write_copy(struct refresh *r)
     if (content_put(&content, r->image.bytes, r->now.bytes,
                     r->now.length) != 0)
         status = out_of_memory();
-    else if (image_resume(&r->image) != 0)
-        status = TROUBLE;
     else
-        content_write(content.bytes, r->image.bytes);
+        content_write(content.bytes, image_writable(&r->image));
     buffer_free(&content);
     return status;
 }
@@ -279,7 +276,9 @@ static int refresh(struct refresh *r)
     status = bring_up(r);
     if (status == DONE && r->applied > 0 && !is_dry(r))
         status = write_copy(r);
-    if (!is_dry(r) && image_close(&r->image) != 0)
+    if (!is_dry(r) && status != DONE)
+        image_drop(&r->image);
+    else if (!is_dry(r) && image_close(&r->image) != 0)
         status = TROUBLE;
     return status == DONE ? report(r) : status;
 }

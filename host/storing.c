@@ -7,13 +7,22 @@
 #include "bhtf.h"
 #include "space.h"
 
+/* The file layer does not tell how many slots a search read: a lookup's is the
+ * same search. */
 static uint32_t put(struct target to, const struct buffer *key,
                     const struct piece *text, uint32_t mode,
                     uint32_t *slots_read)
 {
-    return bhtf_add_slots(to.image, to.length, key->bytes, key->length,
-                          text == NULL ? NULL : text->bytes,
-                          text == NULL ? 0 : text->length, mode, slots_read);
+    const uint8_t *bytes = text == NULL ? NULL : text->bytes;
+    size_t size = text == NULL ? 0 : text->length;
+    uint32_t offset, length;
+
+    if (to.file == NULL)
+        return bhtf_add_slots(to.image, to.length, key->bytes, key->length,
+                              bytes, size, mode, slots_read);
+    bhtf_lookup_slots(to.image, to.length, key->bytes, key->length, &offset,
+                      &length, slots_read);
+    return bhtf_file_add(to.file, key->bytes, key->length, bytes, size, mode);
 }
 
 /* Refuses what mode BHTF_NEW refuses before it looks at a text. */

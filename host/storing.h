@@ -2,12 +2,14 @@
 #ifndef STORING_H
 #define STORING_H
 
+#include "bhtf_file.h"
 #include "csv.h"
 
 /* Where points are put. */
 struct target {
     uint8_t *image;
     size_t length;
+    bhtf_file *file;  /* that the image is of; NULL if of none */
 };
 
 /* Stores a text, or none where it is NULL, in the mode of add that is given:

@@ -110,7 +110,7 @@ holds "uninstalls what it installed" uninstalls
 through_pkg_config() {
   # shellcheck disable=SC2046
   gcc -std=c99 "$work/uses.c" -o "$work/uses" \
-    $(PKG_CONFIG_PATH="$work/usr/lib/pkgconfig" pkg-config --cflags --libs bhtf) && "$work/uses"
+    $(PKG_CONFIG_PATH="$work/usr/lib/pkgconfig" pkg-config --cflags --libs bhtf) && LD_LIBRARY_PATH="$work/usr/lib" "$work/uses"
 }
 holds "a program builds with pkg-config" through_pkg_config
 holds "the man page passes mandoc" mandoc -Tlint host/bhtf.1
@@ -308,18 +308,20 @@ gives "a byte order mark" 0 '^1 point stored$' bhtf import csv3 bom.csv
 same "the last line" '1,2,3,last line without end' "$(bhtf get csv3 B1)"
 printf 'A1,1,2,3,\nA2,1,2,3,\nP1,9,9,9,\nA3,1,2,3,\n' >half.csv
 gives "an import stops at a refused line" 1 'line 3: P1: refused \(9\)' bhtf import csv half.csv -c PENZD
-gives "what it stored is there" 0 '1,2,3,' bhtf get csv A2
-gives "what is behind is not" 1 'refused \(14\)' bhtf get csv A3
+gives "what is in front of it is not stored" 1 'refused \(14\)' bhtf get csv A2
+gives "nor what is behind" 1 'refused \(14\)' bhtf get csv A3
 bhtf create half
 bhtf add half P1 x
-gives "the number of points stored" 1 'stopped: 2 points stored in half' bhtf import half half.csv -c PENZD
-gives "import --replace" 0 '^4 points stored: 1 new, 3 in place of others$' bhtf import csv half.csv --replace -c PENZD
+gives "which is said" 1 'stopped: nothing was stored in half' bhtf import half half.csv -c PENZD
+gives "unless it keeps going" 1 '^3 points stored$' bhtf import half half.csv -c PENZD --keep-going
+gives "with words of the line" 1 'half\.csv: 4 lines refused, the first is line 1' bhtf import half half.csv -c PENZD --keep-going
+gives "import --replace" 0 '^4 points stored: 3 new, 1 in place of others$' bhtf import csv half.csv --replace -c PENZD
 same "the replaced text" '9,9,9,' "$(bhtf get csv P1)"
 printf 'A1,1,2,3,"open\n' >bad.csv
 gives "a quote left open" 2 'line 1: .*no closing quote' bhtf import csv bad.csv
 printf 'X1,1,2,3,\nA1,1,2,3,"a"b\n' >bad.csv
 gives "text behind a quote" 2 'line 2: .*behind a closing quote' bhtf import csv bad.csv -c PENZD
-gives "the line in front of it is stored" 0 '1,2,3,' bhtf get csv X1
+gives "the line in front of it is not stored" 1 'refused \(14\)' bhtf get csv X1
 printf 'A1,1,2,3\n' >bad.csv
 gives "four fields" 2 'line 1: the line has 4 fields, and not the 5 of name,easting' bhtf import csv bad.csv -c PENZD
 printf 'A1,1,2,3,4,5\n' >bad.csv
@@ -375,6 +377,15 @@ truncate -s 1073745920 long
 gives "long: count refused 1" 1 'refused \(1\)' bhtf count long
 gives "long: add refused 1" 1 'refused \(1\)' bhtf add long n t
 same "no block of it is written" 0 "$(stat -c %b long)"
+# A file that is not one of ours is not touched at all.
+truncate -s 8192 holes
+touch -d '2020-01-01' holes
+before=$(stat -c '%b %Y %Z' holes)
+for words in 'add:n:t' 'delete:n' 'compact' 'import:out1'; do
+  IFS=: read -r command one two <<<"$words"
+  gives "holes: $command refused 5" 1 'refused \(5\)' bhtf "$command" holes ${one:+"$one"} ${two:+"$two"}
+done
+same "neither its blocks nor its times have changed" "$before" "$(stat -c '%b %Y %Z' holes)"
 # With standard error closed the file must not be opened in its place, and the
 # message written into it.
 cp header before
@@ -385,7 +396,7 @@ cp a two
 printf 'P,E,N,Z,D\nnew,1,2,3,\nCP-1,1,2,3,\n' >lines.csv
 bhtf import one lines.csv 2>/dev/null
 gives "a refused line with standard error closed" 1 '' sh -c 'bhtf import two - <lines.csv 2>&-'
-holds "only the point in front of it is stored" cmp one two
+holds "nothing of it is stored" cmp a two
 cp tiny damaged
 # The offset of the first slot that is taken, behind its key of one byte.
 slot=$(bhtf list damaged --long | awk '{print $1}')
@@ -506,7 +517,7 @@ done
 
 mkfifo hold reply
 lock() { # FILE KIND [LENGTH]: another program's lock on the whole file, or on its first bytes
-  ./locker "$@" <hold >reply &
+  ./locker "$@" <hold >reply 9>&- &
   locker=$!
   helpers+=("$locker")
   exec 8>hold
@@ -542,6 +553,18 @@ gives "and one that applies a delta waits" 2 '\(reading\)' bhtf apply a stations
 gives "its dry run is a reader" 1 'is for a file of 16384 bytes' bhtf apply a stations/step --dry-run --wait 0
 unlock
 
+# A reader that is stuck, and a writer that waits for it: other readers pass, and each is told the truth.
+lock a read 1
+(bhtf add a late x --wait 3 >waited 2>&1; echo $? >>waited) 8>&- &
+waiter=$!
+helpers+=("$waiter")
+sleep 0.3
+gives "behind a stuck reader and a waiting writer a reader has its turn" 0 '^5$' bhtf count a --wait 2
+wait "$waiter"
+gives "the writer names the reader" 0 "still locked by process $locker \\(reading\\) after 3 s" cat waited
+same "after the time that was given, for all locks together" 2 "$(tail -n 1 waited)"
+unlock
+
 # A file that is replaced while a writer waits for its lock.
 cp a replaced
 cp a newer
@@ -565,11 +588,14 @@ start_import() { # FILE [OPTION..]: an import that waits for its input
 }
 feed() { seq "$1" "$2" | sed 's/.*/F&,&,&,&,/' >&9; }
 has() { [ "$(bhtf count "$1")" -ge "$2" ]; }
+# Does another process write to the file? Asked by a change that is refused.
+is_busy() { bhtf withdraw "$1" nobody --wait 0; [ $? -eq 2 ]; }
 bhtf create shared
 start_import shared
 feed 1 600
-holds "readers see points of an import under way" until_true has shared 256
-gives "there is one writer" 2 'still locked' bhtf add shared other x --wait 0
+holds "an import under way has the writer's lock" until_true is_busy shared
+gives "readers see nothing of it" 0 '^0$' bhtf count shared --wait 0
+gives "there is one writer" 2 "still locked by process $importer \\(writing\\)" bhtf add shared other x --wait 0
 gives "the file is sound for readers" 0 sound bhtf check shared --wait 0
 exec 9>&-
 wait "$importer"
@@ -636,14 +662,14 @@ gives "what the writer left" 0 'sound: 3037' bhtf check busy
 bhtf create killed
 start_import killed
 feed 1 2000
-until_true has killed 1000
+until_true is_busy killed
 kill -KILL "$importer"
 wait "$importer" 2>/dev/null
 exec 9>&-
-gives "a killed import leaves a readable file" 0 '^[1-9][0-9]*$' bhtf count killed --wait 0
-gives "its points are there" 0 '^1,1,1,$' bhtf get killed F1 --wait 0
+gives "a killed import leaves the file as it was" 0 '^0$' bhtf count killed --wait 0
 gives "a later writer gets the lock at once" 0 '' bhtf add killed later x --wait 0
-gives "the file is sound, since no call was cut" 0 sound bhtf check killed
+gives "the file is sound" 0 'sound: 1' bhtf check killed
+holds "no journal is left" test ! -e killed.journal
 
 hot_kills() {
   local i pid status
@@ -653,51 +679,54 @@ hot_kills() {
     bhtf create hot --slots 65536 --key-size 8 || return 1
     bhtf import hot hot.csv --quiet -c PENZD 2>/dev/null &
     pid=$!
-    sleep "0.0$((RANDOM % 60 + 10))"
+    sleep "0.$(printf %03d $((RANDOM % 200 + 10)))"
     kill -KILL $pid 2>/dev/null
     wait $pid 2>/dev/null
-    bhtf count hot --wait 0 >/dev/null || return 1
-    bhtf list hot --wait 0 >/dev/null || return 1
-    bhtf add hot later x --replace --wait 0 || return 1
-    bhtf check hot --quiet --wait 0 >/dev/null
-    status=$?
-    [ $status -le 1 ] || return 1
+    status=$(bhtf count hot --wait 0) || return 1
+    [ "$status" = 0 ] || [ "$status" = 60000 ] || { echo "$status points"; return 1; }
+    bhtf check hot --quiet --wait 0 >/dev/null || return 1
+    bhtf add hot later x --replace --wait 0 2>/dev/null || return 1
+    bhtf check hot --quiet --wait 0 >/dev/null || return 1
+    [ "$(bhtf count hot)" = $((status + 1)) ] || return 1
+    [ ! -e hot.journal ] || return 1
   done
 }
-holds "killed at any time: readable, and the lock is free" hot_kills
+holds "killed at any time: all points or none, sound, and the lock is free" hot_kills
 
 bhtf create stopped
 start_import stopped
 feed 1 600
-until_true has stopped 512
+until_true is_busy stopped
+sleep 0.2
 kill -TERM "$importer"
 wait "$importer"
 same "an interrupted import has status 2" 2 $?
 exec 9>&-
-gives "it says what it stored" 0 "stopped: $(bhtf count stopped) points stored" cat import.err
-gives "the file is sound" 0 sound bhtf check stopped
+gives "it says that nothing was stored" 0 'stopped: nothing was stored in stopped' cat import.err
+gives "the file is as it was" 0 'sound: 0' bhtf check stopped
 
 bhtf create waiting
 start_import waiting --wait 600
 feed 1 300
-until_true has waiting 256
+until_true is_busy waiting
+sleep 0.2
 lock waiting read 1
-feed 301 900
+exec 9>&-
 sleep 0.3
 kill -TERM "$importer"
 ended() { ! kill -0 "$importer"; }
 holds "an import that waits for a lock can be interrupted" until_true ended
 unlock
-exec 9>&-
 wait "$importer"
 same "it has status 2" 2 $?
 gives "and says so" 0 'interrupted while others had it locked' cat import.err
-gives "and what it stored" 0 'stopped: 256 points stored' cat import.err
+gives "and that nothing was stored" 0 'stopped: nothing was stored' cat import.err
 
 bhtf create shrunk
 start_import shrunk
 feed 1 600
-until_true has shrunk 512
+until_true is_busy shrunk
+sleep 0.2
 truncate -s 0 shrunk
 feed 601 1200
 exec 9>&-
@@ -709,14 +738,16 @@ bhtf create swapped
 bhtf create other
 start_import swapped
 feed 1 600
-until_true has swapped 512
+until_true is_busy swapped
+sleep 0.2
 mv other swapped
 feed 601 1200
 exec 9>&-
 wait "$importer"
 same "a file replaced during an import: status 2" 2 $?
 gives "and a message, too" 0 'removed or replaced' cat import.err
-gives "with what was stored before" 0 'stopped: 512 points stored' cat import.err
+gives "and nothing is stored" 0 'stopped: nothing was stored' cat import.err
+gives "in neither of them" 0 '^0$' bhtf count swapped
 
 # ---- what is put on the disk ----
 
@@ -725,19 +756,25 @@ gives "a new file's name is put on the disk" 0 'fsync of a directory' put_on_dis
 mkdir deeper
 gives "in another directory as well" 0 'fsync of a directory' put_on_disk bhtf create deeper/durable
 gives "a change is put on the disk" 0 'fsync of a file' put_on_disk bhtf add durable n x
+gives "and its journal's name" 0 'fsync of a directory' put_on_disk bhtf add durable n longer --replace
 gives "and a compaction" 0 'fsync of a file' put_on_disk bhtf compact durable
+gives "but not with --no-sync" 0 '' put_on_disk bhtf add durable n2 x --no-sync
+same "which is stored" x "$(bhtf get durable n2)"
+gives "nor at create" 0 '' put_on_disk bhtf create durable2 --no-sync
 cp durable durable2
 gives "and its record, with its name" 0 'fsync of a directory' put_on_disk bhtf add durable r x --delta durable.delta
-same "behind the change" $'fsync of a file\nfsync of a file\nfsync of a directory' "$(cat "$work/out")"
+same "behind the change" 'journal its-name mark file mark-0 record its-name' "$(tr '\n' ' ' <"$work/out" |
+  sed 's/^fsync of a file fsync of a directory fsync of a file fsync of a file fsync of a file fsync of a file fsync of a directory $/journal its-name mark file mark-0 record its-name/')"
 gives "and what a copy is made" 0 'fsync of a file' put_on_disk bhtf apply durable2 durable.delta
 export FSYNC_FAILS=yes
-gives "a disk that fails at add" 2 'written to the disk: Input/output error' put_on_disk bhtf add durable m x
-gives "a disk that fails at compact" 2 'written to the disk: Input/output error' put_on_disk bhtf compact durable
+gives "a disk that fails at add" 2 'nothing was changed.*written: Input/output error' put_on_disk bhtf add durable m x
+env -u FSYNC_FAILS bhtf add durable n longer-still --replace --delta durable.delta
+gives "a disk that fails at compact" 2 'nothing was changed.*written: Input/output error' put_on_disk bhtf compact durable
 cp durable.delta before
-gives "a disk that fails at a change with --delta" 2 'written to the disk: Input/output error' \
+gives "a disk that fails at a change with --delta" 2 'nothing was changed.*written: Input/output error' \
   put_on_disk bhtf add durable s x --delta durable.delta
 holds "leaves no record" cmp before durable.delta
-gives "nor a new file of records" 2 'written to the disk' put_on_disk bhtf add durable t x --delta new.delta
+gives "nor a new file of records" 2 'nothing was changed' put_on_disk bhtf add durable t x --delta new.delta
 holds "which is not there" test ! -e new.delta
 gives "a disk that fails at create" 2 'written to the disk: Input/output error' put_on_disk bhtf create lost
 unset FSYNC_FAILS
@@ -800,9 +837,12 @@ if full_disk; then
   cp --sparse=always sparse disk/sparse
   cp sparse before
   head -c 1048576 /dev/zero >disk/filler 2>/dev/null
-  gives "a file with holes on a full disk" 2 'cannot allocate its space' bhtf add disk/sparse n x
+  # In memory a hole takes space when it is read; on a disk, when it is written.
+  gives "a file with holes on a full disk" 2 'cannot allocate its space|its disk failed' bhtf add disk/sparse n x
   holds "is as it was" cmp before disk/sparse
-  gives "a file without holes can still be written" 0 '' bhtf add disk/g n x
+  gives "nor is there room for a journal" 2 'nothing was changed: its journal .*has no space: No space left' bhtf add disk/g n x
+  rm disk/filler
+  gives "with room it is written" 0 '' bhtf add disk/g n x
   gives "and is sound" 0 'sound: 13' bhtf check disk/g
   umount disk && mounted=
 else

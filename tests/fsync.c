@@ -1,5 +1,5 @@
-/* Loaded in front of the C library: an fsync that says what it was called
- * for, or fails when FSYNC_FAILS is set. */
+/* Loaded in front of the C library: an fsync and an fdatasync that say what
+ * they were called for, or fail when FSYNC_FAILS is set. */
 #include <errno.h>
 #include <stdio.h>
 #include <stdlib.h>
@@ -19,4 +19,9 @@ int fsync(int fd)
     fprintf(stderr, "fsync of a %s\n",
             S_ISDIR(about.st_mode) ? "directory" : "file");
     return 0;
+}
+
+int fdatasync(int fd)
+{
+    return fsync(fd);
 }

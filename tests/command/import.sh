@@ -79,7 +79,7 @@ a decimal comma|"4482113,402",2,3,|the easting 4482113,402 has a decimal comma
 an easting alone|1,,3,|no northing beside the easting
 a northing alone|,2,3,|no easting beside the northing
 LIST
-gives "the lines in front are stored" 0 '^1,2,3,$' bhtf get office ok1
+gives "the lines in front are not stored" 1 'refused \(14\)' bhtf get office ok1
 for number in 0 -12.5 +7 .5 5. 000123.4560 123456789012345678901234567890.123; do
   holds "the number $number is kept as written" stores number "$number,2,,x" "P,E,N,Z,D"$'\n'"number,$number,2,,x"$'\n'
 done
@@ -173,13 +173,22 @@ gives "how many points" 0 '^3 points would be stored in swap: 3 new, 0 in place 
 gives "each refused line" 0 'line 3: the northing x' cat dry.err
 gives "also those of the library" 0 'line 4: CP-101: refused \(9\)' cat dry.err
 gives "and behind" 0 'line 6: the line has 3 fields' cat dry.err
-gives "where an import stops" 0 'dry\.csv: 3 lines would be refused; an import would stop at line 3, with 1 point stored' cat dry.err
-gives "which it does" 0 'import stopped: 1 point stored' cat import.err
+gives "where an import stops" 0 'dry\.csv: 3 lines would be refused; an import would stop at line 3, with nothing stored, unless --keep-going is given' cat dry.err
+gives "which it does" 0 'import stopped: nothing was stored in swap' cat import.err
+holds "and nothing was" cmp swap.before swap.after
+bhtf import swap dry.csv --keep-going >keep.out 2>keep.err
+same "--keep-going has the first refused line's status" 2 $?
+gives "stores the others" 0 '^3 points stored$' cat keep.out
+gives "says which lines" 0 'line 6: the line has 3 fields' cat keep.err
+gives "and how many" 0 'dry\.csv: 3 lines refused, the first is line 3; the others are stored' cat keep.err
+gives "they are there" 0 '^4482100,5351800,489,$' bhtf get swap d5
+cp swap.before swap
+gives "a dry run of that" 2 '3 lines would be refused, the first is line 3$' bhtf import swap dry.csv --keep-going -n
 bhtf import swap dry.csv -n >/dev/null 2>&1
 holds "a dry run changes nothing" cmp swap.before swap
 bhtf import swap - -n -c PENZD >dry.out 2>&1 < <(seq 40 | sed 's/$/,x,1,1,/')
 same "it tells 20 refused lines" 20 "$(grep -c 'is not a number' dry.out)"
-gives "and counts all" 0 '40 lines would be refused; an import would stop at line 1, with 0 points' cat dry.out
+gives "and counts all" 0 '40 lines would be refused; an import would stop at line 1, with nothing stored' cat dry.out
 gives "a dry run of a file that is refused" 1 'refused \(5\)' bhtf import zeros dry.csv -n
 gives "with --replace" 0 '2 points would be stored in swap: 1 new, 1 in place of others' \
   bhtf import swap - -nr <<<$'P,E,N\nCP-101,4482100,5351800\nnew,4482100,5351800'

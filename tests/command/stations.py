@@ -87,7 +87,7 @@ class Office:
         """Changes the file: whether it did. A refused change has no record."""
         command, *words = self.words()
         lines = b"".join(b"X%d,1,2,%d,\n" % (self.chance.randrange(4), self.chance.randrange(9)) for _ in range(3))
-        status, said = bhtf(command, "office7", *words, "--delta", "sent", data=lines)
+        status, said = bhtf(command, "--no-sync", "office7", *words, "--delta", "sent", data=lines)
         expect(status <= 1, command, words, said)
         image = delta.read("office7")
         if image == self.image:
@@ -112,7 +112,7 @@ class Copy:
         self.happened[what] = self.happened.get(what, 0) + 1
 
     def takes(self, sent, what):
-        status, words = bhtf("apply", self.path, data=sent)
+        status, words = bhtf("apply", "--no-sync", self.path, data=sent)
         expect(status == 0, self.path, "refused", what, words)
         self.count(what)
 

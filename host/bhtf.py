@@ -1,0 +1,300 @@
+"""Control point files for Python, over libbhtf (see bhtf_file(3)).
+
+    import bhtf
+
+    with bhtf.open("site.bhtf") as f:
+        print(f["CP-103"])              # bytes, or None without a text
+
+    with bhtf.open("site.bhtf", write=True) as f:
+        f["CP-104"] = b"4482113.402,5351874.118,489.271,bolt"
+        with f.batch():                 # all of it, or nothing
+            f.add("CP-105", b"")
+            del f["CP-103"]
+
+Names and texts are bytes; a str is taken as UTF-8. A name that is shorter than
+the file's key size is filled with zero bytes, which are taken off again.
+The library is looked for where the environment variable BHTF_LIBRARY says,
+beside this file, and where the system looks.
+"""
+import contextlib
+import ctypes
+import ctypes.util
+import errno
+import os
+
+NEW, REPLACE, APPEND, WITHDRAW = 1, 2, 3, 4
+ABSENT, SYSTEM, LOCKED = 14, 101, 102
+_WRITE, _NO_SYNC = 1, 2
+_FOREVER = 0xFFFFFFFF
+
+
+class Error(Exception):
+    """A call that was answered other than 0: `number`, `errno`, and words."""
+
+    def __init__(self, number, words, error=0):
+        super().__init__(words)
+        self.number = number
+        self.errno = error
+
+
+class _Why(ctypes.Structure):
+    _fields_ = [("number", ctypes.c_uint32), ("error", ctypes.c_int),
+                ("words", ctypes.c_char * 512)]
+
+
+_GiveUp = ctypes.CFUNCTYPE(ctypes.c_int, ctypes.c_void_p)
+
+
+class _How(ctypes.Structure):
+    _fields_ = [("flags", ctypes.c_uint32), ("wait", ctypes.c_uint32),
+                ("give_up", _GiveUp), ("with_", ctypes.c_void_p)]
+
+
+def _load():
+    beside = os.path.join(os.path.dirname(os.path.abspath(__file__)),
+                          "libbhtf.so")
+    for name in (os.environ.get("BHTF_LIBRARY"),
+                 beside if os.path.exists(beside) else None,
+                 ctypes.util.find_library("bhtf"), "libbhtf.so.1"):
+        if name:
+            return ctypes.CDLL(name)
+
+
+_lib = _load()
+_bytes, _size, _u32 = ctypes.c_char_p, ctypes.c_size_t, ctypes.c_uint32
+_file, _result = ctypes.c_void_p, ctypes.POINTER(ctypes.c_uint32)
+
+
+def _declare(name, answer, *arguments):
+    function = getattr(_lib, name)
+    function.restype = answer
+    function.argtypes = arguments
+    return function
+
+
+_create_image = _declare("bhtf_create", _u32, ctypes.c_void_p, _size, _u32,
+                         _u32, _u32)
+_lookup = _declare("bhtf_lookup", _u32, ctypes.c_void_p, _size, _bytes, _size,
+                   _result, _result)
+_count = _declare("bhtf_count", _u32, ctypes.c_void_p, _size, _result)
+_walk = _declare("bhtf_walk", _u32, ctypes.c_void_p, _size, _u32, _result,
+                 _result)
+_check = _declare("bhtf_check", _u32, ctypes.c_void_p, _size, _result, _result)
+_message = _declare("bhtf_message", ctypes.c_char_p, _u32)
+_open = _declare("bhtf_file_open", _file, _bytes, ctypes.POINTER(_How),
+                 ctypes.POINTER(_Why))
+_create = _declare("bhtf_file_create", _u32, _bytes, ctypes.c_void_p, _size,
+                   ctypes.POINTER(_How), ctypes.POINTER(_Why))
+_image = _declare("bhtf_file_image", ctypes.c_void_p, _file,
+                  ctypes.POINTER(_size))
+_add = _declare("bhtf_file_add", _u32, _file, _bytes, _size, _bytes, _size,
+                _u32)
+_delete = _declare("bhtf_file_delete", _u32, _file, _bytes, _size)
+_error = _declare("bhtf_file_error", ctypes.POINTER(_Why), _file)
+_recovered = _declare("bhtf_file_recovered", ctypes.c_int, _file)
+_compact, _begin, _commit, _rollback, _pause, _refresh, _close = (
+    _declare("bhtf_file_" + name, _u32, _file)
+    for name in ("compact", "begin", "commit", "rollback", "pause", "refresh",
+                 "close"))
+
+
+def _to_bytes(value):
+    return value.encode() if isinstance(value, str) else bytes(value)
+
+
+def _raise(why):
+    raise Error(why.number, why.words.decode(errors="replace"), why.error)
+
+
+class File:
+    """An open file; bhtf.open makes one."""
+
+    def __init__(self, handle, give_up):
+        self._handle = handle
+        self._give_up = give_up  # kept as long as the library may call it
+
+    # ---- the handle ----
+
+    def _open_handle(self):
+        if self._handle is None:
+            raise ValueError("the file is closed")
+        return self._handle
+
+    def _done(self, number):
+        if number != 0:
+            _raise(_error(self._handle).contents)
+
+    def close(self):
+        if self._handle is not None:
+            handle, self._handle = self._handle, None
+            number = _close(handle)
+            if number != 0:
+                raise Error(number, "the file could not be closed",
+                            ctypes.get_errno())
+
+    def __enter__(self):
+        return self
+
+    def __exit__(self, *_):
+        self.close()
+
+    def __del__(self):
+        try:
+            self.close()
+        except Error:
+            pass
+
+    def _view(self):
+        length = _size()
+        return _image(self._open_handle(), ctypes.byref(length)), length.value
+
+    def _asked(self, number):
+        if number != 0:
+            raise Error(number, _message(number).decode())
+
+    @property
+    def key_size(self):
+        self._asked(_count(*self._view(), ctypes.byref(_u32())))
+        return int.from_bytes(ctypes.string_at(self._view()[0] + 12, 4), "big")
+
+    def _key(self, name):
+        name = _to_bytes(name)
+        return name.ljust(self.key_size, b"\0")
+
+    # ---- reading ----
+
+    def get(self, name, default=None):
+        """A point's text, None without one; `default` where it is absent."""
+        key, (image, length) = self._key(name), self._view()
+        at, size = _u32(), _u32()
+        number = _lookup(image, length, key, len(key), ctypes.byref(at),
+                         ctypes.byref(size))
+        if number == ABSENT:
+            return default
+        self._asked(number)
+        return ctypes.string_at(image + at.value, size.value) if at.value \
+            else None
+
+    def __getitem__(self, name):
+        missing = object()
+        text = self.get(name, missing)
+        if text is missing:
+            raise KeyError(name)
+        return text
+
+    def __contains__(self, name):
+        missing = object()
+        return self.get(name, missing) is not missing
+
+    def __len__(self):
+        count = _u32()
+        self._asked(_count(*self._view(), ctypes.byref(count)))
+        return count.value
+
+    def __iter__(self):
+        """Names, in the order of their slots."""
+        size, slot, at, begin = self.key_size, _u32(), _u32(), 0
+        while True:
+            image, length = self._view()
+            self._asked(_walk(image, length, begin, ctypes.byref(slot),
+                              ctypes.byref(at)))
+            if at.value == 0:
+                return
+            yield ctypes.string_at(image + at.value, size).rstrip(b"\0")
+            begin = slot.value + 1
+
+    def items(self):
+        for name in self:
+            yield name, self[name]
+
+    def is_sound(self):
+        verdict, slot = _u32(), _u32()
+        self._asked(_check(*self._view(), ctypes.byref(verdict),
+                           ctypes.byref(slot)))
+        return verdict.value == 0
+
+    @property
+    def recovered(self):
+        """Did opening find an unfinished change, and finish it?"""
+        return bool(_recovered(self._open_handle()))
+
+    def pause(self):
+        """Lets writers in; refresh() before the next look."""
+        self._done(_pause(self._open_handle()))
+
+    def refresh(self):
+        """The file as the last writer left it."""
+        self._done(_refresh(self._open_handle()))
+
+    # ---- changing ----
+
+    def add(self, name, text, mode=NEW):
+        key, text = self._key(name), _to_bytes(text)
+        self._done(_add(self._open_handle(), key, len(key), text, len(text),
+                        mode))
+
+    def __setitem__(self, name, text):
+        self.add(name, text, REPLACE)
+
+    def append(self, name, text):
+        self.add(name, text, APPEND)
+
+    def withdraw(self, name):
+        self.add(name, b"", WITHDRAW)
+
+    def __delitem__(self, name):
+        key = self._key(name)
+        number = _delete(self._open_handle(), key, len(key))
+        if number == ABSENT:
+            raise KeyError(name)
+        self._done(number)
+
+    def compact(self):
+        self._done(_compact(self._open_handle()))
+
+    @contextlib.contextmanager
+    def batch(self):
+        """All changes of the block, or, if it is left by an exception, none."""
+        self._done(_begin(self._open_handle()))
+        try:
+            yield self
+            self._done(_commit(self._open_handle()))
+        except BaseException:
+            if self._handle is not None:
+                _rollback(self._handle)
+            raise
+
+
+def _how(write, sync, wait, give_up):
+    call = _GiveUp((lambda _: int(bool(give_up()))) if give_up else 0)
+    flags = (_WRITE if write else 0) | (0 if sync else _NO_SYNC)
+    wait = _FOREVER if wait is None else int(wait * 1000)
+    return _How(flags, wait, call, None), call
+
+
+def open(path, write=False, sync=True, wait=10, give_up=None):
+    """Opens a file. `wait` is in seconds, None without end; `give_up` is asked
+    while a lock is waited for, and ends the wait if it answers true."""
+    how, call = _how(write, sync, wait, give_up)
+    why = _Why()
+    handle = _open(os.fsencode(path), ctypes.byref(how), ctypes.byref(why))
+    if not handle:
+        if why.error == errno.ENOENT:
+            raise FileNotFoundError(why.error, why.words.decode(), path)
+        _raise(why)
+    return File(handle, call)
+
+
+def create(path, key_size=16, slots=0, seed=0, size=1 << 20, sync=True):
+    """Makes a new file of `size` bytes."""
+    image = ctypes.create_string_buffer(size)
+    number = _create_image(image, size, key_size, slots, seed)
+    if number != 0:
+        raise Error(number, _message(number).decode())
+    how, _ = _how(True, sync, 0, None)
+    why = _Why()
+    if _create(os.fsencode(path), image, size, ctypes.byref(how),
+               ctypes.byref(why)) != 0:
+        if why.error == errno.EEXIST:
+            raise FileExistsError(why.error, why.words.decode(), path)
+        _raise(why)

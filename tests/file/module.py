@@ -1,0 +1,75 @@
+"""module.py DIRECTORY: the module bhtf.py."""
+import os
+import sys
+
+import bhtf
+
+path = os.path.join(sys.argv[1], "module.bhtf")
+
+
+def refused(number, call, *arguments):
+    try:
+        call(*arguments)
+    except bhtf.Error as error:
+        assert error.number == number, error
+        assert str(error)
+        return
+    raise AssertionError("not refused")
+
+
+bhtf.create(path, key_size=8, slots=20, size=16384)
+try:
+    bhtf.create(path)
+    raise AssertionError("created twice")
+except FileExistsError:
+    pass
+with bhtf.open(path, write=True) as f:
+    assert f.key_size == 8 and len(f) == 0
+    f.add("CP-103", b"a text")
+    refused(9, f.add, "CP-103", b"x")
+    f.append("CP-103", " and more")
+    f["CP-104"] = ""
+    f["CP-105"] = "gone"
+    f.withdraw("CP-105")
+    assert f["CP-103"] == b"a text and more" and f["CP-104"] == b""
+    assert f["CP-105"] is None and f.get("nobody", 7) == 7
+    assert "CP-105" in f and "nobody" not in f
+    try:
+        f["nobody"]
+        raise AssertionError("found")
+    except KeyError:
+        pass
+    try:
+        with f.batch():
+            del f["CP-103"]
+            f["CP-106"] = "x"
+            raise ValueError
+    except ValueError:
+        pass
+    assert "CP-103" in f and "CP-106" not in f
+    with f.batch():
+        del f["CP-104"]
+        f.compact()
+    assert sorted(f) == [b"CP-103", b"CP-105"], list(f)
+    refused(bhtf.LOCKED, lambda: bhtf.open(path, write=True, wait=0.05))
+    refused(103, lambda: bhtf.open(path, write=True, give_up=lambda: True))
+    with bhtf.open(path) as reader:
+        assert dict(reader.items()) == {b"CP-103": b"a text and more",
+                                        b"CP-105": None}
+        assert reader.is_sound() and not reader.recovered
+        refused(108, reader.add, "x", b"y")
+        reader.pause()
+        f["CP-107"] = "later"
+        reader.refresh()
+        assert reader["CP-107"] == b"later"
+try:
+    bhtf.open(path + "x")
+    raise AssertionError("opened")
+except FileNotFoundError:
+    pass
+try:
+    f["CP-103"]
+    raise AssertionError("closed")
+except ValueError:
+    pass
+assert not os.path.exists(path + ".journal")
