@@ -7,11 +7,11 @@
  *                       file */
 #define _POSIX_C_SOURCE 200809L
 #include "../tests/calls.h"
+#include "samples.h"
 
 #include <stdio.h>
 #include <stdlib.h>
 #include <string.h>
-#include <time.h>
 
 extern const struct calls tuned_c;
 
@@ -31,25 +31,6 @@ static const struct file {
     { 65536, 58982, 249, 16777216, 2.5 },
     { 1048576, 786432, 700, 600u << 20, 2.5 },
 };
-
-static unsigned passed;
-static unsigned failed;
-
-static void expect(const char *what, int holds)
-{
-    passed += (unsigned)holds;
-    failed += (unsigned)!holds;
-    if (!holds)
-        printf("FAILED: %s\n", what);
-}
-
-static double now(void)
-{
-    struct timespec t;
-
-    clock_gettime(CLOCK_PROCESS_CPUTIME_ID, &t);
-    return (double)t.tv_sec * 1e6 + (double)t.tv_nsec / 1e3;
-}
 
 /* Names in no order: the number of each, scattered. */
 static void name_of(uint8_t *key, uint32_t i)
@@ -88,16 +69,9 @@ static double spent(const struct calls *c, const uint8_t *image,
 
     for (uint32_t i = 0; i < runs; i++)
         wrong |= c->check(image, f->length, &verdict, &slot) | verdict;
-    from = (now() - from) / runs;
+    from = (now() - from) / 1e3 / runs;
     expect("sound", wrong == 0);
     return from;
-}
-
-static int rising(const void *a, const void *b)
-{
-    double one = *(const double *)a, other = *(const double *)b;
-
-    return (one > other) - (one < other);
 }
 
 static void compare(const struct file *f, int samples)
@@ -132,6 +106,5 @@ int main(int argc, char **argv)
     for (size_t i = 0; i < sizeof files / sizeof *files; i++)
         if (samples >= SAMPLES || files[i].length <= 16777216)
             compare(&files[i], samples);
-    printf("%u passed, %u failed\n", passed, failed);
-    return failed != 0;
+    return expected();
 }

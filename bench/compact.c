@@ -10,11 +10,11 @@
  * is the median over the samples. Ends with "N passed, M failed". */
 #define _POSIX_C_SOURCE 200809L
 #include "../tests/calls.h"
+#include "samples.h"
 
 #include <stdio.h>
 #include <stdlib.h>
 #include <string.h>
-#include <time.h>
 
 extern const struct calls plain_c;
 extern const struct calls tuned_c;
@@ -37,25 +37,6 @@ static const struct size {
     { 65536, 58982, 400, 16777216 },
     { 1048576, 943718, 1060, 640u << 20 },
 };
-
-static unsigned passed;
-static unsigned failed;
-
-static void expect(const char *what, int holds)
-{
-    passed += (unsigned)holds;
-    failed += (unsigned)!holds;
-    if (!holds)
-        printf("FAILED: %s\n", what);
-}
-
-static double now(void)
-{
-    struct timespec t;
-
-    clock_gettime(CLOCK_PROCESS_CPUTIME_ID, &t);
-    return (double)t.tv_sec * 1e3 + (double)t.tv_nsec / 1e6;
-}
 
 static void *room_for(size_t size)
 {
@@ -162,27 +143,11 @@ static void sample(const uint8_t *file, uint8_t *work, uint8_t *kept,
         memcpy(image, file, length);
         from = now();
         answer = calls[s]->compact(image, length);
-        spent[s][round] = now() - from;
+        spent[s][round] = (now() - from) / 1e6;
         expect("the answer", answer == 0);
         if (i > 0)
             expect("the images", memcmp(kept, work, length) == 0);
     }
-}
-
-static int rising(const void *a, const void *b)
-{
-    double one = *(const double *)a, other = *(const double *)b;
-
-    return (one > other) - (one < other);
-}
-
-static double median(const double *of, int count)
-{
-    double sorted[MOST];
-
-    memcpy(sorted, of, (size_t)count * sizeof *of);
-    qsort(sorted, (size_t)count, sizeof *sorted, rising);
-    return sorted[count / 2];
 }
 
 static double ratio(int of, int base, int samples)
@@ -227,6 +192,5 @@ int main(int argc, char **argv)
         for (size_t j = 0; j < sizeof kinds / sizeof *kinds; j++)
             if (sizes[i].slots <= slots)
                 compare(&sizes[i], &kinds[j], samples);
-    printf("%u passed, %u failed\n", passed, failed);
-    return failed != 0;
+    return expected();
 }

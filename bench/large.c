@@ -9,11 +9,11 @@
  * A ratio is the median over the samples. Ends with "N passed, M failed". */
 #define _POSIX_C_SOURCE 200809L
 #include "../tests/calls.h"
+#include "samples.h"
 
 #include <stdio.h>
 #include <stdlib.h>
 #include <string.h>
-#include <time.h>
 
 extern const struct calls plain_c;
 extern const struct calls tuned_c;
@@ -31,9 +31,6 @@ static uint8_t *images[SUBJECTS];
 static uint8_t pool[POOL + LONGEST + ROUNDS_MAX + 1];
 static uint32_t held[POINTS]; /* numbers of the names that are in the file */
 static uint32_t fresh;        /* the next number never used */
-static unsigned passed;
-static unsigned failed;
-
 /* ---- inputs ---- */
 
 static uint64_t state;
@@ -200,22 +197,6 @@ static uint64_t check(const struct calls *c, uint8_t *image)
 
 /* ---- samples and the table ---- */
 
-static void expect(const char *what, int holds)
-{
-    passed += (unsigned)holds;
-    failed += (unsigned)!holds;
-    if (!holds)
-        printf("FAILED: %s\n", what);
-}
-
-static double now(void)
-{
-    struct timespec t;
-
-    clock_gettime(CLOCK_PROCESS_CPUTIME_ID, &t);
-    return (double)t.tv_sec * 1e9 + (double)t.tv_nsec;
-}
-
 static const struct phase {
     const char *name;
     uint64_t (*run)(const struct calls *, uint8_t *);
@@ -267,22 +248,6 @@ static void sample(int phase, int round)
     }
     for (int s = 1; s < SUBJECTS; s++)
         expect(phases[phase].name, answers[s] == answers[0]);
-}
-
-static int rising(const void *a, const void *b)
-{
-    double one = *(const double *)a, other = *(const double *)b;
-
-    return (one > other) - (one < other);
-}
-
-static double median(const double *of, int count)
-{
-    double sorted[ROUNDS_MAX];
-
-    memcpy(sorted, of, (size_t)count * sizeof *of);
-    qsort(sorted, (size_t)count, sizeof *sorted, rising);
-    return sorted[count / 2];
 }
 
 static double ratio(int phase, int subject, int base, int rounds)
@@ -344,6 +309,5 @@ int main(int argc, char **argv)
         expect("the images", memcmp(images[0], images[s], LENGTH) == 0);
     for (int phase = 0; phase < PHASES; phase++)
         print_line(phase, rounds);
-    printf("%u passed, %u failed\n", passed, failed);
-    return failed != 0;
+    return expected();
 }

@@ -10,12 +10,12 @@
  * Ends with "N passed, M failed". */
 #define _DEFAULT_SOURCE
 #include "../host/bhtf.h"
+#include "samples.h"
 
 #include <stdio.h>
 #include <stdlib.h>
 #include <string.h>
 #include <sys/mman.h>
-#include <time.h>
 
 enum { KEY = 16, SLOTS = 65521, POINTS = 32760, TEXT = 40 };
 enum { SAMPLES = 7, MOST = 15, CALLS = 4000, LIST = 4096 };
@@ -31,25 +31,6 @@ struct site {
     uint8_t list[LIST];
     uint32_t pairs;
 };
-
-static unsigned passed;
-static unsigned failed;
-
-static void expect(const char *what, int holds)
-{
-    passed += (unsigned)holds;
-    failed += (unsigned)!holds;
-    if (!holds)
-        printf("FAILED: %s\n", what);
-}
-
-static double now(void)
-{
-    struct timespec t;
-
-    clock_gettime(CLOCK_PROCESS_CPUTIME_ID, &t);
-    return (double)t.tv_sec * 1e9 + (double)t.tv_nsec;
-}
 
 static void *room_for(size_t size)
 {
@@ -123,19 +104,6 @@ static const struct operation {
     { "replace in place", replace, CALLS },
     { "delete and add in turn", renew, 2 * CALLS },
 };
-
-static int rising(const void *a, const void *b)
-{
-    double x = *(const double *)a, y = *(const double *)b;
-
-    return (x > y) - (x < y);
-}
-
-static double median(double *values, int n)
-{
-    qsort(values, (size_t)n, sizeof *values, rising);
-    return values[n / 2];
-}
 
 static void open_site(struct site *s, size_t length)
 {
@@ -225,6 +193,5 @@ int main(int argc, char **argv)
     printf("|:--|--:|--:|--:|\n");
     for (size_t i = 0; i < sizeof lengths / sizeof lengths[0]; i++)
         at_length(lengths[i], samples);
-    printf("%u passed, %u failed\n", passed, failed);
-    return failed != 0;
+    return expected();
 }
