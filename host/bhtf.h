@@ -16,8 +16,8 @@
  *   else that is handed to the same call. Two slices that are only read may
  *   overlap: lookup's key may be a part of its image.
  * - From the start of a call to its end nobody else writes to what it was
- *   handed, and nobody else reads what it writes. The calls take no lock; the
- *   command bhtf shows one way (see LOCKS in bhtf(1)).
+ *   handed, and nobody else reads what it writes. The calls take no lock;
+ *   bhtf_file.h does, and keeps files on a disk (see bhtf_file(3)).
  *
  * The calls allocate nothing, keep nothing between calls and always return.
  */
@@ -77,7 +77,7 @@ extern "C" {
 #define BHTF_BAD_JOURNAL 17u   /* journal too short for what would change, or
                                   its mark is not 0; asked last */
 #define BHTF_UNRECOVERABLE 18u /* recover: the journal is empty, or marked and
-                                  not of this image */
+                                  its content or a pair does not fit */
 
 /* ---- verdicts of bhtf_check ---- */
 
@@ -187,7 +187,7 @@ uint32_t bhtf_walk(const uint8_t *image, size_t image_len, uint32_t from,
  * Time: as long as the table and the messages are; but each key is searched, so
  * a damaged full table can take N * N slots.
  * Stack: up to 300 KiB (307,200 bytes), which a small thread may not have;
- * bhtf_compact takes more, the other calls take little. */
+ * bhtf_compact and its forms take more, the other calls take little. */
 uint32_t bhtf_check(const uint8_t *image, size_t image_len,
                     uint32_t *verdict, uint32_t *slot);
 
@@ -251,13 +251,13 @@ uint32_t bhtf_compact_listed(uint8_t *image, size_t image_len, uint8_t *work,
  *
  * Add, delete and compact, with the same numbers and bytes, by way of a
  * journal, so that wherever a cut falls bhtf_recover gives the image before the
- * call or the one after it.
+ * call or the one after it; once the mark was fully written, the one after.
  *   work     as above.
- *   journal  takes from its start how many pairs there are, 4 bytes; the pairs,
- *            as in a list; and the new bytes of their stretches, one behind the
- *            other. Its last byte is the mark. A new journal is all zero. Its
- *            length must be the same at the call and at recovery, since the
- *            mark is looked for at its end.
+ *   journal  takes from its start how many pairs there are, 4 bytes; all the
+ *            pairs, as in a list that is long enough; and the new bytes of
+ *            their stretches, one behind the other. Its last byte is the mark.
+ *            A new journal is all zero. Its length must be the same at the call
+ *            and at recovery, since the mark is looked for at its end.
  * The writes are made in this order: the content of the journal; the mark
  * becomes BHTF_MARKED; each stretch of the image; the mark becomes 0. The
  * content stays. Refused with 16 where the working slice is too short, before
@@ -271,8 +271,8 @@ uint32_t bhtf_compact_listed(uint8_t *image, size_t image_len, uint8_t *work,
  * Time: the plain call's, and copying the image once and reading it three
  * times. Stack: as the plain call, so bhtf_compact_journaled up to 1,344 KiB.
  *
- * Storage that loses power. The order is that of writes to memory. For
- * memory that keeps its bytes, and for files that are mapped shared where only
+ * Storage that loses power. bhtf_file.h does what follows. The order is that
+ * of writes to memory. For memory that keeps its bytes, and for files that are mapped shared where only
  * the process may be killed, it is enough. But a system writes the pages of
  * mapped files in any order, so that a power cut may find the image's on the
  * disk and the journal's not. There, call on an image and a journal in memory,
@@ -306,9 +306,10 @@ uint32_t bhtf_compact_journaled(uint8_t *image, size_t image_len,
 /* Recovers an image from its journal: where the mark is BHTF_MARKED, the
  * journal's stretches are written to the image; with any other mark the image
  * stays. Either way the mark becomes 0, and no other byte of the journal
- * changes. To recover again changes nothing, and a recovery that is cut is made
- * good by the next one. It asks no question of the image, so that it must be
- * this image's journal.
+ * changes. To recover again changes nothing, and a recovery from a marked
+ * journal that is cut is made good by the next one; where the mark is 0 already
+ * there is nothing to recover, and no need to call. It asks no question of the
+ * image, so that it must be this image's journal.
  * Refused with 18 alone: the journal is of length 0; or it is marked, and its
  * content reaches the mark, or a pair leaves the image or begins before the end
  * of the one before it. No call leaves such a journal, wherever it is cut:

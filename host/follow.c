@@ -1,7 +1,7 @@
 /* --delta FILE: what a command changed, appended for the stations.
  *
- * The record is written while the change can still be undone, and put on the
- * disk when the image is: a copy is never ahead of its file. */
+ * The record is written before the change is in the file, while it can still be
+ * undone; one that a cut change left is taken away by the next. */
 #include "follow.h"
 
 #include <errno.h>

@@ -306,7 +306,8 @@ static const char *recover_to(const uint8_t *want, uint8_t *of_image,
 }
 
 /* Recovery of a cut call, cut too. Its writes are the stretches, if the journal
- * is marked, and the mark; which, where it is 0, is not written. */
+ * is marked, and the mark. A 0 that is written over the mark 0 is not cut: a
+ * host has nothing to recover there. */
 static const char *cut_recovery(uint32_t first)
 {
     static uint8_t second[LONGEST], second_journal[JOURNAL_MOST];
