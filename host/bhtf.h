@@ -272,12 +272,12 @@ uint32_t bhtf_compact_listed(uint8_t *image, size_t image_len, uint8_t *work,
  * times. Stack: as the plain call, so bhtf_compact_journaled up to 1,344 KiB.
  *
  * Storage that loses power. bhtf_file.h does what follows. The order is that
- * of writes to memory. For memory that keeps its bytes, and for files that are mapped shared where only
- * the process may be killed, it is enough. But a system writes the pages of
- * mapped files in any order, so that a power cut may find the image's on the
- * disk and the journal's not. There, call on an image and a journal in memory,
- * and then bring them to the disk in four steps, each of which must be there
- * (fsync, or msync with MS_SYNC) before the next begins:
+ * of writes to memory. For memory that keeps its bytes, and for files that are
+ * mapped shared where only the process may be killed, it is enough. But a
+ * system writes the pages of mapped files in any order, so that a power cut may
+ * find the image's on the disk and the journal's not. There, call on an image
+ * and a journal in memory, and then bring them to the disk in four steps, each
+ * of which must be there (fsync, or msync with MS_SYNC) before the next begins:
  *   1. the journal's content, with the mark still 0;
  *   2. the mark, BHTF_MARKED;
  *   3. the stretches that the journal's pairs name, to the image;
