@@ -97,7 +97,7 @@ static struct round each_name(struct image *i, const char *text,
 
 static int create(struct results *r, struct image *i, const char *path)
 {
-    int made = image_create(i, path, FILE_SIZE) == 0;
+    int made = image_create(i, path, FILE_SIZE, 1) == 0;
 
     test(r, made, "the file is created");
     if (!made)
@@ -149,6 +149,7 @@ static void read_all(struct results *r, struct image *i, const char *text)
 
 int main(int argc, char **argv)
 {
+    const struct manner to_read = { 0, 0, 1 };
     struct results r = { 0, 0 };
     struct image i;
     char text[TEXT + 1];
@@ -164,10 +165,10 @@ int main(int argc, char **argv)
         read_all(&r, &i, text);
         test(&r, image_close(&i) == 0, "the file is closed");
     }
-    if (image_open(&i, argv[1], 0, 0) == 0) {
+    if (image_open(&i, argv[1], to_read) == 0) {
         puts("opened again, to be read:");
         read_all(&r, &i, text);
-        image_close(&i);
+        image_drop(&i);
     } else {
         test(&r, 0, "the file is opened again");
     }
