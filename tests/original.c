@@ -151,7 +151,7 @@ int main(int argc, char **argv)
 {
     const struct manner to_read = { 0, 0, 1 };
     struct results r = { 0, 0 };
-    struct image i;
+    struct image i = { 0 };
     char text[TEXT + 1];
 
     if (argc != 2) {
