@@ -1,7 +1,7 @@
 /* --delta FILE: what a command changed, appended for the stations.
  *
- * The record is written before the change is in the file, while it can still be
- * undone; one that a cut change left is taken away by the next. */
+ * The record is on the disk before the change is in the file, while it can
+ * still be undone; one that a cut change left is taken away by the next. */
 #include "follow.h"
 
 #include <errno.h>
@@ -218,21 +218,22 @@ static int put_on_disk(const struct follow *f)
     return error == 0 ? 0 : fail(f, "cannot be written to the disk");
 }
 
-/* Of an image that did change. */
+/* Of an image that did change. A record whose change may be in the file, or be
+ * finished there by the next command, stays. */
 static int close_changed(struct follow *f, struct image *i)
 {
-    if (append(f, i) != 0) {
+    int done;
+
+    if (append(f, i) != 0 || (i->sync && put_on_disk(f) != 0)) {
         take_record_back(f);
         image_drop(i);
         complain("%s: is as it was", i->path);
         return -1;
     }
-    if (image_close(i) != 0) {
+    done = image_close(i);
+    if (!i->committed && !i->unsure)
         take_record_back(f);
-        return -1;
-    }
-    f->committed = 1;
-    return i->sync ? put_on_disk(f) : 0;
+    return done;
 }
 
 int follow_close(struct follow *f, struct image *i)
@@ -241,12 +242,8 @@ int follow_close(struct follow *f, struct image *i)
 
     if (f == NULL)
         return image_close(i);
-    if (f->path != NULL && memcmp(f->copy.bytes, i->bytes, i->length) != 0) {
-        done = close_changed(f, i);
-    } else {
-        done = image_close(i);
-        f->committed = done == 0;
-    }
+    done = f->path != NULL && memcmp(f->copy.bytes, i->bytes, i->length) != 0
+        ? close_changed(f, i) : image_close(i);
     close_records(f);
     return done;
 }

@@ -545,8 +545,9 @@ static uint32_t commit(bhtf_file *f)
     f->batch = 0;
     f->kept += f->run_bytes + f->run_count * (uint64_t)LAYER_PAGE;
     if (f->kept > KEPT_BYTES)
-        return map_anew(f);
-    forget_changes(f);
+        map_anew(f); /* where it cannot, the next call is told */
+    else
+        forget_changes(f);
     return BHTF_ACCEPTED;
 }
 

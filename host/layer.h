@@ -29,6 +29,7 @@ struct bhtf_file {
     int paused;
     int batch;
     int broken;
+    int unsure;           /* whether the last change is in the file */
     int recovered;
     /* what was changed and not yet committed */
     uint8_t *touched;     /* a bit for each page */

@@ -226,7 +226,7 @@ fault "the mark taken away before the file is flushed" layer_journal.c '    if (
 fault "no mark" layer_journal.c 'error = set_mark(f, MARK);' 'error = 0;' 3
 fault "new content before mark 0 is flushed" layer_journal.c '    if (f->unmarked)
         error = flush(f, f->journal);
-    f->unmarked = 0;' '    f->unmarked = 0;' 9
+    if (error != 0) {' '    if (error != 0) {' 9
 fault "the journal's name not flushed" layer_journal.c 'error = layer_sync_directory(f->directory);' 'error = 0;' 3
 fault "a reader that does not look for a journal" layer.c '            number = layer_journal_read(f);
         if (number != BHTF_FILE_REPLACED ||' '            number = 0;
