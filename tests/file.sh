@@ -160,6 +160,23 @@ else
   echo "no small disk can be mounted here"
 fi
 
+# ---- a command whose disk fails when its change is made ----
+
+office=$work/office changes=$work/changes copy=$work/copy.bhtf
+failing() { LD_PRELOAD=$work/programs/failing.so FAILS=$1 "${@:2}"; }
+"$bhtf" create "$office" --key-size 12 --slots 100 && cp "$office" "$copy"
+sed 's/brass/steel/' host/site.csv >"$work/steel.csv"
+gives "a journal that cannot be removed" 2 'office: cannot be closed' failing unlink "$bhtf" add "$office" A x --delta "$changes"
+"$bhtf" add "$office" B y --delta "$changes"
+gives "an import says then what it stored" 2 '^12 points stored' failing unlink "$bhtf" import "$office" host/site.csv --delta "$changes"
+gives "a disk that fails when the mark is there" 2 'whether its points are stored in .* is told' \
+  failing 3 "$bhtf" import "$office" "$work/steel.csv" --replace --delta "$changes"
+gives "the next command finishes that; its own change fails" 2 'nothing was stored' \
+  failing 4 "$bhtf" import "$office" host/site.csv --replace --delta "$changes"
+gives "each change that was made has its record, and no other" 0 '^4 records applied' "$bhtf" apply "$copy" "$changes"
+holds "which lead to the file" cmp "$office" "$copy"
+gives "as it should be" 0 steel "$bhtf" get "$office" CP-101
+
 # ---- seeded faults ----
 
 station=${LIB:-target/staticlib/libstation.a}
