@@ -878,7 +878,7 @@ uint32_t layer_journal_close(bhtf_file *f)
 
     if (f->journal < 0)
         return BHTF_ACCEPTED;
-    if (!f->broken) {
+    if (!f->broken && layer_is_owner(f)) {
         if (f->unmarked)
             error = flush(f, f->journal);
         if (error == 0 && stands(f) && unlink(f->journal_path) != 0)

@@ -257,7 +257,14 @@ uint32_t layer_lock_bytes(bhtf_file *f, int64_t deadline)
 
 void layer_unlock_bytes(bhtf_file *f)
 {
-    if (f->held)
+    if (f->held && layer_is_owner(f))
         give(f, bytes_lock);
     f->held = 0;
+}
+
+void layer_unlock_all(bhtf_file *f)
+{
+    layer_unlock_bytes(f);
+    if (f->writing && layer_is_owner(f))
+        give(f, writer_lock);
 }

@@ -1,4 +1,5 @@
-/* layer DIRECTORY: the calls of bhtf_file.h, one by one, and their errors.
+/* layer DIRECTORY: the calls of bhtf_file.h, one by one, and their errors. The
+ * directory is named from the root.
  * Journals of unfinished changes are made by a child that ends itself in the
  * middle of one. The last line is 'N passed, M failed'. */
 #define _GNU_SOURCE
@@ -569,6 +570,78 @@ static void try_names(void)
     holds("the new one is as it was", has(file, "A", NULL));
 }
 
+/* A link that leads to another file by now, and a process that went elsewhere
+ * since it opened one by a relative name. */
+static void try_links(const char *directory)
+{
+    char name[700];
+    uint8_t *image = malloc(SIZE);
+    uint32_t at, size;
+    size_t length;
+    bhtf_file *f;
+
+    make_fresh();
+    snprintf(name, sizeof name, "%s/current", directory);
+    unlink(name);
+    unlink(other);
+    if (image == NULL || bhtf_create(image, SIZE, KEY, 50, 3) != 0 ||
+        bhtf_add(image, SIZE, key("N"), KEY, key("new"), 3, BHTF_NEW) != 0 ||
+        bhtf_file_create(other, image, SIZE, NULL, NULL) != 0 ||
+        symlink(file, name) != 0 || chdir(directory) != 0)
+        exit(2);
+    free(image);
+    f = bhtf_file_open("current", NULL, NULL);
+    unlink(name);
+    if (f == NULL || symlink(other, name) != 0 || chdir("/") != 0)
+        exit(2);
+    holds("refresh goes with a link", bhtf_file_refresh(f) == 0 &&
+          bhtf_lookup(bhtf_file_image(f, &length), SIZE, key("N"), KEY, &at,
+                      &size) == 0);
+    unlink(name);
+    holds("and tells that it is gone", bhtf_file_refresh(f) ==
+          BHTF_FILE_SYSTEM && bhtf_file_error(f)->error == ENOENT);
+    bhtf_file_close(f);
+    unlink(other);
+}
+
+/* A child closes what it has from its parent. */
+static void try_fork(void)
+{
+    bhtf_file *f, *second;
+    int status, way[2];
+    pid_t child;
+    char byte;
+
+    make_fresh();
+    f = open_writer(NULL);
+    put(f, "A", "1");
+    if (pipe(way) != 0)
+        exit(2);
+    fflush(stdout);
+    child = fork();
+    if (child == 0)
+        _exit(bhtf_file_close(f) != 0);
+    waitpid(child, &status, 0);
+    holds("a child that closes a writer's handle leaves the journal",
+          status == 0 && is_there(journal));
+    holds("and the lock", open_writer(NULL) == NULL);
+    child = fork();
+    if (child == 0) { /* has the descriptors until it is told to end */
+        close(way[1]);
+        _exit(read(way[0], &byte, 1) != 0);
+    }
+    holds("the writer goes on", put(f, "B", "2") == 0 &&
+          bhtf_file_close(f) == 0 && !is_there(journal));
+    second = open_writer(NULL);
+    holds("and is done when it says so, whatever a child has open",
+          second != NULL);
+    if (second != NULL)
+        bhtf_file_close(second);
+    close(way[0]);
+    close(way[1]);
+    waitpid(child, &status, 0);
+}
+
 /* A name so long that no journal can stand beside it. */
 static void try_long_name(const char *directory)
 {
@@ -584,7 +657,8 @@ static void try_long_name(const char *directory)
     f = bhtf_file_open(name, &how, NULL);
     holds("is read only", f != NULL && put(f, "A", "1") == BHTF_FILE_SYSTEM &&
           bhtf_file_error(f)->error == ENAMETOOLONG);
-    bhtf_file_close(f);
+    if (f != NULL)
+        bhtf_file_close(f);
     unlink(name);
 }
 
@@ -682,7 +756,9 @@ int main(int argc, char **argv)
     try_short();
     try_damaged();
     try_long_name(argv[1]);
+    try_fork();
     try_large();
+    try_links(argv[1]);
     printf("%d passed, %d failed\n", passed, failed);
     return failed == 0 && passed > 0 ? 0 : 1;
 }
