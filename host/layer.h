@@ -14,7 +14,7 @@ struct bhtf_file {
     struct bhtf_file_how how;
     uint32_t limit;       /* of a wait, as it was asked for */
     struct bhtf_file_error why;
-    pid_t owner;          /* process; its children have other locks */
+    pid_t owner;          /* the process that opened it */
     char *path;           /* as it was given */
     char *name;           /* that, wherever the process goes */
     char *real;           /* without symbolic links: names one file */
@@ -66,8 +66,8 @@ void layer_put_error(char *words, size_t room, int error);
 /* Does the name still lead to the open file? 0 or BHTF_FILE_REPLACED. */
 uint32_t layer_ask_name(bhtf_file *f);
 
-/* Is this the process that opened it, and not one that it forked? Another may
- * close the handle, which leaves locks and journal to the first. */
+/* Is this the process that opened it, and not one that was forked since? Where
+ * that one closes the handle, locks and journal are left to the first. */
 int layer_is_owner(const bhtf_file *f);
 
 /* Puts a directory's names on the disk: 0, or errno. One that may not be read,
@@ -97,7 +97,8 @@ uint32_t layer_lock_writer(bhtf_file *f, int64_t deadline);
 uint32_t layer_lock_bytes(bhtf_file *f, int64_t deadline);
 void layer_unlock_bytes(bhtf_file *f);
 
-/* Gives all back, also where a forked process has the file open. */
+/* Before the file is closed: gives all back, though a forked process may have
+ * it open too. */
 void layer_unlock_all(bhtf_file *f);
 
 /* ---- layer_sum.c ---- */

@@ -82,11 +82,11 @@ static void head_put(uint8_t *bytes, struct head *h)
     }
 }
 
-/* What stands where a marked journal has its head: one of a journal of another
- * length, or none; one that is damaged; one that is whole. */
-enum taken { NO_HEAD, BAD_HEAD, WHOLE_HEAD };
+/* What stands where a marked journal has its head: none, or that of a journal
+ * of another length; one that is damaged; one that is whole. */
+enum found { NO_HEAD, BAD_HEAD, WHOLE_HEAD };
 
-static enum taken head_take(const uint8_t *bytes, struct head *h,
+static enum found head_take(const uint8_t *bytes, struct head *h,
                             uint64_t length)
 {
     for (int i = 0; i < HEAD_NUMBERS; i++)
@@ -192,13 +192,13 @@ static void copy_free(struct copy *c)
 
 /* Reads the head of a journal that is marked; NO_HEAD too if it is not, or if
  * the last byte only looks like a mark. 0, or errno. */
-static int take_head(int fd, struct copy *c, enum taken *taken)
+static int take_head(int fd, struct copy *c, enum found *found)
 {
     uint8_t bytes[HEAD_BYTES], mark = 0;
     struct stat about;
     int error;
 
-    *taken = NO_HEAD;
+    *found = NO_HEAD;
     if (fstat(fd, &about) != 0)
         return errno;
     if (!S_ISREG(about.st_mode) || about.st_size <= 2 * (off_t)LAYER_PAGE)
@@ -209,17 +209,17 @@ static int take_head(int fd, struct copy *c, enum taken *taken)
         return error;
     error = read_at(fd, bytes, sizeof bytes, 0);
     if (error == 0)
-        *taken = head_take(bytes, &c->head, c->length);
+        *found = head_take(bytes, &c->head, c->length);
     return error;
 }
 
 /* A writer that is done takes the mark away, and may then write another head
  * or cut the journal: so a second look is had at what is not clear. */
-static int take_clear_head(int fd, struct copy *c, enum taken *taken)
+static int take_clear_head(int fd, struct copy *c, enum found *found)
 {
-    int error = take_head(fd, c, taken);
+    int error = take_head(fd, c, found);
 
-    return error != 0 || *taken == BAD_HEAD ? take_head(fd, c, taken) : error;
+    return error != 0 || *found == BAD_HEAD ? take_head(fd, c, found) : error;
 }
 
 /* Between the making of a journal and the giving of its rights there is a
@@ -256,20 +256,20 @@ static int is_absence(int error)
 /* Opens the journal if it holds an unfinished change: *fd is -1 if not. */
 static uint32_t open_unfinished(bhtf_file *f, int *fd, struct copy *c)
 {
-    enum taken taken;
+    enum found found;
     int error;
 
     *fd = open_to_read(f);
     if (*fd < 0)
         return is_absence(errno) ? BHTF_ACCEPTED : unknown(f, "opened", errno);
-    error = take_clear_head(*fd, c, &taken);
-    if (error == 0 && taken == WHOLE_HEAD)
+    error = take_clear_head(*fd, c, &found);
+    if (error == 0 && found == WHOLE_HEAD)
         return BHTF_ACCEPTED;
     close(*fd);
     *fd = -1;
     if (error != 0)
         return unknown(f, "read", error);
-    return taken == BAD_HEAD ? damaged(f) : BHTF_ACCEPTED;
+    return found == BAD_HEAD ? damaged(f) : BHTF_ACCEPTED;
 }
 
 static uint32_t read_copy(bhtf_file *f, int fd, struct copy *c)
@@ -392,14 +392,14 @@ static uint32_t recover_own(bhtf_file *f, struct copy *c)
 static uint32_t use_copy(bhtf_file *f, int fd, struct copy *c)
 {
     struct copy now = { NULL, 0, { { 0 } } };
-    enum taken taken;
-    int error = take_clear_head(fd, &now, &taken);
+    enum found found;
+    int error = take_clear_head(fd, &now, &found);
 
     if (error != 0)
         return unknown(f, "read", error);
-    if (taken == NO_HEAD)
+    if (found == NO_HEAD)
         return BHTF_ACCEPTED;
-    if (taken == BAD_HEAD || now.length != c->length ||
+    if (found == BAD_HEAD || now.length != c->length ||
         memcmp(&now.head, &c->head, sizeof now.head) != 0)
         return damaged(f);
     return f->length == 0 ? foreign(f) : recover_own(f, c);
@@ -438,7 +438,7 @@ static int is_unused(int fd)
 {
     struct copy c = { NULL, 0, { { 0 } } };
     uint8_t first[sizeof magic];
-    enum taken taken;
+    enum found found;
     struct stat about;
 
     if (fstat(fd, &about) != 0 || !S_ISREG(about.st_mode))
@@ -446,7 +446,7 @@ static int is_unused(int fd)
     if (about.st_size == 0)
         return 1;
     return read_at(fd, first, sizeof first, 0) == 0 && is_beginning(first) &&
-           take_head(fd, &c, &taken) == 0 && taken == NO_HEAD;
+           take_head(fd, &c, &found) == 0 && found == NO_HEAD;
 }
 
 /* Is what has the journal's name what a writer that was killed left there, or

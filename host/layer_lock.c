@@ -257,14 +257,17 @@ uint32_t layer_lock_bytes(bhtf_file *f, int64_t deadline)
 
 void layer_unlock_bytes(bhtf_file *f)
 {
-    if (f->held && layer_is_owner(f))
+    if (f->held)
         give(f, bytes_lock);
     f->held = 0;
 }
 
 void layer_unlock_all(bhtf_file *f)
 {
-    layer_unlock_bytes(f);
-    if (f->writing && layer_is_owner(f))
-        give(f, writer_lock);
+    if (layer_is_owner(f)) {
+        layer_unlock_bytes(f);
+        if (f->writing)
+            give(f, writer_lock);
+    }
+    f->held = 0;
 }

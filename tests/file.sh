@@ -176,6 +176,16 @@ gives "the next command finishes that; its own change fails" 2 'nothing was stor
 gives "each change that was made has its record, and no other" 0 '^4 records applied' "$bhtf" apply "$copy" "$changes"
 holds "which lead to the file" cmp "$office" "$copy"
 gives "as it should be" 0 steel "$bhtf" get "$office" CP-101
+if [ "$(id -u)" -eq 0 ]; then
+  mkdir "$work/group"
+  cp "$office" "$work/group/site"
+  chown -R 65533:2000 "$work/group"
+  chmod 775 "$work/group" "$work/programs"
+  chmod 664 "$work/group/site"
+  gives "a writer that is of the file's group" 2 'site: cannot be closed' \
+    failing unlink setpriv --reuid 65534 --regid 65534 --groups 2000 "$bhtf" add "$work/group/site" C z
+  gives "makes a journal for the group" 0 '^2000 664$' stat -c '%g %a' "$work/group/site.journal"
+fi
 
 # ---- seeded faults ----
 
@@ -244,7 +254,10 @@ fault "no mark" layer_journal.c 'error = set_mark(f, MARK);' 'error = 0;' 3
 fault "new content before mark 0 is flushed" layer_journal.c '    if (f->unmarked)
         error = flush(f, f->journal);
     if (error != 0) {' '    if (error != 0) {' 9
-fault "the journal's name not flushed" layer_journal.c 'error = layer_sync_directory(f->directory);' 'error = 0;' 3
+fault "the journal's name not flushed" layer_journal.c '!(f->how.flags & BHTF_FILE_NO_SYNC))
+        error = layer_sync_directory(f->directory);' '!(f->how.flags & BHTF_FILE_NO_SYNC))
+        error = 0;' 3
+fault "a recovery before the mark is flushed" layer_journal.c 'number = flush_found(f);' 'number = BHTF_ACCEPTED;' 99
 fault "a reader that does not look for a journal" layer.c '            number = layer_journal_read(f);
         if (number != BHTF_FILE_REPLACED ||' '            number = 0;
         if (number != BHTF_FILE_REPLACED ||' 3
