@@ -387,21 +387,34 @@ static uint32_t recover_own(bhtf_file *f, struct copy *c)
     return apply(f, own, c);
 }
 
+/* Is the mark still there? The length is asked last: a journal that was made
+ * longer has content where its mark was. 0, or errno. */
+static int ask_mark(int fd, const struct copy *c, int *is)
+{
+    uint8_t mark = 0;
+    struct stat about;
+    int error = read_at(fd, &mark, 1, c->length - 1);
+
+    *is = 0;
+    if (error != 0)
+        return error;
+    if (fstat(fd, &about) != 0)
+        return errno;
+    *is = mark == MARK && (uint64_t)about.st_size == c->length;
+    return 0;
+}
+
 /* A copy was read while a writer may have been at work: where the mark is gone
- * by now the file is whole, and content may be other content already. */
+ * by now the file is whole, and head and content may be others already. */
 static uint32_t use_copy(bhtf_file *f, int fd, struct copy *c)
 {
-    struct copy now = { NULL, 0, { { 0 } } };
-    enum found found;
-    int error = take_clear_head(fd, &now, &found);
+    int is;
+    int error = ask_mark(fd, c, &is);
 
     if (error != 0)
         return unknown(f, "read", error);
-    if (found == NO_HEAD)
+    if (!is)
         return BHTF_ACCEPTED;
-    if (found == BAD_HEAD || now.length != c->length ||
-        memcmp(&now.head, &c->head, sizeof now.head) != 0)
-        return damaged(f);
     return f->length == 0 ? foreign(f) : recover_own(f, c);
 }
 
