@@ -9,7 +9,9 @@
  * words, with errno.
  *
  * One thread at a time may use a handle. Several handles, also of one process
- * and on one file, are several readers and writers.
+ * and on one file, are several readers and writers. A process that was forked
+ * may close the handles that it has from its parent, and nothing else as long
+ * as the parent has them.
  */
 #ifndef BHTF_FILE_H
 #define BHTF_FILE_H
@@ -73,7 +75,7 @@ bhtf_file *bhtf_file_open(const char *path, const struct bhtf_file_how *how,
 /* Makes a new file of an image's bytes, as bhtf_create made them. Its name is
  * there when all of it is on the disk, and not before. Of `how` only
  * BHTF_FILE_NO_SYNC counts. BHTF_FILE_SYSTEM with EEXIST where there is a file
- * of that name. */
+ * of that name, or the journal of one that is gone. */
 uint32_t bhtf_file_create(const char *path, const uint8_t *image,
                           size_t image_len, const struct bhtf_file_how *how,
                           struct bhtf_file_error *why);
@@ -93,7 +95,8 @@ const uint8_t *bhtf_file_image(const bhtf_file *file, size_t *image_len);
 uint32_t bhtf_file_pause(bhtf_file *file);
 
 /* A reader lets writers in, if there are any, and takes the image of the last
- * whole change; of the new file, if it was replaced. */
+ * whole change; of the new file, if it was replaced, or if a symbolic link
+ * leads to another by now. */
 uint32_t bhtf_file_refresh(bhtf_file *file);
 
 /* ---- changing ---- */

@@ -1,7 +1,7 @@
 /* --delta FILE: what a command changed, appended for the stations.
  *
- * The record is written before the change is in the file, while it can still be
- * undone; one that a cut change left is taken away by the next. */
+ * The record is on the disk before the change is in the file, while it can
+ * still be undone; one that a cut change left is taken away by the next. */
 #include "follow.h"
 
 #include <errno.h>
@@ -67,33 +67,36 @@ static int refuse_records(const struct follow *f, const struct image *i,
     return -1;
 }
 
-/* Where the last record begins; -1 if there is more, or less, than records. */
-static off_t find_last(const struct follow *f)
+/* Where the last whole record begins, and where it ends: 0, or -1 if something
+ * else than the beginning of another stands behind it. */
+static int find_last(const struct follow *f, off_t *last, off_t *end)
 {
-    off_t last = 0, at = 0;
-
-    while (at < f->end) {
+    *last = *end = 0;
+    while (*end < f->end) {
         uint8_t head[DELTA_HEAD];
-        size_t size = 0;
+        size_t size, got;
+        struct delta d;
 
-        if (fseeko(f->file, at, SEEK_SET) == 0 &&
-            fread(head, 1, sizeof head, f->file) == sizeof head)
-            size = delta_size(head);
-        if (size == 0 || (uint64_t)size > (uint64_t)(f->end - at))
+        if (fseeko(f->file, *end, SEEK_SET) != 0)
             return -1;
-        last = at;
-        at += (off_t)size;
+        got = fread(head, 1, sizeof head, f->file);
+        size = got == sizeof head ? delta_size(head) : 0;
+        if (size == 0 || (uint64_t)size > (uint64_t)(f->end - *end))
+            return !ferror(f->file) && delta_read(&d, head, got) == DELTA_CUT
+                ? 0 : -1;
+        *last = *end;
+        *end += (off_t)size;
     }
-    return last;
+    return 0;
 }
 
-/* A record that was written by a command that was ended before its change was
- * made: nothing leads to it. */
-static int drop_last(struct follow *f, off_t last)
+/* A record, or its beginning, that was written by a command that was ended
+ * before its change was made: nothing leads to it. */
+static int drop_behind(struct follow *f, off_t end)
 {
-    if (ftruncate(fileno(f->file), last) != 0)
+    if (ftruncate(fileno(f->file), end) != 0)
         return fail(f, "cannot be written to");
-    f->end = last;
+    f->end = end;
     complain("%s: warning: its last record was of a change that was cut short, "
              "and is taken away", f->path);
     return 0;
@@ -103,22 +106,24 @@ static int drop_last(struct follow *f, off_t last)
 static int ask_last(struct follow *f, const struct image *i,
                     struct buffer *bytes)
 {
-    off_t last = find_last(f);
+    off_t last, end;
     struct delta d;
 
-    if (last < 0)
+    if (find_last(f, &last, &end) != 0 || end == 0)
         return refuse_records(f, i, "not a file of whole records");
     if (fseeko(f->file, last, SEEK_SET) != 0 ||
-        buffer_read(bytes, f->file, (size_t)(f->end - last)) != 0)
+        buffer_read(bytes, f->file, (size_t)(end - last)) != 0)
         return fail(f, "cannot be read");
     if (delta_read(&d, bytes->bytes, bytes->length) != DELTA_RECORD)
         return refuse_records(f, i, "its last record is damaged");
     if (memcmp(d.after, f->before.sum, SHA256_SIZE) == 0)
-        return 0;
+        return end == f->end ? 0 : drop_behind(f, end);
+    if (end < f->end)
+        return refuse_records(f, i, "not a file of whole records");
     if (memcmp(d.before, f->before.sum, SHA256_SIZE) != 0)
         return refuse_records(f, i, "its last record leads to another file, or "
                                     "there was a change without --delta since");
-    return drop_last(f, last);
+    return drop_behind(f, last);
 }
 
 static int ask_records(struct follow *f, const struct image *i)
@@ -218,21 +223,22 @@ static int put_on_disk(const struct follow *f)
     return error == 0 ? 0 : fail(f, "cannot be written to the disk");
 }
 
-/* Of an image that did change. */
+/* Of an image that did change. A record whose change may be in the file, or be
+ * finished there by the next command, stays. */
 static int close_changed(struct follow *f, struct image *i)
 {
-    if (append(f, i) != 0) {
+    int done;
+
+    if (append(f, i) != 0 || (i->sync && put_on_disk(f) != 0)) {
         take_record_back(f);
         image_drop(i);
         complain("%s: is as it was", i->path);
         return -1;
     }
-    if (image_close(i) != 0) {
+    done = image_close(i);
+    if (!i->committed && !i->unsure)
         take_record_back(f);
-        return -1;
-    }
-    f->committed = 1;
-    return i->sync ? put_on_disk(f) : 0;
+    return done;
 }
 
 int follow_close(struct follow *f, struct image *i)
@@ -241,12 +247,8 @@ int follow_close(struct follow *f, struct image *i)
 
     if (f == NULL)
         return image_close(i);
-    if (f->path != NULL && memcmp(f->copy.bytes, i->bytes, i->length) != 0) {
-        done = close_changed(f, i);
-    } else {
-        done = image_close(i);
-        f->committed = done == 0;
-    }
+    done = f->path != NULL && memcmp(f->copy.bytes, i->bytes, i->length) != 0
+        ? close_changed(f, i) : image_close(i);
     close_records(f);
     return done;
 }

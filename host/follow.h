@@ -14,7 +14,6 @@ struct follow {
     off_t end;            /* its length before */
     struct buffer copy;   /* the image before the change */
     struct state before;  /* of that copy */
-    int committed;        /* the change is in the file */
 };
 
 /* What answers an int answers 0, or -1 after a complaint. */

@@ -119,10 +119,11 @@ static int name_new(struct image *i)
     return layer_new_end(created) == BHTF_ACCEPTED ? 0 : fail(&i->why);
 }
 
-static int commit(const struct image *i)
+static int commit(struct image *i)
 {
-    return bhtf_file_commit(i->file) == BHTF_ACCEPTED
-        ? 0 : fail(bhtf_file_error(i->file));
+    i->committed = bhtf_file_commit(i->file) == BHTF_ACCEPTED;
+    i->unsure = !i->committed && i->file->unsure;
+    return i->committed ? 0 : fail(bhtf_file_error(i->file));
 }
 
 static int close_file(struct image *i)

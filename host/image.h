@@ -19,6 +19,8 @@ struct image {
     size_t length;
     int writing;     /* opened to be changed */
     int sync;        /* changes are on the disk when they are told */
+    int committed;   /* closing brought the change to the file */
+    int unsure;      /* whether it did: the disk failed on the way */
     const volatile sig_atomic_t *stop; /* ends a wait for locks; may be NULL */
     struct bhtf_file_error why; /* a new one cannot be made */
 };
@@ -43,7 +45,8 @@ int image_open(struct image *i, const char *path, struct manner how);
 uint8_t *image_writable(struct image *i);
 
 /* Brings what was changed to the file, as one change, and gives the locks
- * back. */
+ * back. Of an opened file that may fail behind the change: `committed` and
+ * `unsure` tell what became of it. */
 int image_close(struct image *i);
 
 /* Closes it; what was changed is forgotten, and so is a file just created. */

@@ -56,6 +56,7 @@ struct import {
     int first;               /* no record was read yet */
     int end;                 /* the input has no more */
     int warned;              /* of a name that is not UTF-8 */
+    int failed;              /* not the line, but what stores it */
     unsigned long stored;
     unsigned long replaced;  /* of these */
     unsigned long swapped;   /* of these: look as if E and N were */
@@ -123,7 +124,7 @@ static int goes_on(struct import *m, int status, unsigned long line)
 {
     if (status == DONE)
         return 1;
-    if ((!is_dry(m) && !keeps_going(m)) || m->columns.fields == 0)
+    if ((!is_dry(m) && !keeps_going(m)) || m->columns.fields == 0 || m->failed)
         return 0;
     m->refused++;
     if (m->stop_line == 0 || line < m->stop_line) {
@@ -457,6 +458,16 @@ static int refuse_line(struct import *m, const struct point *p,
     return REFUSED;
 }
 
+/* What the file layer answers besides the library's numbers is no matter of
+ * the line: no other would be stored. */
+static int fail_storing(struct import *m)
+{
+    m->failed = 1;
+    progress_end(&m->progress);
+    complain("%s", bhtf_file_error(m->image.file)->words);
+    return TROUBLE;
+}
+
 static void note_stored(struct import *m, const struct point *p, int present)
 {
     m->stored++;
@@ -481,6 +492,8 @@ static int store_point(struct import *m, const struct point *p)
         present = bhtf_lookup(to.image, to.length, m->key.bytes,
                               m->key.length, &offset, &size) == BHTF_ACCEPTED;
     number = store(to, &m->key, p->none ? NULL : &text, mode_of(m->o), &read);
+    if (number >= BHTF_FILE_SYSTEM)
+        return fail_storing(m);
     if (number != BHTF_ACCEPTED)
         return refuse_line(m, p, number);
     note_stored(m, p, present);
@@ -577,11 +590,14 @@ static int report_dry_run(struct import *m, int status)
 
 static int report_import(const struct import *m, int status)
 {
-    if (!m->follow.committed) {
+    if (m->image.unsure)
+        complain("%s: whether its points are stored in %s is told when that is "
+                 "read again", m->input, m->o->word[0]);
+    else if (!m->image.committed)
         complain("%s: import stopped: nothing was stored in %s", m->input,
                  m->o->word[0]);
+    if (!m->image.committed)
         return status;
-    }
     if (status == DONE)
         status = m->stop_status;
     if (m->refused > 0)
@@ -755,7 +771,7 @@ static int import_points(struct import *m)
         follow_drop(&m->follow, &m->image);
     else if (follow_close(&m->follow, &m->image) != 0)
         status = TROUBLE;
-    if (m->follow.committed) {
+    if (m->image.committed) {
         say_version(m->o->word[0], m->version, now);
         warn_of_swapped(m);
     }

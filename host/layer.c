@@ -103,15 +103,28 @@ int layer_sync_directory(const char *path)
     return error == EACCES || error == EINVAL ? 0 : error;
 }
 
-uint32_t layer_ask_name(bhtf_file *f)
+static int leads_here(const bhtf_file *f, const char *name)
 {
     struct stat ours, there;
 
-    if (fstat(f->fd, &ours) == 0 && stat(f->real, &there) == 0 &&
-        ours.st_dev == there.st_dev && ours.st_ino == there.st_ino)
-        return BHTF_ACCEPTED;
+    return fstat(f->fd, &ours) == 0 && stat(name, &there) == 0 &&
+           ours.st_dev == there.st_dev && ours.st_ino == there.st_ino;
+}
+
+static uint32_t replaced(bhtf_file *f)
+{
     return layer_fail(f, BHTF_FILE_REPLACED, 0, "another program removed or "
                       "replaced the file while it was in use");
+}
+
+uint32_t layer_ask_name(bhtf_file *f)
+{
+    return leads_here(f, f->real) ? BHTF_ACCEPTED : replaced(f);
+}
+
+int layer_is_owner(const bhtf_file *f)
+{
+    return getpid() == f->owner;
 }
 
 static char *join_words(const char *a, size_t length, const char *b)
@@ -145,6 +158,21 @@ static int take_names(bhtf_file *f, char *real)
     return f->journal_path != NULL && f->directory != NULL ? 0 : -1;
 }
 
+/* The path from the root, or as it is where nobody knows the way to it. */
+static char *absolute(const char *path)
+{
+    char *here = path[0] == '/' ? NULL : getcwd(NULL, 0);
+    char *start, *whole;
+
+    if (here == NULL)
+        return join_words(path, strlen(path), "");
+    start = join_words(here, strlen(here), "/");
+    whole = start == NULL ? NULL : join_words(start, strlen(start), path);
+    free(start);
+    free(here);
+    return whole;
+}
+
 /* ---- a handle ---- */
 
 static bhtf_file *make_handle(const char *path, const struct bhtf_file_how *how)
@@ -160,9 +188,13 @@ static bhtf_file *make_handle(const char *path, const struct bhtf_file_how *how)
     f->fd = -1;
     f->journal = -1;
     f->image = &f->none;
+    f->owner = getpid();
     f->path = join_words(path, strlen(path), "");
-    if (f->path != NULL)
+    f->name = absolute(path);
+    if (f->path != NULL && f->name != NULL)
         return f;
+    free(f->path);
+    free(f->name);
     free(f);
     return NULL;
 }
@@ -191,9 +223,10 @@ static uint32_t release(bhtf_file *f)
     int failed = 0;
 
     unmap(f);
-    layer_unlock_bytes(f);
-    if (f->fd >= 0)
+    if (f->fd >= 0) {
+        layer_unlock_all(f);
         failed = close(f->fd);
+    }
     f->fd = -1;
     return failed ? system_failed(f, "cannot be closed") : BHTF_ACCEPTED;
 }
@@ -202,6 +235,7 @@ static void free_handle(bhtf_file *f)
 {
     release(f);
     free(f->path);
+    free(f->name);
     free(f->real);
     free(f->journal_path);
     free(f->directory);
@@ -244,7 +278,7 @@ static uint32_t learn_length(bhtf_file *f)
 
 static uint32_t open_name(bhtf_file *f)
 {
-    char *real = realpath(f->path, NULL);
+    char *real = realpath(f->name, NULL);
 
     if (real == NULL)
         return system_failed(f, "cannot open");
@@ -381,6 +415,8 @@ static uint32_t resume(bhtf_file *f, int64_t deadline)
 
     if (number == BHTF_ACCEPTED)
         number = layer_ask_name(f);
+    if (number == BHTF_ACCEPTED && !leads_here(f, f->name))
+        number = replaced(f);
     if (number == BHTF_ACCEPTED)
         number = learn_length(f);
     if (number != BHTF_ACCEPTED)
@@ -545,8 +581,9 @@ static uint32_t commit(bhtf_file *f)
     f->batch = 0;
     f->kept += f->run_bytes + f->run_count * (uint64_t)LAYER_PAGE;
     if (f->kept > KEPT_BYTES)
-        return map_anew(f);
-    forget_changes(f);
+        map_anew(f); /* where it cannot, the next call is told */
+    else
+        forget_changes(f);
     return BHTF_ACCEPTED;
 }
 

@@ -14,7 +14,9 @@ struct bhtf_file {
     struct bhtf_file_how how;
     uint32_t limit;       /* of a wait, as it was asked for */
     struct bhtf_file_error why;
+    pid_t owner;          /* the process that opened it */
     char *path;           /* as it was given */
+    char *name;           /* that, wherever the process goes */
     char *real;           /* without symbolic links: names one file */
     char *journal_path;   /* beside that */
     char *directory;
@@ -29,6 +31,7 @@ struct bhtf_file {
     int paused;
     int batch;
     int broken;
+    int unsure;           /* whether the last change is in the file */
     int recovered;
     /* what was changed and not yet committed */
     uint8_t *touched;     /* a bit for each page */
@@ -63,6 +66,10 @@ void layer_put_error(char *words, size_t room, int error);
 /* Does the name still lead to the open file? 0 or BHTF_FILE_REPLACED. */
 uint32_t layer_ask_name(bhtf_file *f);
 
+/* Is this the process that opened it, and not one that was forked since? Where
+ * that one closes the handle, locks and journal are left to the first. */
+int layer_is_owner(const bhtf_file *f);
+
 /* Puts a directory's names on the disk: 0, or errno. One that may not be read,
  * or that its file system does not write on demand, is left to the system. */
 int layer_sync_directory(const char *path);
@@ -89,6 +96,10 @@ int64_t layer_deadline(const bhtf_file *f);
 uint32_t layer_lock_writer(bhtf_file *f, int64_t deadline);
 uint32_t layer_lock_bytes(bhtf_file *f, int64_t deadline);
 void layer_unlock_bytes(bhtf_file *f);
+
+/* Before the file is closed: gives all back, though a forked process may have
+ * it open too. */
+void layer_unlock_all(bhtf_file *f);
 
 /* ---- layer_sum.c ---- */
 

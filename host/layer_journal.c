@@ -82,15 +82,21 @@ static void head_put(uint8_t *bytes, struct head *h)
     }
 }
 
-/* Is this a whole head of a journal of that length? */
-static int head_take(const uint8_t *bytes, struct head *h, uint64_t length)
+/* What stands where a marked journal has its head: none, or that of a journal
+ * of another length; one that is damaged; one that is whole. */
+enum found { NO_HEAD, BAD_HEAD, WHOLE_HEAD };
+
+static enum found head_take(const uint8_t *bytes, struct head *h,
+                            uint64_t length)
 {
     for (int i = 0; i < HEAD_NUMBERS; i++)
         h->number[i] = (uint64_t)layer_u32(bytes + 8 + 8 * i) << 32 |
                        layer_u32(bytes + 12 + 8 * i);
-    return memcmp(bytes, magic, sizeof magic) == 0 &&
-           h->number[HEAD_SUM] == head_sum(bytes) &&
-           h->number[JOURNAL_LENGTH] == length;
+    if (memcmp(bytes, magic, sizeof magic) != 0)
+        return NO_HEAD;
+    if (h->number[HEAD_SUM] != head_sum(bytes))
+        return BAD_HEAD;
+    return h->number[JOURNAL_LENGTH] == length ? WHOLE_HEAD : NO_HEAD;
 }
 
 /* ---- the journal's bytes ---- */
@@ -184,27 +190,36 @@ static void copy_free(struct copy *c)
     c->bytes = NULL;
 }
 
-static int is_marked(int fd, uint64_t length)
+/* Reads the head of a journal that is marked; NO_HEAD too if it is not, or if
+ * the last byte only looks like a mark. 0, or errno. */
+static int take_head(int fd, struct copy *c, enum found *found)
 {
-    uint8_t mark = 0;
-
-    return read_at(fd, &mark, 1, length - 1) == 0 && mark == MARK;
-}
-
-/* Reads the head of a journal that is marked: 1 if it is whole, and 0 if the
- * last byte only looks like a mark. */
-static int take_head(int fd, struct copy *c)
-{
-    uint8_t bytes[HEAD_BYTES];
+    uint8_t bytes[HEAD_BYTES], mark = 0;
     struct stat about;
+    int error;
 
-    if (fstat(fd, &about) != 0 || !S_ISREG(about.st_mode) ||
-        about.st_size <= 2 * (off_t)LAYER_PAGE)
+    *found = NO_HEAD;
+    if (fstat(fd, &about) != 0)
+        return errno;
+    if (!S_ISREG(about.st_mode) || about.st_size <= 2 * (off_t)LAYER_PAGE)
         return 0;
     c->length = (uint64_t)about.st_size;
-    return is_marked(fd, c->length) &&
-           read_at(fd, bytes, sizeof bytes, 0) == 0 &&
-           head_take(bytes, &c->head, c->length);
+    error = read_at(fd, &mark, 1, c->length - 1);
+    if (error != 0 || mark != MARK)
+        return error;
+    error = read_at(fd, bytes, sizeof bytes, 0);
+    if (error == 0)
+        *found = head_take(bytes, &c->head, c->length);
+    return error;
+}
+
+/* A writer that is done takes the mark away, and may then write another head
+ * or cut the journal: so a second look is had at what is not clear. */
+static int take_clear_head(int fd, struct copy *c, enum found *found)
+{
+    int error = take_head(fd, c, found);
+
+    return error != 0 || *found == BAD_HEAD ? take_head(fd, c, found) : error;
 }
 
 /* Between the making of a journal and the giving of its rights there is a
@@ -225,21 +240,36 @@ static int open_to_read(const bhtf_file *f)
     return fd;
 }
 
+static uint32_t unknown(bhtf_file *f, const char *what, int error)
+{
+    return layer_fail(f, BHTF_FILE_SYSTEM, error,
+                      "nobody knows whether it is whole: its journal %s "
+                      "cannot be %s", f->journal_path, what);
+}
+
+/* No file has the journal's name; none can, where it is too long. */
+static int is_absence(int error)
+{
+    return error == ENOENT || error == ENAMETOOLONG;
+}
+
 /* Opens the journal if it holds an unfinished change: *fd is -1 if not. */
 static uint32_t open_unfinished(bhtf_file *f, int *fd, struct copy *c)
 {
+    enum found found;
+    int error;
+
     *fd = open_to_read(f);
     if (*fd < 0)
-        return errno == ENOENT
-            ? BHTF_ACCEPTED
-            : layer_fail(f, BHTF_FILE_SYSTEM, errno,
-                         "nobody knows whether it is whole: its journal %s "
-                         "cannot be opened", f->journal_path);
-    if (!take_head(*fd, c)) {
-        close(*fd);
-        *fd = -1;
-    }
-    return BHTF_ACCEPTED;
+        return is_absence(errno) ? BHTF_ACCEPTED : unknown(f, "opened", errno);
+    error = take_clear_head(*fd, c, &found);
+    if (error == 0 && found == WHOLE_HEAD)
+        return BHTF_ACCEPTED;
+    close(*fd);
+    *fd = -1;
+    if (error != 0)
+        return unknown(f, "read", error);
+    return found == BAD_HEAD ? damaged(f) : BHTF_ACCEPTED;
 }
 
 static uint32_t read_copy(bhtf_file *f, int fd, struct copy *c)
@@ -357,6 +387,37 @@ static uint32_t recover_own(bhtf_file *f, struct copy *c)
     return apply(f, own, c);
 }
 
+/* Is the mark still there? The length is asked last: a journal that was made
+ * longer has content where its mark was. 0, or errno. */
+static int ask_mark(int fd, const struct copy *c, int *is)
+{
+    uint8_t mark = 0;
+    struct stat about;
+    int error = read_at(fd, &mark, 1, c->length - 1);
+
+    *is = 0;
+    if (error != 0)
+        return error;
+    if (fstat(fd, &about) != 0)
+        return errno;
+    *is = mark == MARK && (uint64_t)about.st_size == c->length;
+    return 0;
+}
+
+/* A copy was read while a writer may have been at work: where the mark is gone
+ * by now the file is whole, and head and content may be others already. */
+static uint32_t use_copy(bhtf_file *f, int fd, struct copy *c)
+{
+    int is;
+    int error = ask_mark(fd, c, &is);
+
+    if (error != 0)
+        return unknown(f, "read", error);
+    if (!is)
+        return BHTF_ACCEPTED;
+    return f->length == 0 ? foreign(f) : recover_own(f, c);
+}
+
 uint32_t layer_journal_read(bhtf_file *f)
 {
     struct copy c = { NULL, 0, { { 0 } } };
@@ -367,10 +428,8 @@ uint32_t layer_journal_read(bhtf_file *f)
     if (number != BHTF_ACCEPTED || fd < 0)
         return number;
     number = read_copy(f, fd, &c);
-    /* A writer that is done takes the mark away, and may write other content
-     * then. The file is whole in that case. */
-    if (number == BHTF_ACCEPTED && is_marked(fd, c.length))
-        number = f->length == 0 ? foreign(f) : recover_own(f, &c);
+    if (number == BHTF_ACCEPTED)
+        number = use_copy(f, fd, &c);
     copy_free(&c);
     close(fd);
     return number;
@@ -387,21 +446,33 @@ static int is_beginning(const uint8_t *first)
     return 1;
 }
 
+/* Is this empty, or a journal without an unfinished change? */
+static int is_unused(int fd)
+{
+    struct copy c = { NULL, 0, { { 0 } } };
+    uint8_t first[sizeof magic];
+    enum found found;
+    struct stat about;
+
+    if (fstat(fd, &about) != 0 || !S_ISREG(about.st_mode))
+        return 0;
+    if (about.st_size == 0)
+        return 1;
+    return read_at(fd, first, sizeof first, 0) == 0 && is_beginning(first) &&
+           take_head(fd, &c, &found) == 0 && found == NO_HEAD;
+}
+
 /* Is what has the journal's name what a writer that was killed left there, or
  * nothing? */
 static int is_leavings(const bhtf_file *f)
 {
-    uint8_t first[sizeof magic];
-    struct stat about;
     int fd = open(f->journal_path, O_RDONLY | O_CLOEXEC | O_NONBLOCK |
                   O_NOFOLLOW);
     int is;
 
     if (fd < 0)
-        return errno == ENOENT;
-    is = fstat(fd, &about) == 0 && S_ISREG(about.st_mode) &&
-         (about.st_size == 0 || (read_at(fd, first, sizeof first, 0) == 0 &&
-                                 is_beginning(first)));
+        return is_absence(errno);
+    is = is_unused(fd);
     close(fd);
     return is;
 }
@@ -421,6 +492,7 @@ static int set_mark(const bhtf_file *f, uint8_t mark)
 static uint32_t disk_failed(bhtf_file *f, int error)
 {
     f->broken = 1;
+    f->unsure = 1;
     return layer_fail(f, BHTF_FILE_SYSTEM, error,
                       "cannot be written to the disk; whether the change is "
                       "there is told when the file is opened again");
@@ -446,6 +518,18 @@ static uint32_t finish_change(bhtf_file *f)
     return BHTF_ACCEPTED;
 }
 
+/* A writer that was killed may not have flushed its mark, nor one that never
+ * flushes anything: before the file is written to, all of it is on the disk. */
+static uint32_t flush_found(bhtf_file *f)
+{
+    int error = flush(f, f->journal);
+
+    if (error == 0)
+        error = layer_sync_directory(f->directory);
+    return error == 0 ? BHTF_ACCEPTED
+                      : fail_on_journal(f, "cannot be written", error);
+}
+
 /* Finishes the change of a writer that is gone. */
 static uint32_t redo(bhtf_file *f, struct copy *c, int64_t deadline)
 {
@@ -455,6 +539,8 @@ static uint32_t redo(bhtf_file *f, struct copy *c, int64_t deadline)
         return number;
     number = ask_copy(f, c, f->disk);
     if (number == BHTF_ACCEPTED)
+        number = flush_found(f);
+    if (number == BHTF_ACCEPTED)
         number = apply(f, f->disk, c);
     layer_unlock_bytes(f);
     if (number != BHTF_ACCEPTED)
@@ -462,6 +548,19 @@ static uint32_t redo(bhtf_file *f, struct copy *c, int64_t deadline)
     f->recovered = 1;
     number = finish_change(f);
     return number == BHTF_ACCEPTED ? layer_journal_close(f) : number;
+}
+
+/* The change was another's, who may have been told that it is on the disk: it
+ * is flushed whatever this handle asks for its own. */
+static uint32_t redo_flushed(bhtf_file *f, struct copy *c, int64_t deadline)
+{
+    uint32_t flags = f->how.flags;
+    uint32_t number;
+
+    f->how.flags &= ~BHTF_FILE_NO_SYNC;
+    number = redo(f, c, deadline);
+    f->how.flags = flags;
+    return number;
 }
 
 uint32_t layer_journal_recover(bhtf_file *f, int64_t deadline)
@@ -478,10 +577,10 @@ uint32_t layer_journal_recover(bhtf_file *f, int64_t deadline)
     number = f->length == 0 ? foreign(f) : read_copy(f, fd, &c);
     close(fd);
     if (number == BHTF_ACCEPTED) {
-        f->journal = open(f->journal_path, O_RDWR | O_CLOEXEC);
+        f->journal = open(f->journal_path, O_RDWR | O_CLOEXEC | O_NOFOLLOW);
         f->room = c.length;
         number = f->journal >= 0
-            ? redo(f, &c, deadline)
+            ? redo_flushed(f, &c, deadline)
             : layer_fail(f, BHTF_FILE_SYSTEM, errno,
                          "its journal %s has an unfinished change, and cannot "
                          "be opened", f->journal_path);
@@ -495,16 +594,31 @@ uint32_t layer_journal_recover(bhtf_file *f, int64_t deadline)
 
 /* ---- a change: the journal's place ---- */
 
-/* The same people may read it as the file. */
+/* The same people may read it as the file, as far as this one may say so: a
+ * group that is not the file's gets no rights. */
 static void share(const bhtf_file *f, const struct stat *about)
 {
-    int ignored = fchown(f->journal, about->st_uid, about->st_gid);
+    mode_t mode = about->st_mode & 0666;
+    int ignored;
 
-    ignored = fchmod(f->journal, about->st_mode & 0666);
+    if (fchown(f->journal, about->st_uid, about->st_gid) != 0 &&
+        fchown(f->journal, (uid_t)-1, about->st_gid) != 0)
+        mode &= ~(mode_t)060;
+    ignored = fchmod(f->journal, mode);
     (void)ignored;
 }
 
-/* What is there is unmarked: it was asked when the file was opened. */
+/* Has the open journal still its name, and the length that it was given? */
+static int stands(const bhtf_file *f)
+{
+    struct stat ours, there;
+
+    return fstat(f->journal, &ours) == 0 &&
+           lstat(f->journal_path, &there) == 0 &&
+           ours.st_dev == there.st_dev && ours.st_ino == there.st_ino &&
+           (uint64_t)ours.st_size == f->room;
+}
+
 static uint32_t make_journal(bhtf_file *f)
 {
     struct stat about;
@@ -512,12 +626,12 @@ static uint32_t make_journal(bhtf_file *f)
     if (fstat(f->fd, &about) != 0)
         return layer_fail(f, BHTF_FILE_SYSTEM, errno, "cannot be examined");
     if (!is_leavings(f))
-        return fail_on_journal(f, "has the name of something else", EEXIST);
-    if (unlink(f->journal_path) != 0 && errno != ENOENT)
+        return fail_on_journal(f, "is something else, or has an unfinished "
+                               "change of another writer", EEXIST);
+    if (unlink(f->journal_path) != 0 && !is_absence(errno))
         return fail_on_journal(f, "is in the way and cannot be removed", errno);
     f->journal = open(f->journal_path,
-                      O_RDWR | O_CREAT | O_EXCL | O_CLOEXEC,
-                      about.st_mode & 0666);
+                      O_RDWR | O_CREAT | O_EXCL | O_CLOEXEC, 0600);
     if (f->journal < 0)
         return fail_on_journal(f, "cannot be created", errno);
     f->room = 0;
@@ -525,6 +639,15 @@ static uint32_t make_journal(bhtf_file *f)
     f->unmarked = 0;
     share(f, &about);
     return BHTF_ACCEPTED;
+}
+
+/* Some of the room may have been given: the journal gets its length back, by
+ * which its head and its mark are found. */
+static uint32_t no_room(bhtf_file *f, int error)
+{
+    if (ftruncate(f->journal, (off_t)f->room) != 0)
+        f->broken = 1;
+    return fail_on_journal(f, "has no space", error);
 }
 
 /* Room for so much content. An old mark is taken from the disk, and a new
@@ -540,15 +663,18 @@ static uint32_t make_room(bhtf_file *f, uint64_t content)
             error = posix_fallocate(f->journal, 0, (off_t)room);
         while (error == EINTR);
         if (error != 0)
-            return fail_on_journal(f, "has no space", error);
+            return no_room(f, error);
         f->room = room;
         f->unmarked |= !first;
     }
     if (f->unmarked)
         error = flush(f, f->journal);
+    if (error != 0) {
+        f->broken = 1; /* the old mark may be on the disk for good */
+        return fail_on_journal(f, "cannot be written", error);
+    }
     f->unmarked = 0;
-    return error == 0 ? BHTF_ACCEPTED
-                      : fail_on_journal(f, "cannot be written", error);
+    return BHTF_ACCEPTED;
 }
 
 /* ---- a change: content ---- */
@@ -639,6 +765,10 @@ static uint32_t prepare(bhtf_file *f)
         f->sum = layer_sum_all(f->disk, f->length);
         f->summed = 1;
     }
+    if (f->journal >= 0 && !stands(f)) {
+        close(f->journal);
+        f->journal = -1;
+    }
     if (f->journal < 0)
         number = make_journal(f);
     if (number == BHTF_ACCEPTED)
@@ -712,6 +842,9 @@ static uint32_t bring(bhtf_file *f)
     uint32_t number = layer_ask_name(f);
     int error;
 
+    if (number == BHTF_ACCEPTED && !stands(f))
+        number = fail_on_journal(f, "was removed or replaced by another program",
+                                 ENOENT);
     if (number == BHTF_ACCEPTED)
         number = map_journal(f, &c);
     if (number != BHTF_ACCEPTED)
@@ -751,17 +884,17 @@ uint32_t layer_journal_commit(bhtf_file *f, int64_t deadline)
     return finish_change(f);
 }
 
-/* A journal that still has a mark stays. */
+/* A journal that still has a mark stays, and so does another's of its name. */
 uint32_t layer_journal_close(bhtf_file *f)
 {
     int error = 0;
 
     if (f->journal < 0)
         return BHTF_ACCEPTED;
-    if (!f->broken) {
+    if (!f->broken && layer_is_owner(f)) {
         if (f->unmarked)
             error = flush(f, f->journal);
-        if (error == 0 && unlink(f->journal_path) != 0)
+        if (error == 0 && stands(f) && unlink(f->journal_path) != 0)
             error = errno;
     }
     if (close(f->journal) != 0 && error == 0)

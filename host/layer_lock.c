@@ -261,3 +261,13 @@ void layer_unlock_bytes(bhtf_file *f)
         give(f, bytes_lock);
     f->held = 0;
 }
+
+void layer_unlock_all(bhtf_file *f)
+{
+    if (layer_is_owner(f)) {
+        layer_unlock_bytes(f);
+        if (f->writing)
+            give(f, writer_lock);
+    }
+    f->held = 0;
+}

@@ -4,7 +4,7 @@
  * The sum of an image is that of its pages' XXH64, seeded with the page's
  * number, modulo 2^64: a page's share can be taken out and another put in. In
  * images of up to SUMMED_PAGES pages every page counts, in longer ones as many,
- * spread evenly.
+ * spread evenly, and those that the change meets.
  */
 #include "layer.h"
 
@@ -179,7 +179,7 @@ uint64_t layer_sum_met(const uint8_t *image, size_t length,
             continue;
         for (page = page < next ? next : page;
              page <= (from + size - 1) / LAYER_PAGE; page++) {
-            if (counts(pages, page))
+            if (masked || counts(pages, page))
                 sum += masked ? masked_sum(image, length, page, pairs, count, i)
                               : page_sum(image, length, page);
             next = page + 1;

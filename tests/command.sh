@@ -763,19 +763,20 @@ same "which is stored" x "$(bhtf get durable n2)"
 gives "nor at create" 0 '' put_on_disk bhtf create durable2 --no-sync
 cp durable durable2
 gives "and its record, with its name" 0 'fsync of a directory' put_on_disk bhtf add durable r x --delta durable.delta
-same "behind the change" 'journal its-name mark file mark-0 record its-name' "$(tr '\n' ' ' <"$work/out" |
-  sed 's/^fsync of a file fsync of a directory fsync of a file fsync of a file fsync of a file fsync of a file fsync of a directory $/journal its-name mark file mark-0 record its-name/')"
+same "before the change" 'record its-name journal its-name mark file mark-0' "$(tr '\n' ' ' <"$work/out" |
+  sed 's/^fsync of a file fsync of a directory fsync of a file fsync of a directory fsync of a file fsync of a file fsync of a file $/record its-name journal its-name mark file mark-0/')"
 gives "and what a copy is made" 0 'fsync of a file' put_on_disk bhtf apply durable2 durable.delta
 export FSYNC_FAILS=yes
 gives "a disk that fails at add" 2 'nothing was changed.*written: Input/output error' put_on_disk bhtf add durable m x
 env -u FSYNC_FAILS bhtf add durable n longer-still --replace --delta durable.delta
 gives "a disk that fails at compact" 2 'nothing was changed.*written: Input/output error' put_on_disk bhtf compact durable
 cp durable.delta before
-gives "a disk that fails at a change with --delta" 2 'nothing was changed.*written: Input/output error' \
+gives "a disk that fails at a change with --delta" 2 'durable.delta: cannot be written to the disk: Input/output error' \
   put_on_disk bhtf add durable s x --delta durable.delta
 holds "leaves no record" cmp before durable.delta
-gives "nor a new file of records" 2 'nothing was changed' put_on_disk bhtf add durable t x --delta new.delta
+gives "nor a new file of records" 2 'durable: is as it was' put_on_disk bhtf add durable t x --delta new.delta
 holds "which is not there" test ! -e new.delta
+same "nor a change" '' "$(bhtf list durable | grep '^[st]$')"
 gives "a disk that fails at create" 2 'written to the disk: Input/output error' put_on_disk bhtf create lost
 unset FSYNC_FAILS
 holds "leaves no new file" test ! -e lost

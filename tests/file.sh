@@ -160,6 +160,33 @@ else
   echo "no small disk can be mounted here"
 fi
 
+# ---- a command whose disk fails when its change is made ----
+
+office=$work/office changes=$work/changes copy=$work/copy.bhtf
+failing() { LD_PRELOAD=$work/programs/failing.so FAILS=$1 "${@:2}"; }
+"$bhtf" create "$office" --key-size 12 --slots 100 && cp "$office" "$copy"
+sed 's/brass/steel/' host/site.csv >"$work/steel.csv"
+gives "a journal that cannot be removed" 2 'office: cannot be closed' failing unlink "$bhtf" add "$office" A x --delta "$changes"
+"$bhtf" add "$office" B y --delta "$changes"
+gives "an import says then what it stored" 2 '^12 points stored' failing unlink "$bhtf" import "$office" host/site.csv --delta "$changes"
+gives "a disk that fails when the mark is there" 2 'whether its points are stored in .* is told' \
+  failing 3 "$bhtf" import "$office" "$work/steel.csv" --replace --delta "$changes"
+gives "the next command finishes that; its own change fails" 2 'nothing was stored' \
+  failing 4 "$bhtf" import "$office" host/site.csv --replace --delta "$changes"
+gives "each change that was made has its record, and no other" 0 '^4 records applied' "$bhtf" apply "$copy" "$changes"
+holds "which lead to the file" cmp "$office" "$copy"
+gives "as it should be" 0 steel "$bhtf" get "$office" CP-101
+if [ "$(id -u)" -eq 0 ]; then
+  mkdir "$work/group"
+  cp "$office" "$work/group/site"
+  chown -R 65533:2000 "$work/group"
+  chmod 775 "$work/group" "$work/programs"
+  chmod 664 "$work/group/site"
+  gives "a writer that is of the file's group" 2 'site: cannot be closed' \
+    failing unlink setpriv --reuid 65534 --regid 65534 --groups 2000 "$bhtf" add "$work/group/site" C z
+  gives "makes a journal for the group" 0 '^2000 664$' stat -c '%g %a' "$work/group/site.journal"
+fi
+
 # ---- seeded faults ----
 
 station=${LIB:-target/staticlib/libstation.a}
@@ -226,8 +253,11 @@ fault "the mark taken away before the file is flushed" layer_journal.c '    if (
 fault "no mark" layer_journal.c 'error = set_mark(f, MARK);' 'error = 0;' 3
 fault "new content before mark 0 is flushed" layer_journal.c '    if (f->unmarked)
         error = flush(f, f->journal);
-    f->unmarked = 0;' '    f->unmarked = 0;' 9
-fault "the journal's name not flushed" layer_journal.c 'error = layer_sync_directory(f->directory);' 'error = 0;' 3
+    if (error != 0) {' '    if (error != 0) {' 9
+fault "the journal's name not flushed" layer_journal.c '!(f->how.flags & BHTF_FILE_NO_SYNC))
+        error = layer_sync_directory(f->directory);' '!(f->how.flags & BHTF_FILE_NO_SYNC))
+        error = 0;' 3
+fault "a recovery before the mark is flushed" layer_journal.c 'number = flush_found(f);' 'number = BHTF_ACCEPTED;' 99
 fault "a reader that does not look for a journal" layer.c '            number = layer_journal_read(f);
         if (number != BHTF_FILE_REPLACED ||' '            number = 0;
         if (number != BHTF_FILE_REPLACED ||' 3

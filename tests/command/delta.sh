@@ -207,6 +207,11 @@ gives "a record of a change that was cut short is taken away" 0 'its last record
   bhtf add office CP-9 y --delta changes
 gives "and a copy follows" 0 '^1 record applied' bhtf apply copy1 changes
 holds "and is equal, again" cmp office copy1
+head -c 50 changes >part
+cat part >>changes
+gives "so is the beginning of one" 0 'its last record was of a change that was cut short' bhtf delete office CP-9 --delta changes
+gives "and a copy follows that" 0 '^1 record applied' bhtf apply copy1 changes
+holds "and is equal then, too" cmp office copy1
 long=$(head -c 3000 /dev/zero | tr '\0' t)
 limited() { sh -c 'limit=$1; shift; ulimit -f "$limit"; exec "$@"' - $(($(stat -c %s changes) / 512 + 1)) "$@"; }
 undone "a disk that is full" 2 'changes: cannot be written to: File too large' limited bhtf add office CP-6 "$long" --delta changes

@@ -439,6 +439,9 @@ static void cut_by_kill(struct run *r)
 
 /* ---- cuts by the power ---- */
 
+/* What is done when a record begins, and is not flushed. May be NULL. */
+static setting *set_late;
+
 /* Answers how many events lie before the job. */
 static size_t record(struct run *r)
 {
@@ -449,6 +452,8 @@ static size_t record(struct run *r)
 
     disk_begin(cut_place);
     before = disk_events();
+    if (set_late != NULL)
+        set_late(r->job->path);
     while (trace_next(child, &stop, &status)) {
         char byte;
 
@@ -671,6 +676,49 @@ static void try_recovery(void)
     report("killed and power cut: recovery");
 }
 
+/* The writer was killed between its mark and the flush of that. */
+static void set_unmarked(const char *path)
+{
+    memcpy(kept_file, image_at[0], IMAGE);
+    kept_journal[kept_length - 1] = 0;
+    set_unfinished(path);
+}
+
+static void set_mark(const char *path)
+{
+    const uint8_t mark = 0xA5;
+    char journal[800];
+    int fd;
+
+    snprintf(journal, sizeof journal, "%s.journal", path);
+    fd = open(journal, O_RDWR | O_CLOEXEC);
+    must(fd >= 0 && pwrite(fd, &mark, 1, (off_t)kept_length - 1) == 1, journal);
+    close(fd);
+}
+
+static void try_unflushed(void)
+{
+    static const struct scene first = {
+        "recovery of a mark that was not flushed", 0,
+        { { 'a', 50, 900 }, { 'e', 0, 0 } }
+    };
+    static const struct scene nothing = { "recovery", 0, { { 0, 0, 0 } } };
+    struct job job = { &first, NULL, "", -1 };
+    struct run r = { first.name, &job, set_first, 0, { -1, -1 } };
+    unsigned long n = 1;
+
+    snprintf(job.path, sizeof job.path, "%s/site", cut_place);
+    make_states(&first);
+    while (keep_unfinished(&r, n) == 0)
+        n++;
+    job.scene = &nothing;
+    r.set = set_unmarked;
+    set_late = set_mark;
+    cut_by_power(&r);
+    set_late = NULL;
+    report("power cut: recovery of a mark that was not flushed");
+}
+
 static void try_create(void)
 {
     struct job job = { NULL, NULL, "", -1 };
@@ -790,6 +838,7 @@ int main(int argc, char **argv)
     if (scenes_wanted > SCENES) {
         try_no_sync();
         try_recovery();
+        try_unflushed();
     }
     try_create();
     if (command != NULL)

@@ -1,4 +1,5 @@
-/* layer DIRECTORY: the calls of bhtf_file.h, one by one, and their errors.
+/* layer DIRECTORY: the calls of bhtf_file.h, one by one, and their errors. The
+ * directory is named from the root.
  * Journals of unfinished changes are made by a child that ends itself in the
  * middle of one. The last line is 'N passed, M failed'. */
 #define _GNU_SOURCE
@@ -103,8 +104,29 @@ int fdatasync(int fd)
     return fsync(fd);
 }
 
-/* The child's point X is stored, and the mark is there. */
-static int leave_unfinished_text(const char *text)
+static int reads_fail, room_fails;
+
+/* A journal that cannot be read. */
+ssize_t pread64(int fd, void *bytes, size_t length, off64_t at)
+{
+    if (!reads_fail)
+        return pread(fd, bytes, length, at);
+    errno = EIO;
+    return -1;
+}
+
+/* A disk that becomes full when some of the room was given. */
+int posix_fallocate64(int fd, off64_t at, off64_t length)
+{
+    if (!room_fails)
+        return posix_fallocate(fd, at, length);
+    return ftruncate(fd, at + length - 4096) == 0 ? ENOSPC : EIO;
+}
+
+/* The child's point X is stored, and the mark is there. Before that, the child
+ * does what `first` does. */
+static int leave_unfinished_behind(void (*first)(bhtf_file *f),
+                                   const char *text)
 {
     int status = 0;
     pid_t child;
@@ -114,6 +136,8 @@ static int leave_unfinished_text(const char *text)
     if (child == 0) {
         bhtf_file *f = open_writer(NULL);
 
+        if (f != NULL && first != NULL)
+            first(f);
         armed = 1;
         if (f != NULL)
             put(f, "X", text);
@@ -125,7 +149,7 @@ static int leave_unfinished_text(const char *text)
 
 static int leave_unfinished(void)
 {
-    return leave_unfinished_text("unfinished");
+    return leave_unfinished_behind(NULL, "unfinished");
 }
 
 static void copy_file(const char *from, const char *to)
@@ -208,6 +232,120 @@ static void try_failing(void)
     bhtf_file_close(f);
 }
 
+/* And at that of mark 0, before a next change. */
+static void try_failing_between(void)
+{
+    bhtf_file *f;
+
+    make_fresh();
+    f = open_writer(NULL);
+    flushes = 0;
+    fails_at = 4;
+    holds("a disk that fails between changes", put(f, "A", "1") == 0 &&
+          put(f, "B", "2") == BHTF_FILE_SYSTEM);
+    fails_at = 0;
+    holds("takes no other", put(f, "C", "3") == BHTF_FILE_BROKEN);
+    bhtf_file_close(f);
+    f = open_writer(NULL);
+    holds("until it is opened again", f != NULL && put(f, "C", "3") == 0);
+    bhtf_file_close(f);
+    holds("and each is as it was told", has(file, "A", "1") &&
+          has(file, "B", NULL) && has(file, "C", "3"));
+}
+
+/* Whoever finishes another's change flushes it. */
+static void try_without_sync(void)
+{
+    const struct bhtf_file_how how = { BHTF_FILE_WRITE | BHTF_FILE_NO_SYNC, 100,
+                                       NULL, NULL };
+    bhtf_file *f;
+
+    make_fresh();
+    leave_unfinished();
+    flushes = 0;
+    f = bhtf_file_open(file, &how, NULL);
+    holds("a change that is finished is flushed: journal, file, mark 0",
+          f != NULL && bhtf_file_recovered(f) && flushes == 3);
+    flushes = 0;
+    holds("one's own is not, if not asked for", put(f, "A", "1") == 0 &&
+          flushes == 0);
+    bhtf_file_close(f);
+}
+
+/* ---- journals that others remove, or that fail ---- */
+
+static void have_no_room(bhtf_file *f)
+{
+    static char text[10001];
+
+    memset(text, 't', sizeof text - 1);
+    put(f, "A", "1");
+    room_fails = 1;
+    if (put(f, "B", text) != BHTF_FILE_SYSTEM ||
+        bhtf_file_error(f)->error != ENOSPC)
+        _exit(9);
+    room_fails = 0;
+}
+
+static void try_no_room(void)
+{
+    make_fresh();
+    holds("unfinished, behind one for which the journal had no room",
+          leave_unfinished_behind(have_no_room, "unfinished"));
+    holds("is found", has(file, "A", "1") && has(file, "B", NULL) &&
+          has(file, "X", "unfinished"));
+}
+
+static void lose_journal(bhtf_file *f)
+{
+    put(f, "A", "1");
+    unlink(journal);
+}
+
+static void try_lost(void)
+{
+    bhtf_file *f;
+
+    make_fresh();
+    holds("unfinished, behind the loss of its journal",
+          leave_unfinished_behind(lose_journal, "unfinished") &&
+          is_there(journal));
+    f = open_writer(NULL);
+    holds("is finished", f != NULL && bhtf_file_recovered(f) &&
+          has(file, "A", "1") && has(file, "X", "unfinished"));
+    put(f, "B", "2");
+    rename(journal, other);
+    copy_file(other, journal);
+    bhtf_file_close(f);
+    holds("another journal of that name is not removed", is_there(journal));
+
+    make_fresh();
+    leave_unfinished();
+    rename(journal, other);
+    f = open_writer(NULL);
+    rename(other, journal);
+    holds("nor one with an unfinished change", put(f, "B", "2") ==
+          BHTF_FILE_SYSTEM && is_there(journal));
+    bhtf_file_close(f);
+    holds("which is finished", has(file, "X", "unfinished") &&
+          has(file, "B", NULL));
+}
+
+static void try_unreadable(void)
+{
+    struct bhtf_file_error why;
+
+    make_fresh();
+    leave_unfinished();
+    reads_fail = 1;
+    holds("a journal that cannot be read stops a reader",
+          bhtf_file_open(file, NULL, &why) == NULL && why.error == EIO &&
+          strstr(why.words, "nobody knows whether it is whole") != NULL);
+    holds("and a writer", open_writer(&why) == NULL && why.error == EIO);
+    reads_fail = 0;
+    holds("and stays", is_there(journal) && has(file, "X", "unfinished"));
+}
+
 /* A marked journal beside another file. */
 static void try_foreign(void)
 {
@@ -283,7 +421,7 @@ static void try_short(void)
     text[6000] = '\0';
     make_fresh();
     copy_file(file, other);
-    holds("a long text, unfinished", leave_unfinished_text(text));
+    holds("a long text, unfinished", leave_unfinished_behind(NULL, text));
     copy_file(other, file);
     holds("cut short where it looks marked", truncate(journal, 9192) == 0 &&
           has(file, "X", NULL));
@@ -301,6 +439,16 @@ static void try_damaged(void)
     f = bhtf_file_open(file, NULL, &why);
     holds("a journal with damaged content is refused", f == NULL &&
           why.number == BHTF_FILE_JOURNAL);
+    unlink(journal);
+
+    make_fresh();
+    leave_unfinished();
+    flip(journal, 20);
+    f = bhtf_file_open(file, NULL, &why);
+    holds("and one with a damaged head", f == NULL &&
+          why.number == BHTF_FILE_JOURNAL);
+    holds("by writers too", open_writer(&why) == NULL &&
+          why.number == BHTF_FILE_JOURNAL && is_there(journal));
     unlink(journal);
 
     make_fresh();
@@ -422,14 +570,115 @@ static void try_names(void)
     holds("the new one is as it was", has(file, "A", NULL));
 }
 
+/* A link that leads to another file by now, and a process that went elsewhere
+ * since it opened one by a relative name. */
+static void try_links(const char *directory)
+{
+    char name[700];
+    uint8_t *image = malloc(SIZE);
+    uint32_t at, size;
+    size_t length;
+    bhtf_file *f;
+
+    make_fresh();
+    snprintf(name, sizeof name, "%s/current", directory);
+    unlink(name);
+    unlink(other);
+    if (image == NULL || bhtf_create(image, SIZE, KEY, 50, 3) != 0 ||
+        bhtf_add(image, SIZE, key("N"), KEY, key("new"), 3, BHTF_NEW) != 0 ||
+        bhtf_file_create(other, image, SIZE, NULL, NULL) != 0 ||
+        symlink(file, name) != 0 || chdir(directory) != 0)
+        exit(2);
+    free(image);
+    f = bhtf_file_open("current", NULL, NULL);
+    unlink(name);
+    if (f == NULL || symlink(other, name) != 0 || chdir("/") != 0)
+        exit(2);
+    holds("refresh goes with a link", bhtf_file_refresh(f) == 0 &&
+          bhtf_lookup(bhtf_file_image(f, &length), SIZE, key("N"), KEY, &at,
+                      &size) == 0);
+    unlink(name);
+    holds("and tells that it is gone", bhtf_file_refresh(f) ==
+          BHTF_FILE_SYSTEM && bhtf_file_error(f)->error == ENOENT);
+    bhtf_file_close(f);
+    unlink(other);
+}
+
+/* A child closes what it has from its parent. */
+static void try_fork(void)
+{
+    bhtf_file *f, *second;
+    int status, way[2];
+    pid_t child;
+    char byte;
+
+    make_fresh();
+    f = open_writer(NULL);
+    put(f, "A", "1");
+    if (pipe(way) != 0)
+        exit(2);
+    fflush(stdout);
+    child = fork();
+    if (child == 0)
+        _exit(bhtf_file_close(f) != 0);
+    waitpid(child, &status, 0);
+    holds("a child that closes a writer's handle leaves the journal",
+          status == 0 && is_there(journal));
+    holds("and the lock", open_writer(NULL) == NULL);
+    child = fork();
+    if (child == 0) { /* has the descriptors until it is told to end */
+        close(way[1]);
+        _exit(read(way[0], &byte, 1) != 0);
+    }
+    holds("the writer goes on", put(f, "B", "2") == 0 &&
+          bhtf_file_close(f) == 0 && !is_there(journal));
+    second = open_writer(NULL);
+    holds("and is done when it says so, whatever a child has open",
+          second != NULL);
+    if (second != NULL)
+        bhtf_file_close(second);
+    close(way[0]);
+    close(way[1]);
+    waitpid(child, &status, 0);
+}
+
+/* A name so long that no journal can stand beside it. */
+static void try_long_name(const char *directory)
+{
+    const struct bhtf_file_how how = { BHTF_FILE_WRITE, 100, NULL, NULL };
+    char name[900];
+    bhtf_file *f;
+
+    make_fresh();
+    snprintf(name, sizeof name, "%s/%0250d", directory, 0);
+    unlink(name);
+    holds("a name of 250 bytes", bhtf_file_create(name, first, SIZE, NULL,
+          NULL) == 0 && has(name, "A", NULL));
+    f = bhtf_file_open(name, &how, NULL);
+    holds("is read only", f != NULL && put(f, "A", "1") == BHTF_FILE_SYSTEM &&
+          bhtf_file_error(f)->error == ENAMETOOLONG);
+    if (f != NULL)
+        bhtf_file_close(f);
+    unlink(name);
+}
+
 /* ---- sums ---- */
+
+static uint64_t others(const uint8_t *image, size_t length,
+                       const uint8_t *pairs, size_t count)
+{
+    return layer_sum_all(image, length) -
+           layer_sum_met(image, length, pairs, count, 0) +
+           layer_sum_met(image, length, pairs, count, 1);
+}
 
 static void try_sums(void)
 {
     static uint8_t big[4100 * 4096];
+    const uint8_t uncounted[8] = { 0, 64, 0, 10, 0, 0, 0, 5 }; /* page 1024 */
     const uint8_t pairs[16] = { 0, 0, 0, 10, 0, 0, 0, 5, 0, 0, 32, 0, 0, 0, 0,
                                 3 };
-    uint64_t all, before;
+    uint64_t before;
 
     holds("XXH64 of nothing",
           layer_xxh64(NULL, 0, 0) == UINT64_C(0xEF46DB3751D8E999));
@@ -440,20 +689,25 @@ static void try_sums(void)
     holds("XXH64 of 39 bytes", layer_xxh64((const uint8_t *)
           "Nobody inspects the spammish repetition", 39, 0) ==
           UINT64_C(0xFBCEA83C8A378BF1));
-    all = layer_sum_all(big, sizeof big);
-    before = all - layer_sum_met(big, sizeof big, pairs, 2, 0) +
-             layer_sum_met(big, sizeof big, pairs, 2, 1);
+    before = others(big, sizeof big, pairs, 2);
     memset(big + 10, 'x', 5);
     memset(big + 8192, 'y', 3);
-    all = layer_sum_all(big, sizeof big);
-    holds("stretches do not count", before ==
-          all - layer_sum_met(big, sizeof big, pairs, 2, 0) +
-          layer_sum_met(big, sizeof big, pairs, 2, 1));
+    holds("stretches do not count",
+          before == others(big, sizeof big, pairs, 2));
     big[15] = 1;
-    all = layer_sum_all(big, sizeof big);
-    holds("the byte behind one does", before !=
-          all - layer_sum_met(big, sizeof big, pairs, 2, 0) +
-          layer_sum_met(big, sizeof big, pairs, 2, 1));
+    holds("the byte behind one does",
+          before != others(big, sizeof big, pairs, 2));
+    before = layer_sum_all(big, sizeof big);
+    big[1024 * 4096 + 15] = 1;
+    holds("a page that is not in a long file's sum",
+          before == layer_sum_all(big, sizeof big));
+    before = others(big, sizeof big, uncounted, 1);
+    memset(big + 1024 * 4096 + 10, 'x', 5);
+    holds("where stretches meet it they do not count",
+          before == others(big, sizeof big, uncounted, 1));
+    big[1024 * 4096 + 15] = 2;
+    holds("and its other bytes do",
+          before != others(big, sizeof big, uncounted, 1));
 }
 
 /* Above 16 MiB not every page counts. */
@@ -493,10 +747,18 @@ int main(int argc, char **argv)
     try_names();
     try_unfinished();
     try_failing();
+    try_failing_between();
+    try_without_sync();
+    try_no_room();
+    try_lost();
+    try_unreadable();
     try_foreign();
     try_short();
     try_damaged();
+    try_long_name(argv[1]);
+    try_fork();
     try_large();
+    try_links(argv[1]);
     printf("%d passed, %d failed\n", passed, failed);
     return failed == 0 && passed > 0 ? 0 : 1;
 }

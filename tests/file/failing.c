@@ -1,0 +1,37 @@
+/* In front of the system's calls, by LD_PRELOAD: with FAILS=unlink no journal
+ * can be removed, with FAILS=N the N-th fdatasync fails. */
+#define _GNU_SOURCE
+
+#include <errno.h>
+#include <fcntl.h>
+#include <stdlib.h>
+#include <string.h>
+#include <unistd.h>
+
+static const char *fails(void)
+{
+    const char *what = getenv("FAILS");
+
+    return what == NULL ? "" : what;
+}
+
+int unlink(const char *path)
+{
+    const char *end = strrchr(path, '.');
+
+    if (strcmp(fails(), "unlink") != 0 || end == NULL ||
+        strcmp(end, ".journal") != 0 || access(path, F_OK) != 0)
+        return unlinkat(AT_FDCWD, path, 0);
+    errno = EIO;
+    return -1;
+}
+
+int fdatasync(int fd)
+{
+    static int calls;
+
+    if (++calls != atoi(fails()))
+        return fsync(fd);
+    errno = EIO;
+    return -1;
+}
