@@ -285,7 +285,7 @@ pub extern "C" fn bhtf_compact_journaled(
     journaled::packed::compact_journaled(image, work, journal)
 }
 
-// Rewrites the image from a journal that is marked; any other mark leaves it. Takes the mark away, unless refused with 18.
+// Rewrites the image from a journal that is marked; with any other mark it stays. The mark becomes 0, unless refused.
 #[no_mangle]
 pub extern "C" fn bhtf_recover(image: &mut [u8], journal: &mut [u8]) -> u32
     ensures { λ r. ⌜ (r ≡ recoverNumber (length (now (image .entry))) (now (journal .entry)))
