@@ -5,7 +5,7 @@
 --     Change, Form          a call that has forms; a step of a list in one of its forms
 --     performForm           what it does to a file; bookForm: to a book
 --     Told, toldBy          a form, and whether the file answered it 17
---     AgreementOfForms      demand 3 with these forms in the lists; with none of them it is `AgreementFrom`
+--     AgreementOfForms      demand 3 with these forms in the lists; with none of them it says what `AgreementFrom` says
 -- Assumes nothing.
 use Prim.Native.Nat.{ℕ, _+_}
 use mathlib.Core.Path.{_≡_}

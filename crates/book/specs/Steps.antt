@@ -1,4 +1,5 @@
--- What a list of calls may hold: document 01's calls, and those that document 02 adds.
+-- What a list of calls may hold: document 01's calls, and those that document 02 adds. The forms that its Jobs 8 and 9
+-- give to them are in Forms.
 --     Step        a step of a list, with its arguments
 --     perform     what it does to a file
 -- Assumes nothing.

@@ -1,4 +1,4 @@
-// The exports for the station host, on numbers and byte slices: each call answers document 01's number, 0 when
+// The exports for the station host, on numbers and byte slices: each call answers the documents' number, 0 when
 // accepted. host/bhtf.h declares them for C.
 use inspect::Verdict;
 use inspect::check;
@@ -31,7 +31,7 @@ pub extern "C" fn bhtf_create(image: &mut [u8], size: u32, slots: u32, seed: u32
     create::create(image, size, slots, seed)
 }
 
-// Stores the bytes under the key: mode 1 new, 2 replace, 3 append.
+// Stores the bytes under the key: mode 1 new, 2 replace, 3 append, 4 withdraw.
 #[no_mangle]
 pub extern "C" fn bhtf_add(image: &mut [u8], key: &[u8], bytes: &[u8], mode: u32) -> u32
     ensures { λ r. ⌜ (r ≡ add (now (image .entry)) (now (key .entry)) (now (bytes .entry)) mode .answer .number)
@@ -285,7 +285,7 @@ pub extern "C" fn bhtf_compact_journaled(
     journaled::packed::compact_journaled(image, work, journal)
 }
 
-// Rewrites the image from a journal that is marked, and takes the mark away.
+// Rewrites the image from a journal that is marked; with any other mark it stays. The mark becomes 0, unless refused.
 #[no_mangle]
 pub extern "C" fn bhtf_recover(image: &mut [u8], journal: &mut [u8]) -> u32
     ensures { λ r. ⌜ (r ≡ recoverNumber (length (now (image .entry))) (now (journal .entry)))

@@ -52,13 +52,23 @@ abbrev pub unmarked : Bytes → Bytes
 unmarked j = store j (markPlace j) (0 ∷ [])
 
 module _ (img j : Bytes) (some : 1 ≤ length j) where
+  number-other : isMarked j ≡ false → recoverNumber (length img) j ≡ 0
+  unfolding recoverNumber
+  number-other no′ =
+      ap₂ (λ (a b : Bool). cond (a && (not b || journalSound (length img) j)) 0 18) (le-leb 1 (length j) some) no′
+
+  number-marked : isMarked j ≡ true → journalSound (length img) j ≡ true → recoverNumber (length img) j ≡ 0
+  unfolding recoverNumber
+  number-marked yes′ s =
+      ap₂ (λ (a b : Bool). cond (a && (not b || journalSound (length img) j)) 0 18) (le-leb 1 (length j) some) yes′
+      ∙ ap (λ (a : Bool). cond a 0 18) s
+
   pub recovered-other : isMarked j ≡ false
       → recovered (record { image = img; journal = j }) ≡ record { image = img; journal = unmarked j }
-  unfolding recovered recoverNumber
+  unfolding recovered
   recovered-other no′ =
       let n : ℕ = recoverNumber (length img) j in
-      let z : n ≡ 0 =
-      ap₂ (λ (a b : Bool). cond (a && (not b || journalSound (length img) j)) 0 18) (le-leb 1 (length j) some) no′ in
+      let z : n ≡ 0 = number-other no′ in
       ap₂ (λ (x y : Bytes). record { image = x; journal = y })
       (settled-yes n img (cond (isMarked j) (putAll img (blocksOf j)) img) z
       ∙ ap (λ (b : Bool). cond b (putAll img (blocksOf j)) img) no′)
@@ -67,12 +77,10 @@ module _ (img j : Bytes) (some : 1 ≤ length j) where
   pub recovered-marked : isMarked j ≡ true → journalSound (length img) j ≡ true
       → recovered (record { image = img; journal = j })
       ≡ record { image = putAll img (blocksOf j); journal = unmarked j }
-  unfolding recovered recoverNumber
+  unfolding recovered
   recovered-marked yes′ s =
       let n : ℕ = recoverNumber (length img) j in
-      let z : n ≡ 0 =
-      ap₂ (λ (a b : Bool). cond (a && (not b || journalSound (length img) j)) 0 18) (le-leb 1 (length j) some) yes′
-      ∙ ap (λ (a : Bool). cond a 0 18) s in
+      let z : n ≡ 0 = number-marked yes′ s in
       ap₂ (λ (x y : Bytes). record { image = x; journal = y })
       (settled-yes n img (cond (isMarked j) (putAll img (blocksOf j)) img) z
       ∙ ap (λ (b : Bool). cond b (putAll img (blocksOf j)) img) yes′)
@@ -272,6 +280,11 @@ module _ (old new j : Bytes) (l : length old ≡ length new) (small : length new
       ap (λ (m : ℕ). eqb m marked)
       (mark-kept j (spoiltBytes junk c) (omega (arith, room, length-spoilt junk c)) ∙ clear)
 
+  content-long : (junk : ℕ → ℕ) → 1 ≤ length (cutAfter 0 junk (updates old new j) before .journal)
+  unfolding cutAfter updates written spoilt spoiltBlock put
+  content-long junk =
+      omega (arith, room, length-store j 0 (spoiltBytes junk c) (omega (arith, room, length-spoilt junk c)))
+
   cut-content : (junk : ℕ → ℕ) → recovered (cutAfter 0 junk (updates old new j) before) .image ≡ old
   unfolding cutAfter updates written spoilt spoiltBlock put
   cut-content junk =
@@ -299,27 +312,6 @@ module _ (old new j : Bytes) (l : length old ≡ length new) (small : length new
       (place-last
       ∙ sym (length-store (store j 0 c) place (marked ∷ []) (omega (arith, place-last, length-full)) ∙ length-full))
       n junk
-
-  pub cut-safe : CutSafe old new j
-  unfolding CutSafe
-  cut-safe zero junk =
-      record {
-        either = inl (cut-content junk);
-        after-mark = λ h. absurd (omega arith);
-        twice = recovered-twice (cutAfter 0 junk (updates old new j) before);
-      }
-  cut-safe (suc zero) junk =
-      record {
-        either = cut-mark junk;
-        after-mark = λ h. absurd (omega arith);
-        twice = recovered-twice (cutAfter 1 junk (updates old new j) before);
-      }
-  cut-safe (suc (suc n)) junk =
-      record {
-        either = inr (cut-later n junk);
-        after-mark = λ h. cut-later n junk;
-        twice = recovered-twice (cutAfter (suc (suc n)) junk (updates old new j) before);
-      }
 
   -- no cut: the new image, the journal's content, and its mark 0
   pub updates-arrive : allWritten (updates old new j) before ≡ record { image = new; journal = filled 0 }
@@ -379,6 +371,49 @@ module _ (old new j : Bytes) (l : length old ≡ length new) (small : length new
   cut-left (suc n) junk =
       left 0 rs (λ x t. t) old (near-runs old new l) spread (filled marked) (holds marked)
       (full ∙ sym (length-store (store j 0 c) place (marked ∷ []) (omega (arith, full)))) n junk
+
+  -- a cut leaves no journal that recovery refuses
+  cut-accepted : (n : ℕ) (junk : ℕ → ℕ)
+      → recoverNumber (length (cutAfter n junk (updates old new j) before .image))
+      (cutAfter n junk (updates old new j) before .journal)
+      ≡ 0
+  cut-accepted zero junk =
+      let d : Disk = cutAfter 0 junk (updates old new j) before in
+      number-other (d .image) (d .journal) (content-long junk) (unmarked-yet junk)
+  cut-accepted (suc n) junk =
+      let d : Disk = cutAfter (suc n) junk (updates old new j) before in
+      let w : Left d = cut-left n junk in
+      let some : 1 ≤ length (d .journal) = omega (arith, w .long) in
+      by-bool (isMarked (d .journal))
+      (λ m. number-marked (d .image) (d .journal) some m
+      (ap (λ (k : ℕ). journalSound k (d .journal)) (w .near .size)
+      ∙ content-sound rs new (d .journal) (w .holds′) spread few small))
+      (λ m. number-other (d .image) (d .journal) some m)
+
+  -- the cut theorem
+  pub cut-safe : CutSafe old new j
+  unfolding CutSafe
+  cut-safe zero junk =
+      record {
+        accepted = cut-accepted 0 junk;
+        either = inl (cut-content junk);
+        after-mark = λ h. absurd (omega arith);
+        twice = recovered-twice (cutAfter 0 junk (updates old new j) before);
+      }
+  cut-safe (suc zero) junk =
+      record {
+        accepted = cut-accepted 1 junk;
+        either = cut-mark junk;
+        after-mark = λ h. absurd (omega arith);
+        twice = recovered-twice (cutAfter 1 junk (updates old new j) before);
+      }
+  cut-safe (suc (suc n)) junk =
+      record {
+        accepted = cut-accepted (suc (suc n)) junk;
+        either = inr (cut-later n junk);
+        after-mark = λ h. cut-later n junk;
+        twice = recovered-twice (cutAfter (suc (suc n)) junk (updates old new j) before);
+      }
 
   -- recovery's own writes, cut: of what a cut left, if it is marked
   again : (d : Disk) → Left d → isMarked (d .journal) ≡ true → (n : ℕ) (junk : ℕ → ℕ)

@@ -58,7 +58,7 @@ changesIn room old new =
     let rs : List Pair = runs 0 old new in
     cond (leb (8 * length rs) room) rs (whole (length new))
 
--- "Copying the listed stretches into a copy of the old image gives the new one."
+-- "Copying the listed stretches into a copy of the old image": that it gives the new one is `copied-changes`
 unfoldable pub copied : List Pair → Bytes → Bytes → Bytes
 copied [] new img = img
 copied (r ∷ rs) new img = copied rs new (store img (r .at) (part new (r .at) (r .size)))

@@ -184,8 +184,10 @@ recoveries j = toImages (blocksOf j) ++ (setMark 0 j ∷ [])
 
 -- "Wherever the cut falls, the recovered image is the one before the call or the one after it; once the mark was fully
 -- written it is the one after, and a second recovery changes nothing." Of an accepted call of this form, for every
--- image and journal; two writes done are the content's and the mark's.
+-- image and journal; two writes done are the content's and the mark's. Recovery answers 0: a cut leaves no journal that
+-- it refuses.
 pub record Safe (old new : Bytes) (n : ℕ) (d : Disk) : Type 0 where
+  pub accepted : recoverNumber (length (d .image)) (d .journal) ≡ 0
   pub either : (recovered d .image ≡ old) ⊎ (recovered d .image ≡ new)
   pub after-mark : 2 ≤ n → recovered d .image ≡ new
   pub twice : recovered (recovered d) ≡ recovered d
