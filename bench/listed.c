@@ -189,8 +189,6 @@ int main(int argc, char **argv)
         fprintf(stderr, "usage: listed [SAMPLES], up to %d\n", MOST);
         return 2;
     }
-    printf("| operation | image | listed / plain | ns a call |\n");
-    printf("|:--|--:|--:|--:|\n");
     for (size_t i = 0; i < sizeof lengths / sizeof lengths[0]; i++)
         at_length(lengths[i], samples);
     return expected();

@@ -11,7 +11,7 @@
 #                            500 MB of messages beside the two C programs, in
 #                            3 GiB of memory, and compaction there and at
 #                            65,536 slots; writes bench/large.md,
-#                            bench/compact.md and those sections of
+#                            bench/compact.md, bench/listed.md and those sections of
 #                            docs/PERFORMANCE.md
 #     --self                 plain C in the library's place, to test the
 #                            benchmark; writes to target/bench only
@@ -90,11 +90,12 @@ measure() {
   put_section "bench/$1.md"
 }
 
-# Every call at the largest size, and compaction.
+# Every call at the largest size, compaction, and the listed forms.
 run_large() {
-  .ci/install gcc make util-linux && find_library && make -s -C bench LIB="$LIB" "../$bin/large" "../$bin/compact" || exit 2
+  .ci/install gcc make util-linux && find_library && make -s -C bench LIB="$LIB" "../$bin/large" "../$bin/compact" "../$bin/listed" || exit 2
   measure large "$rounds"
   measure compact "$rounds"
+  [ "$self" = 1 ] || measure listed "$rounds"
   exit
 }
 
@@ -270,7 +271,7 @@ if [ "$quick" = 1 ] || [ "$self" = 1 ] || [ "$failed" -gt 0 ]; then pages=$bin; 
 mkdir -p "$pages"
 cp "$results" "$bin/results"
 slots_read page >"$work/slots.md" || fail "the slots read"
-awk -v rounds="$rounds" -v head=bench/head.md -v large=bench/large.md -v compact=bench/compact.md -v disk=bench/files.md -v tried=bench/tried.md -v slots="$work/slots.md" -v command="$given" -v seed="$seed" -v files="$files_say" \
+awk -v rounds="$rounds" -v head=bench/head.md -v large=bench/large.md -v compact=bench/compact.md -v listed=bench/listed.md -v disk=bench/files.md -v tried=bench/tried.md -v slots="$work/slots.md" -v command="$given" -v seed="$seed" -v files="$files_say" \
   -v machine="Machine: $(nproc) cores, $(uname -m), gcc $(gcc -dumpfullversion)" \
   -v engines="Engines: gdbm $(version libgdbm-dev), tdb $(version libtdb-dev), LMDB $(version liblmdb-dev), Kyoto Cabinet $(version libkyotocabinet-dev)" \
   -f bench/table.awk "$results" >"$pages/PERFORMANCE.md" || fail "the page"
