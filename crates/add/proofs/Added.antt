@@ -9,8 +9,8 @@ use Rattle.bhtf.specs.Search.{Probe, search}
 use Rattle.bhtf.specs.Messages.{addedAt, noted, added}
 use Rattle.bhtf.specs.Questions.{firstNo, pointAsks, modeKnown, seekNumber, addNumber}
 use Rattle.bhtf.specs.Calls.{plain, settled, add}
-use Rattle.bhtf.proofs.Sought.{add-stop, add-on}
-use Rattle.bhtf.proofs.Outcomes.{add-refused}
+use Rattle.laws.proofs.Sought.{add-stop, add-on}
+use Rattle.laws.proofs.Outcomes.{add-refused}
 
 -- known is the answer to question 8
 module _ (img key bytes : Bytes) (mode : ℕ) (known : Bool) (is-known : known ≡ modeKnown mode) where

@@ -18,14 +18,14 @@ use Rattle.bhtf.specs.Messages.{shown, held, isActive, enter, inserted, freshTe
 use Rattle.bhtf.specs.Questions.{Question, ask, firstNo, nameAllowed, modeKnown, addNumber, placeNumber}
 use Rattle.bhtf.specs.Calls.{add}
 use Rattle.book.specs.Book.{Terms, Book, find, stepOf, roomAsks, entered, bare, addAbsent, addFound}
-use Rattle.bhtf.proofs.Tests.{by-bool, by-eq, not-both}
-use Rattle.bhtf.proofs.Opened.{firstNo-none, firstNo-yes, firstNo-no}
-use Rattle.bhtf.proofs.Outcomes.{room-none, add-14, add-10-exhausted, add-10-full, add-fresh}
-use Rattle.bhtf.proofs.Texts.{fresh-none, fresh-some}
-use Rattle.bhtf.proofs.Total.{total-same, total-const}
-use Rattle.bhtf.proofs.Table.{weight, weigh, Taken}
-use Rattle.bhtf.proofs.Probe.{by-search, search-exhausted}
-use Rattle.bhtf.proofs.Insert.{weigh-taken}
+use Rattle.laws.proofs.Tests.{by-bool, by-eq, not-both}
+use Rattle.laws.proofs.Opened.{firstNo-none, firstNo-yes, firstNo-no}
+use Rattle.laws.proofs.Outcomes.{room-none, add-14, add-10-exhausted, add-10-full, add-fresh}
+use Rattle.laws.proofs.Texts.{fresh-none, fresh-some}
+use Rattle.laws.proofs.Total.{total-same, total-const}
+use Rattle.laws.proofs.Table.{weight, weigh, Taken}
+use Rattle.laws.proofs.Probe.{by-search, search-exhausted}
+use Rattle.laws.proofs.Insert.{weigh-taken}
 use Rattle.agreement.proofs.File.{Allowed, valueOf, file-some}
 use Rattle.agreement.proofs.Slots.{unshared-none, enter-change, enter-point, enter-points, enter-free}
 use Rattle.agreement.proofs.Noted.{noted-reflects}

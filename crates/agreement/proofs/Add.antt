@@ -10,9 +10,9 @@ use Rattle.bhtf.specs.Image.{Layout}
 use Rattle.bhtf.specs.Questions.{Question, firstNo, nameAllowed, modeKnown, named, addNumber}
 use Rattle.bhtf.specs.Calls.{Outcome, add}
 use Rattle.book.specs.Book.{Book, find, addFound, guarded, bookAdd}
-use Rattle.bhtf.proofs.Tests.{by-bool}
-use Rattle.bhtf.proofs.Opened.{firstNo-none, firstNo-yes, firstNo-no}
-use Rattle.bhtf.proofs.Outcomes.{add-7, add-8}
+use Rattle.laws.proofs.Tests.{by-bool}
+use Rattle.laws.proofs.Opened.{firstNo-none, firstNo-yes, firstNo-no}
+use Rattle.laws.proofs.Outcomes.{add-7, add-8}
 use Rattle.agreement.proofs.File.{Allowed}
 use Rattle.agreement.proofs.Reflect.{Reflects}
 use Rattle.agreement.proofs.Simple.{Same, same-refused, guarded-yes, guarded-no, book-key, open₀, by-met}

@@ -14,14 +14,14 @@ use Rattle.bhtf.specs.Image.{field, Layout, layoutOf, slotSize, slotStart, slot
 use Rattle.bhtf.specs.Search.{met, search, isMet}
 use Rattle.bhtf.specs.Questions.{openNumber, addNumber, deleteNumber}
 use Rattle.bhtf.specs.Calls.{add, delete}
-use Rattle.bhtf.proofs.Tests.{by-eq}
-use Rattle.bhtf.proofs.Bytes.{Apart}
-use Rattle.bhtf.proofs.Slots.{slot-end}
-use Rattle.bhtf.proofs.Opened.{Opened, opened-facts, opened-room}
-use Rattle.bhtf.proofs.Outcomes.{delete-closed, delete-refused, add-closed, add-refused}
-use Rattle.bhtf.proofs.Probe.{by-search, search-met, search-empty}
-use Rattle.bhtf.proofs.Effects.{area-above}
-use Rattle.bhtf.proofs.Stretch.{span}
+use Rattle.laws.proofs.Tests.{by-eq}
+use Rattle.laws.proofs.Bytes.{Apart}
+use Rattle.laws.proofs.Slots.{slot-end}
+use Rattle.laws.proofs.Opened.{Opened, opened-facts, opened-room}
+use Rattle.laws.proofs.Outcomes.{delete-closed, delete-refused, add-closed, add-refused}
+use Rattle.laws.proofs.Probe.{by-search, search-met, search-empty}
+use Rattle.laws.proofs.Effects.{area-above}
+use Rattle.laws.proofs.Stretch.{span}
 use Rattle.frames.proofs.Added.{Off, off-letter, Elsewhere, add-met, add-empty, add-exhausted}
 use Rattle.frames.proofs.Deleted.{delete-met, delete-other}
 

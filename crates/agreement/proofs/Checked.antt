@@ -18,17 +18,17 @@ use Rattle.bhtf.specs.Search.{search, met}
 use Rattle.bhtf.specs.Messages.{headSize, lengthAt}
 use Rattle.bhtf.specs.Questions.{nameAllowed}
 use Rattle.bhtf.specs.Inspect.{lowest, taken, endsAt, entrySound, meets, meetsLower, slotSound, slotFails, countSound, verdictOf, check, sound}
-use Rattle.bhtf.proofs.Tests.{by-bool, by-eq, by-le, and-true}
-use Rattle.bhtf.proofs.Bytes.{Apart, apart-sym, AreBytes, part-below}
-use Rattle.bhtf.proofs.Stretch.{span, Stored}
-use Rattle.bhtf.proofs.Effects.{message-end}
-use Rattle.bhtf.proofs.Meeting.{some-no, some-all, apart-meets, meets-apart}
-use Rattle.bhtf.proofs.Verdict.{check-open, check-messages, check-apart, check-findable, check-weight}
-use Rattle.bhtf.proofs.Slots.{length-slot, length-keyOf}
-use Rattle.bhtf.proofs.Opened.{Opened, opened-facts, facts-opened}
-use Rattle.bhtf.proofs.Table.{Taken, keyAt, slotMet, entryOf}
-use Rattle.bhtf.proofs.Probe.{search-finds, search-met, by-search}
-use Rattle.bhtf.proofs.Insert.{entry-taken, count-taken}
+use Rattle.laws.proofs.Tests.{by-bool, by-eq, by-le, and-true}
+use Rattle.laws.proofs.Bytes.{Apart, apart-sym, AreBytes, part-below}
+use Rattle.laws.proofs.Stretch.{span, Stored}
+use Rattle.laws.proofs.Effects.{message-end}
+use Rattle.laws.proofs.Meeting.{some-no, some-all, apart-meets, meets-apart}
+use Rattle.laws.proofs.Verdict.{check-open, check-messages, check-apart, check-findable, check-weight}
+use Rattle.laws.proofs.Slots.{length-slot, length-keyOf}
+use Rattle.laws.proofs.Opened.{Opened, opened-facts, facts-opened}
+use Rattle.laws.proofs.Table.{Taken, keyAt, slotMet, entryOf}
+use Rattle.laws.proofs.Probe.{search-finds, search-met, by-search}
+use Rattle.laws.proofs.Insert.{entry-taken, count-taken}
 use Rattle.agreement.proofs.File.{Allowed, allowed-zero, File, file-room, file-some}
 
 lowest-all : (p : ℕ → Bool) (left i : ℕ) → ((k : ℕ) → k < i + left → p k ≡ false) → lowest p left i ≡ none

@@ -25,17 +25,17 @@ use Rattle.bhtf.specs.Messages.{letterAt, isActive}
 use Rattle.bhtf.specs.Calls.{plain}
 use Rattle.bhtf.specs.Inspect.{taken, check}
 use Rattle.compaction.specs.Compact.{packed, packedOffset, packedEnd, compacted, isSound, compactNumber, compact}
-use Rattle.bhtf.proofs.Tests.{by-bool, by-eq, and-right}
-use Rattle.bhtf.proofs.Bytes.{Apart}
-use Rattle.bhtf.proofs.Opened.{firstNo-none, firstNo-yes, firstNo-opened, facts-opened}
-use Rattle.bhtf.proofs.Outcomes.{settled-yes}
-use Rattle.bhtf.proofs.Kept.{Kept, kept-layout, opened-kept}
-use Rattle.bhtf.proofs.Total.{total-same}
-use Rattle.bhtf.proofs.Table.{Taken, keyAt, slotMet, entryOf, weigh, weight}
-use Rattle.bhtf.proofs.Probe.{by-search, search-keys}
-use Rattle.bhtf.proofs.Insert.{entry-taken, findable-keys}
-use Rattle.bhtf.proofs.Stretch.{span, Lies, sound-lies, lies-sound, Stored, none-stored}
-use Rattle.bhtf.proofs.Effects.{active-some}
+use Rattle.laws.proofs.Tests.{by-bool, by-eq, and-right}
+use Rattle.laws.proofs.Bytes.{Apart}
+use Rattle.laws.proofs.Opened.{firstNo-none, firstNo-yes, firstNo-opened, facts-opened}
+use Rattle.laws.proofs.Outcomes.{settled-yes}
+use Rattle.laws.proofs.Kept.{Kept, kept-layout, opened-kept}
+use Rattle.laws.proofs.Total.{total-same}
+use Rattle.laws.proofs.Table.{Taken, keyAt, slotMet, entryOf, weigh, weight}
+use Rattle.laws.proofs.Probe.{by-search, search-keys}
+use Rattle.laws.proofs.Insert.{entry-taken, findable-keys}
+use Rattle.laws.proofs.Stretch.{span, Lies, sound-lies, lies-sound, Stored, none-stored}
+use Rattle.laws.proofs.Effects.{active-some}
 use Rattle.compaction.proofs.Packing.{startAt, Live, Stretches, sound-stretches, live-begins}
 use Rattle.compaction.proofs.Packed.{live-apart, packed-end, activeSpan, packed-weight}
 use Rattle.compaction.proofs.Compacted.{Moved, letterAt-moved, lengthAt-moved, compacted-length, compacted-kept, compacted-points, compacted-free, compacted-key, compacted-vacant, compacted-taken, compacted-entry, compacted-offset, compacted-moved, moved-inactive, moved-low, active-again, span-again, compacted-stretches, compacted-twice}

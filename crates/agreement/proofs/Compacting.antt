@@ -20,13 +20,13 @@ use Rattle.bhtf.specs.Inspect.{taken}
 use Rattle.compaction.specs.Compact.{packed, packedOffset, compacted, compact}
 use Rattle.book.specs.Book.{Entry, Terms, Book, find, trimmed, spaceFor, spaceForAll, compactedBook, bookCompact}
 use Rattle.book.specs.Reopened.{entryAt, entriesFrom, bookOf}
-use Rattle.bhtf.proofs.Tests.{by-bool}
-use Rattle.bhtf.proofs.Bytes.{part-length}
-use Rattle.bhtf.proofs.Total.{total}
-use Rattle.bhtf.proofs.Table.{entryOf, weigh, weight}
-use Rattle.bhtf.proofs.Insert.{weigh-vacant}
-use Rattle.bhtf.proofs.Stretch.{span, held-some}
-use Rattle.bhtf.proofs.Effects.{active-some}
+use Rattle.laws.proofs.Tests.{by-bool}
+use Rattle.laws.proofs.Bytes.{part-length}
+use Rattle.laws.proofs.Total.{total}
+use Rattle.laws.proofs.Table.{entryOf, weigh, weight}
+use Rattle.laws.proofs.Insert.{weigh-vacant}
+use Rattle.laws.proofs.Stretch.{span, held-some}
+use Rattle.laws.proofs.Effects.{active-some}
 use Rattle.compaction.proofs.Packing.{startAt, Live}
 use Rattle.compaction.proofs.Packed.{activeSpan}
 use Rattle.compaction.proofs.Compacted.{textAt-moved, lengthAt-moved}

@@ -14,12 +14,12 @@ use Rattle.bhtf.specs.Limits.{pointsField, freeField, tableStart}
 use Rattle.bhtf.specs.Image.{field, Layout, offsetOf, slot, keyOf}
 use Rattle.bhtf.specs.Messages.{lengthAt}
 use Rattle.bhtf.specs.Questions.{messageSound, versionKnown}
-use Rattle.bhtf.proofs.Bytes.{Apart, apart-inside}
-use Rattle.bhtf.proofs.Kept.{Fixed}
-use Rattle.bhtf.proofs.Table.{Findable, entryOf}
-use Rattle.bhtf.proofs.Probe.{entryOf-frame}
-use Rattle.bhtf.proofs.Insert.{weight-frame, findable-keys}
-use Rattle.bhtf.proofs.Stretch.{span, Lies, sound-lies, Stored, SameOn}
+use Rattle.laws.proofs.Bytes.{Apart, apart-inside}
+use Rattle.laws.proofs.Kept.{Fixed}
+use Rattle.laws.proofs.Table.{Findable, entryOf}
+use Rattle.laws.proofs.Probe.{entryOf-frame}
+use Rattle.laws.proofs.Insert.{weight-frame, findable-keys}
+use Rattle.laws.proofs.Stretch.{span, Lies, sound-lies, Stored, SameOn}
 use Rattle.agreement.proofs.File.{Allowed, File, file-slots, file-room, file-some, Change}
 
 -- ---- the table over images with the same slots

@@ -10,8 +10,8 @@ use mathlib.Core.Option.{none, some, Option·none-ne-some, Option·some-injectiv
 use lib.ListN.{length}
 use Rattle.bhtf.specs.Bytes.{Bytes, same}
 use Rattle.book.specs.Book.{Entry, Book, find, without, withEntry}
-use Rattle.bhtf.proofs.Tests.{by-bool}
-use Rattle.bhtf.proofs.Bytes.{same-refl, same-true, by-same}
+use Rattle.laws.proofs.Tests.{by-bool}
+use Rattle.laws.proofs.Bytes.{same-refl, same-true, by-same}
 
 abbrev pub Distinct : List Entry → Type 0
 Distinct [] = Unit {0}

@@ -22,13 +22,13 @@ use Rattle.bhtf.specs.Image.{field, Layout, layoutOf, offsetOf}
 use Rattle.bhtf.specs.Messages.{shown, held, isActive}
 use Rattle.bhtf.specs.Questions.{nameAllowed, versionKnown}
 use Rattle.book.specs.Book.{Entry}
-use Rattle.bhtf.proofs.Tests.{by-eq, and-left, and-right}
-use Rattle.bhtf.proofs.Bytes.{Apart, apart-sym, by-same}
-use Rattle.bhtf.proofs.Slots.{Room, layout-most}
-use Rattle.bhtf.proofs.Opened.{Opened, opened-room}
-use Rattle.bhtf.proofs.Kept.{Fixed, fixed-trans, kept-layout, opened-known}
-use Rattle.bhtf.proofs.Table.{Findable, entryOf, weight}
-use Rattle.bhtf.proofs.Stretch.{span, Stored, SameOn, same-on-trans, span-same, shown-same, held-same, stored-same}
+use Rattle.laws.proofs.Tests.{by-eq, and-left, and-right}
+use Rattle.laws.proofs.Bytes.{Apart, apart-sym, by-same}
+use Rattle.laws.proofs.Slots.{Room, layout-most}
+use Rattle.laws.proofs.Opened.{Opened, opened-room}
+use Rattle.laws.proofs.Kept.{Fixed, fixed-trans, kept-layout, opened-known}
+use Rattle.laws.proofs.Table.{Findable, entryOf, weight}
+use Rattle.laws.proofs.Stretch.{span, Stored, SameOn, same-on-trans, span-same, shown-same, held-same, stored-same}
 
 -- ---- names
 

@@ -27,8 +27,8 @@ use Rattle.book.specs.Steps.{perform}
 use Rattle.book.specs.Book.{Terms, Book, stepOf, guarded, bookStep}
 use Rattle.book.specs.Reopened.{Starts}
 use Rattle.book.specs.Forms.{Change, adds, deletes, compacts, plainStep, Form, plainly, listing, journaling, outcomeOf, journaledOutcome, performForm, imageLength, toldNumber, bookForm, Told, toldBy, bookTold, FormsAgree, AgreementOfForms}
-use Rattle.bhtf.proofs.Tests.{by-bool, by-eq, zero-yes, zero-no}
-use Rattle.bhtf.proofs.Outcomes.{settled-yes, settled-no}
+use Rattle.laws.proofs.Tests.{by-bool, by-eq, zero-yes, zero-no}
+use Rattle.laws.proofs.Outcomes.{settled-yes, settled-no}
 use Rattle.agreement.proofs.Reflect.{Reflects, Reflected}
 use Rattle.agreement.proofs.Simple.{Same}
 use Rattle.agreement.proofs.Theorem.{step-kept, points-agree, started}

@@ -20,15 +20,15 @@ use Rattle.bhtf.specs.Messages.{headSize}
 use Rattle.bhtf.specs.Questions.{versionKnown}
 use Rattle.book.specs.Book.{newBook}
 use Rattle.book.specs.Demand.{termsOf}
-use Rattle.bhtf.proofs.Fresh.{length-drawnBytes}
-use Rattle.bhtf.proofs.Tests.{by-bool, by-eq, not-both}
-use Rattle.bhtf.proofs.Bytes.{number-digits-fits, length-zeros}
-use Rattle.bhtf.proofs.Slots.{Room, slot-end, slot-above, vacant-blank}
-use Rattle.bhtf.proofs.Opened.{Opened, opened-room}
-use Rattle.bhtf.proofs.Accepted.{Accepted}
-use Rattle.bhtf.proofs.Table.{Taken, entryOf, weight, weigh}
-use Rattle.bhtf.proofs.Insert.{entry-absent, weigh-vacant}
-use Rattle.bhtf.proofs.Total.{total-same, total-const}
+use Rattle.laws.proofs.Fresh.{length-drawnBytes}
+use Rattle.laws.proofs.Tests.{by-bool, by-eq, not-both}
+use Rattle.laws.proofs.Bytes.{number-digits-fits, length-zeros}
+use Rattle.laws.proofs.Slots.{Room, slot-end, slot-above, vacant-blank}
+use Rattle.laws.proofs.Opened.{Opened, opened-room}
+use Rattle.laws.proofs.Accepted.{Accepted}
+use Rattle.laws.proofs.Table.{Taken, entryOf, weight, weigh}
+use Rattle.laws.proofs.Insert.{entry-absent, weigh-vacant}
+use Rattle.laws.proofs.Total.{total-same, total-const}
 use Rattle.agreement.proofs.File.{Allowed, allowed-zero, pointOf-none, File}
 use Rattle.agreement.proofs.Entries.{find-none}
 use Rattle.agreement.proofs.Reflect.{Reflects}

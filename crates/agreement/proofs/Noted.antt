@@ -15,10 +15,10 @@ use Rattle.bhtf.specs.Limits.{major, minor, patch, versionField, pointsField, f
 use Rattle.bhtf.specs.Image.{field, Layout, slot}
 use Rattle.bhtf.specs.Messages.{noted}
 use Rattle.book.specs.Book.{Book}
-use Rattle.bhtf.proofs.Tests.{by-bool}
-use Rattle.bhtf.proofs.Slots.{slot-above}
-use Rattle.bhtf.proofs.Kept.{version-elsewhere, version-fixed, version-known}
-use Rattle.bhtf.proofs.Stretch.{sound-lies}
+use Rattle.laws.proofs.Tests.{by-bool}
+use Rattle.laws.proofs.Slots.{slot-above}
+use Rattle.laws.proofs.Kept.{version-elsewhere, version-fixed, version-known}
+use Rattle.laws.proofs.Stretch.{sound-lies}
 use Rattle.agreement.proofs.Data.{file-above, frame-change}
 use Rattle.agreement.proofs.File.{not-allowed, File, Change}
 use Rattle.agreement.proofs.Reflect.{Reflects, reflect-same}

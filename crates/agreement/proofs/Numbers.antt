@@ -18,8 +18,8 @@ use Rattle.bhtf.specs.Calls.{Outcome, plain}
 use Rattle.bhtf.specs.Lists.{adding, deleting, looking, counting}
 use Rattle.book.specs.Steps.{Step, calling, compacting}
 use Rattle.book.specs.Book.{Entry, Book, find, stepOf, roomAsks, addAbsent, replace, append, addPresent, addFound, guarded, bookAdd, deleteFound, bookDelete, lookupFound, bookLookup, bookCount, bookCompact, bookCall, bookStep}
-use Rattle.bhtf.proofs.Tests.{by-bool}
-use Rattle.bhtf.proofs.Opened.{firstNo-none, firstNo-yes, firstNo-no}
+use Rattle.laws.proofs.Tests.{by-bool}
+use Rattle.laws.proofs.Opened.{firstNo-none, firstNo-yes, firstNo-no}
 
 module _ (P : ℕ → Type 0) where
   -- of a question's number and of those behind it

@@ -15,13 +15,13 @@ use Rattle.bhtf.specs.Limits.{pointsField, freeField, tableStart}
 use Rattle.bhtf.specs.Image.{field, Layout, offsetOf, slot}
 use Rattle.bhtf.specs.Messages.{headSize, held, message, overwrite}
 use Rattle.book.specs.Book.{noting}
-use Rattle.bhtf.proofs.Bytes.{part-store-inside, length-zeros}
-use Rattle.bhtf.proofs.Slots.{slot-store-data, field-store-other}
-use Rattle.bhtf.proofs.Kept.{Kept, kept-store, kept-known}
-use Rattle.bhtf.proofs.Effects.{length-message}
-use Rattle.bhtf.proofs.Table.{entryOf}
-use Rattle.bhtf.proofs.Probe.{entryOf-frame}
-use Rattle.bhtf.proofs.Stretch.{span, Lies, lies-sound, same-on-store, held-some}
+use Rattle.laws.proofs.Bytes.{part-store-inside, length-zeros}
+use Rattle.laws.proofs.Slots.{slot-store-data, field-store-other}
+use Rattle.laws.proofs.Kept.{Kept, kept-store, kept-known}
+use Rattle.laws.proofs.Effects.{length-message}
+use Rattle.laws.proofs.Table.{entryOf}
+use Rattle.laws.proofs.Probe.{entryOf-frame}
+use Rattle.laws.proofs.Stretch.{span, Lies, lies-sound, same-on-store, held-some}
 use Rattle.agreement.proofs.Data.{file-above, point-change, point-lies, point-end}
 use Rattle.agreement.proofs.Space.{Written, written, written-value, written-lies}
 use Rattle.agreement.proofs.File.{Allowed, pointOf, pointOf-some, File, file-room, file-some, Change}

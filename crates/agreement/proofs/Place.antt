@@ -19,13 +19,13 @@ use Rattle.bhtf.specs.Search.{met, empty, search}
 use Rattle.bhtf.specs.Messages.{headSize, retire, takeSpace, enter, inserted, relocated}
 use Rattle.bhtf.specs.Questions.{ask, firstNo, lengthAllowed, spaceLeft, placeNumber}
 use Rattle.book.specs.Book.{Terms, Book, find, roomAsks, entered, noting, placed}
-use Rattle.bhtf.proofs.Tests.{by-le}
-use Rattle.bhtf.proofs.Opened.{firstNo-head, firstNo-tail}
-use Rattle.bhtf.proofs.Effects.{Spaced}
-use Rattle.bhtf.proofs.Table.{entryOf}
-use Rattle.bhtf.proofs.Probe.{search-frame}
-use Rattle.bhtf.proofs.Insert.{entry-met, entry-empty}
-use Rattle.bhtf.proofs.Stretch.{lies-sound}
+use Rattle.laws.proofs.Tests.{by-le}
+use Rattle.laws.proofs.Opened.{firstNo-head, firstNo-tail}
+use Rattle.laws.proofs.Effects.{Spaced}
+use Rattle.laws.proofs.Table.{entryOf}
+use Rattle.laws.proofs.Probe.{search-frame}
+use Rattle.laws.proofs.Insert.{entry-met, entry-empty}
+use Rattle.laws.proofs.Stretch.{lies-sound}
 use Rattle.agreement.proofs.File.{Allowed, pointOf, pointOf-none, File, file-some, file-most, file-room, Change, file-change, change-trans, change-any}
 use Rattle.agreement.proofs.Retire.{retire-change, retire-slot, retire-field}
 use Rattle.agreement.proofs.Space.{written-value, space-change, space-file, space-is, space-written, space-some, space-lies, space-away}

@@ -18,12 +18,12 @@ use Rattle.bhtf.specs.Messages.{shown, bytesOf, held, retire, overwrite, renewe
 use Rattle.bhtf.specs.Questions.{ask, firstNo, modeKnown, openNumber, addNumber, placeNumber}
 use Rattle.bhtf.specs.Calls.{add}
 use Rattle.book.specs.Book.{Entry, Book, find, withEntry, stepOf, roomAsks, entered, noting, placed, replace, append, withdrawn, addPresent, addFound}
-use Rattle.bhtf.proofs.Tests.{by-bool, by-eq}
-use Rattle.bhtf.proofs.Opened.{firstNo-none, firstNo-no}
-use Rattle.bhtf.proofs.Outcomes.{room-none, add-9, add-renewed}
-use Rattle.bhtf.proofs.Texts.{by-mode, replaced-none, replaced-some, replaced-held, replaced-written, appended-none, appended-some, appended-same, withdrawn-none, withdrawn-retired, renewed-moved}
-use Rattle.bhtf.proofs.Table.{entryOf}
-use Rattle.bhtf.proofs.Insert.{entry-met}
+use Rattle.laws.proofs.Tests.{by-bool, by-eq}
+use Rattle.laws.proofs.Opened.{firstNo-none, firstNo-no}
+use Rattle.laws.proofs.Outcomes.{room-none, add-9, add-renewed}
+use Rattle.laws.proofs.Texts.{by-mode, replaced-none, replaced-some, replaced-held, replaced-written, appended-none, appended-some, appended-same, withdrawn-none, withdrawn-retired, renewed-moved}
+use Rattle.laws.proofs.Table.{entryOf}
+use Rattle.laws.proofs.Insert.{entry-met}
 use Rattle.agreement.proofs.File.{Allowed, valueOf}
 use Rattle.agreement.proofs.Retire.{retire-change, retire-field, retire-point}
 use Rattle.agreement.proofs.Noted.{noted-reflects}

@@ -21,9 +21,9 @@ use Rattle.book.specs.Steps.{Step, perform}
 use Rattle.book.specs.Book.{Book, bookStep}
 use Rattle.book.specs.Reopened.{bookOf, Starts}
 use Rattle.bhtf.specs.Inspect.{check, sound}
-use Rattle.bhtf.proofs.Bytes.{AreBytes}
-use Rattle.bhtf.proofs.Table.{Taken, keyAt}
-use Rattle.bhtf.proofs.CallsRead.{Few, sound-read, sound-add, sound-delete, sound-lookup}
+use Rattle.laws.proofs.Bytes.{AreBytes}
+use Rattle.laws.proofs.Table.{Taken, keyAt}
+use Rattle.laws.proofs.CallsRead.{Few, sound-read, sound-add, sound-delete, sound-lookup}
 use Rattle.agreement.proofs.File.{File}
 use Rattle.agreement.proofs.Reflect.{Reflected}
 use Rattle.agreement.proofs.Checked.{file-check}

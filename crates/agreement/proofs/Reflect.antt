@@ -15,8 +15,8 @@ use Rattle.bhtf.specs.Image.{field, Layout}
 use Rattle.bhtf.specs.Messages.{headSize}
 use Rattle.bhtf.specs.Questions.{nameAllowed}
 use Rattle.book.specs.Book.{Entry, Terms, Book, find, without, withEntry, entered}
-use Rattle.bhtf.proofs.Tests.{not-both}
-use Rattle.bhtf.proofs.Bytes.{by-same}
+use Rattle.laws.proofs.Tests.{not-both}
+use Rattle.laws.proofs.Bytes.{by-same}
 use Rattle.agreement.proofs.File.{Allowed, pointOf, not-allowed, File, Change, file-change, point-other}
 use Rattle.agreement.proofs.Entries.{Distinct, removed, find-without-other, find-without-same, distinct-without, find-withEntry, find-withEntry-other, distinct-withEntry}
 

@@ -12,15 +12,15 @@ use Rattle.bhtf.specs.Limits.{slotsField, pointsField, freeField}
 use Rattle.bhtf.specs.Image.{field, setField, Layout, slot, keyOf, vacant}
 use Rattle.bhtf.specs.Delete.{closed}
 use Rattle.bhtf.specs.Search.{search, met}
-use Rattle.bhtf.proofs.Slots.{Room, slot-setField}
-use Rattle.bhtf.proofs.Kept.{Kept, kept-trans, kept-known}
-use Rattle.bhtf.proofs.Effects.{points-kept, points-is, points-free, points-behind}
-use Rattle.bhtf.proofs.Table.{Findable, Taken, keyAt, entryOf, weight}
-use Rattle.bhtf.proofs.Probe.{search-met, met-taken, entryOf-frame}
-use Rattle.bhtf.proofs.Insert.{Stands, entry-absent, same-entries, weight-frame}
-use Rattle.bhtf.proofs.Frames.{part-closed, kept-closed, field-closed, weight-closed, stands-closed}
-use Rattle.bhtf.proofs.Delete.{findable-closed, gone-closed}
-use Rattle.bhtf.proofs.Stretch.{sound-lies, SameOn}
+use Rattle.laws.proofs.Slots.{Room, slot-setField}
+use Rattle.laws.proofs.Kept.{Kept, kept-trans, kept-known}
+use Rattle.laws.proofs.Effects.{points-kept, points-is, points-free, points-behind}
+use Rattle.laws.proofs.Table.{Findable, Taken, keyAt, entryOf, weight}
+use Rattle.laws.proofs.Probe.{search-met, met-taken, entryOf-frame}
+use Rattle.laws.proofs.Insert.{Stands, entry-absent, same-entries, weight-frame}
+use Rattle.laws.proofs.Frames.{part-closed, kept-closed, field-closed, weight-closed, stands-closed}
+use Rattle.laws.proofs.Delete.{findable-closed, gone-closed}
+use Rattle.laws.proofs.Stretch.{sound-lies, SameOn}
 use Rattle.agreement.proofs.Data.{frame-findable, file-above}
 use Rattle.agreement.proofs.File.{Allowed, allowed-zero, pointOf, pointOf-none, File, file-slots, file-room, file-some, Change}
 

@@ -17,11 +17,11 @@ use Rattle.bhtf.specs.Questions.{nameAllowed}
 use Rattle.bhtf.specs.Inspect.{taken, takenFrom}
 use Rattle.book.specs.Book.{Entry, find}
 use Rattle.book.specs.Reopened.{entryAt, entriesFrom, bookOf}
-use Rattle.bhtf.proofs.Tests.{by-bool, by-eq, not-both}
-use Rattle.bhtf.proofs.Bytes.{by-same}
-use Rattle.bhtf.proofs.Table.{Taken, keyAt, entryOf, slotMet}
-use Rattle.bhtf.proofs.Probe.{by-search, search-met, search-finds}
-use Rattle.bhtf.proofs.Insert.{count-taken}
+use Rattle.laws.proofs.Tests.{by-bool, by-eq, not-both}
+use Rattle.laws.proofs.Bytes.{by-same}
+use Rattle.laws.proofs.Table.{Taken, keyAt, entryOf, slotMet}
+use Rattle.laws.proofs.Probe.{by-search, search-met, search-finds}
+use Rattle.laws.proofs.Insert.{count-taken}
 use Rattle.agreement.proofs.File.{Allowed, allowed-zero, File, file-some, file-data, pointOf, pointOf-some, pointOf-none, valueOf}
 use Rattle.agreement.proofs.Entries.{Distinct, find-none, find-here, find-on}
 use Rattle.agreement.proofs.Reflect.{Reflects}

@@ -17,14 +17,14 @@ use Rattle.bhtf.specs.Image.{field, Layout, layoutOf, offsetOf, slot}
 use Rattle.bhtf.specs.Messages.{headSize, letterAt, lengthAt, isActive, shown, held, retire}
 use Rattle.bhtf.specs.Questions.{messageSound}
 use Rattle.book.specs.Book.{withdrawn}
-use Rattle.bhtf.proofs.Tests.{by-eq}
-use Rattle.bhtf.proofs.Bytes.{Apart, apart-sym, apart-inside, part-store-same}
-use Rattle.bhtf.proofs.Kept.{kept-known}
-use Rattle.bhtf.proofs.Effects
-use Rattle.bhtf.proofs.Effects.{active-some, by-retire, retire-kept, retire-behind}
-use Rattle.bhtf.proofs.Table.{entryOf}
-use Rattle.bhtf.proofs.Probe.{entryOf-frame}
-use Rattle.bhtf.proofs.Stretch.{span, Lies, lies-sound, none-sound, SameOn, same-on-refl, same-on-store}
+use Rattle.laws.proofs.Tests.{by-eq}
+use Rattle.laws.proofs.Bytes.{Apart, apart-sym, apart-inside, part-store-same}
+use Rattle.laws.proofs.Kept.{kept-known}
+use Rattle.laws.proofs.Effects
+use Rattle.laws.proofs.Effects.{active-some, by-retire, retire-kept, retire-behind}
+use Rattle.laws.proofs.Table.{entryOf}
+use Rattle.laws.proofs.Probe.{entryOf-frame}
+use Rattle.laws.proofs.Stretch.{span, Lies, lies-sound, none-sound, SameOn, same-on-refl, same-on-store}
 use Rattle.agreement.proofs.Data.{point-change, point-lies}
 use Rattle.agreement.proofs.File.{Allowed, valueOf, pointOf, pointOf-some, File, file-some, Change}
 

@@ -19,12 +19,12 @@ use Rattle.bhtf.specs.Delete.{closed, deleted, deletedAt}
 use Rattle.bhtf.specs.Questions.{Question, ask, firstNo, nameAllowed, messageSound, somePoint, openNumber, lookupNumber, deleteNumber}
 use Rattle.bhtf.specs.Calls.{Outcome, plain, settled, delete, lookup, count, countOf}
 use Rattle.book.specs.Book.{Terms, Book, find, without, stepOf, guarded, bookDelete, deleteFound, bookLookup, lookupFound, bookCount}
-use Rattle.bhtf.proofs.Tests.{by-bool, not-both}
-use Rattle.bhtf.proofs.Opened.{firstNo-none, firstNo-yes, firstNo-no, facts-opened}
-use Rattle.bhtf.proofs.Outcomes.{settled-yes, settled-no, lookup-7, lookup-14, lookup-shows, lookup-refused, delete-7, delete-14, delete-0}
-use Rattle.bhtf.proofs.Table.{entryOf}
-use Rattle.bhtf.proofs.Probe.{by-search, search-frame}
-use Rattle.bhtf.proofs.Insert.{entry-met, entry-empty, entry-exhausted}
+use Rattle.laws.proofs.Tests.{by-bool, not-both}
+use Rattle.laws.proofs.Opened.{firstNo-none, firstNo-yes, firstNo-no, facts-opened}
+use Rattle.laws.proofs.Outcomes.{settled-yes, settled-no, lookup-7, lookup-14, lookup-shows, lookup-refused, delete-7, delete-14, delete-0}
+use Rattle.laws.proofs.Table.{entryOf}
+use Rattle.laws.proofs.Probe.{by-search, search-frame}
+use Rattle.laws.proofs.Insert.{entry-met, entry-empty, entry-exhausted}
 use Rattle.agreement.proofs.File.{Allowed, valueOf, pointOf-some, pointOf-none, File, file-some, Change, file-change, change-trans}
 use Rattle.agreement.proofs.Retire.{retire-change, retire-slot, retire-field}
 use Rattle.agreement.proofs.Remove.{remove-change, remove-point, remove-points, remove-free}

@@ -13,15 +13,15 @@ use Rattle.bhtf.specs.Limits.{word, slotsField, pointsField, freeField, tableSt
 use Rattle.bhtf.specs.Image.{field, setField, Layout, slotSize, slotStart, offsetOf, slot, putSlot, keyOf, slotBytes}
 use Rattle.bhtf.specs.Messages.{enter}
 use Rattle.bhtf.specs.Search.{search, met, empty}
-use Rattle.bhtf.proofs.Bytes.{Apart}
-use Rattle.bhtf.proofs.Slots.{Room, slot-above, slot-end, slot-setField, part-putSlot-outside, field-putSlot, length-putSlot, length-entry, keyOf-entry, offsetOf-entry}
-use Rattle.bhtf.proofs.Opened.{Opened}
-use Rattle.bhtf.proofs.Kept.{Kept, kept-trans, kept-store, kept-slots, kept-known, opened-kept}
-use Rattle.bhtf.proofs.Effects.{points-kept, points-is, points-free, points-behind}
-use Rattle.bhtf.proofs.Table.{Findable, entryOf, weight}
-use Rattle.bhtf.proofs.Probe.{search-met, search-empty, entryOf-frame}
-use Rattle.bhtf.proofs.Insert.{weight-frame, insert-findable, insert-entry, insert-other, insert-weight, replace-findable, replace-entry, replace-other, replace-weight}
-use Rattle.bhtf.proofs.Stretch.{span, sound-lies, Stored, none-stored, SameOn, same-on-trans, span-same, stored-same}
+use Rattle.laws.proofs.Bytes.{Apart}
+use Rattle.laws.proofs.Slots.{Room, slot-above, slot-end, slot-setField, part-putSlot-outside, field-putSlot, length-putSlot, length-entry, keyOf-entry, offsetOf-entry}
+use Rattle.laws.proofs.Opened.{Opened}
+use Rattle.laws.proofs.Kept.{Kept, kept-trans, kept-store, kept-slots, kept-known, opened-kept}
+use Rattle.laws.proofs.Effects.{points-kept, points-is, points-free, points-behind}
+use Rattle.laws.proofs.Table.{Findable, entryOf, weight}
+use Rattle.laws.proofs.Probe.{search-met, search-empty, entryOf-frame}
+use Rattle.laws.proofs.Insert.{weight-frame, insert-findable, insert-entry, insert-other, insert-weight, replace-findable, replace-entry, replace-other, replace-weight}
+use Rattle.laws.proofs.Stretch.{span, sound-lies, Stored, none-stored, SameOn, same-on-trans, span-same, stored-same}
 use Rattle.agreement.proofs.Data.{frame-findable, file-above}
 use Rattle.agreement.proofs.File.{Allowed, allowed-length, allowed-zero, valueOf, pointOf, pointOf-some, value-same, File, file-slots, file-room, file-some, Change}
 

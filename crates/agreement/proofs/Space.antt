@@ -19,12 +19,12 @@ use Rattle.bhtf.specs.Limits.{active, freeField}
 use Rattle.bhtf.specs.Image.{field, Layout, offsetOf}
 use Rattle.bhtf.specs.Messages.{headSize, letterAt, lengthAt, textAt, isActive, shown, held, message, takeSpace}
 use Rattle.book.specs.Book.{noting}
-use Rattle.bhtf.proofs.Bytes.{Apart, part-part, length-digits, number-digits-fits}
-use Rattle.bhtf.proofs.Kept.{kept-known}
-use Rattle.bhtf.proofs.Effects.{Spaced, spaced}
-use Rattle.bhtf.proofs.Table.{entryOf}
-use Rattle.bhtf.proofs.Probe.{entryOf-frame}
-use Rattle.bhtf.proofs.Stretch.{span, Lies, sound-lies, span-same}
+use Rattle.laws.proofs.Bytes.{Apart, part-part, length-digits, number-digits-fits}
+use Rattle.laws.proofs.Kept.{kept-known}
+use Rattle.laws.proofs.Effects.{Spaced, spaced}
+use Rattle.laws.proofs.Table.{entryOf}
+use Rattle.laws.proofs.Probe.{entryOf-frame}
+use Rattle.laws.proofs.Stretch.{span, Lies, sound-lies, span-same}
 use Rattle.agreement.proofs.Data.{file-above, frame-change}
 use Rattle.agreement.proofs.File.{Allowed, not-allowed, valueOf, File, file-data, file-some, Change, file-change}
 

@@ -23,9 +23,9 @@ use Rattle.bhtf.specs.Lists.{adding, deleting, looking, counting}
 use Rattle.book.specs.Steps.{Step, calling, compacting}
 use Rattle.book.specs.Book.{Entry, Book, find, withEntry, stepOf, guarded, entered, noting, bare, placed, addAbsent, replace, append, withdrawn, addPresent, addFound, bookAdd, deleteFound, bookDelete, lookupFound, bookLookup, bookCount, trimmed, compactedBook, bookCompact, bookCall, bookStep}
 use Rattle.book.specs.Demand.{bookText, textOf}
-use Rattle.bhtf.proofs.Tests.{by-bool, by-eq}
-use Rattle.bhtf.proofs.Bytes.{by-same}
-use Rattle.bhtf.proofs.Opened.{firstNo-none, firstNo-no}
+use Rattle.laws.proofs.Tests.{by-bool, by-eq}
+use Rattle.laws.proofs.Bytes.{by-same}
+use Rattle.laws.proofs.Opened.{firstNo-none, firstNo-no}
 use Rattle.agreement.proofs.Trimmed.{trimmedOf, find-trimmed}
 use Rattle.agreement.proofs.Entries.{removed, find-same, find-without-other, find-withEntry, find-withEntry-other, length-withEntry-new, length-withEntry-old}
 

@@ -26,9 +26,9 @@ use Rattle.book.specs.Steps.{Step, calling, compacting, perform}
 use Rattle.book.specs.Book.{Book, newBook, bookCall, bookStep}
 use Rattle.book.specs.Demand.{fileText, textOf, bookText, termsOf, Agrees, Agreement}
 use Rattle.book.specs.Reopened.{Starts, AgreementFrom}
-use Rattle.bhtf.proofs.Tests.{by-bool}
-use Rattle.bhtf.proofs.Accepted.{accepted-facts}
-use Rattle.bhtf.proofs.Outcomes.{settled-yes}
+use Rattle.laws.proofs.Tests.{by-bool}
+use Rattle.laws.proofs.Accepted.{accepted-facts}
+use Rattle.laws.proofs.Outcomes.{settled-yes}
 use Rattle.agreement.proofs.Reflect.{Reflects, Reflected}
 use Rattle.agreement.proofs.Simple.{Same, Alike, same-count, same-lookup, same-delete, lookup-is, found-met, found-none, by-met}
 use Rattle.agreement.proofs.Add.{same-add}

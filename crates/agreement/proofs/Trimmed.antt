@@ -10,7 +10,7 @@ use mathlib.Core.Option.{Option, none, some, Option·none-ne-some, Option·some-
 use lib.ListN.{length}
 use Rattle.bhtf.specs.Bytes.{Bytes}
 use Rattle.book.specs.Book.{Entry, find, without, trimmed, trimmedAll, spaceFor, spaceForAll}
-use Rattle.bhtf.proofs.Bytes.{by-same}
+use Rattle.laws.proofs.Bytes.{by-same}
 use Rattle.agreement.proofs.Entries.{Distinct, find-none, find-here, find-on, without-here, without-on, find-without-other, find-without-same, distinct-without}
 
 -- ---- the entries

@@ -10,7 +10,7 @@ use mathlib.Core.Option.{none, some}
 use Rattle.bhtf.specs.Limits.{minusOne, slotsField, pointsField, freeField, pageField}
 use Rattle.bhtf.specs.Bytes.{Bytes, part, store, zeros}
 use Rattle.bhtf.specs.Image.{Layout, field, setField, layoutOf, slotBytes}
-use Rattle.bhtf.specs.Search.{Probe, met, empty, exhausted, search}
+use Rattle.bhtf.specs.Search.{Probe, met, empty, exhausted, search, slotsRead}
 use Rattle.bhtf.specs.Messages.{shownLength, setFree, retire, overwrite, renewedText}
 use Rattle.bhtf.specs.Questions.{firstNo, messageSound, pointAsks, seekNumber}
 use Rattle.bhtf.specs.Calls.{lookupStart}
@@ -163,6 +163,23 @@ pub offset-only : (search (layoutOf offsetOnly) offsetOnly one ≡ empty 3)
     × (part (after (point 1 ∷ []) offsetOnly) 2063 5 ≡ 1 ∷ 0 ∷ 0 ∷ 0 ∷ 0 ∷ [])
 unfolding answered after offsetOnly
 offset-only = (refl, refl, refl)
+
+-- how many slots a search read: bytes 1 and 2 in slots 3 and 0, both at home in 3, and the empty slot behind them
+unfoldable pub two-taken : Bytes
+unfolding headed
+two-taken = store (store (headed 1 4 4096) 2048 (slotBytes two 0)) 2063 (slotBytes one 0)
+
+unfoldable pub reads : Bytes → ℕ
+unfolding two-taken
+reads key = slotsRead (layoutOf two-taken) two-taken key
+
+pub read-met : (reads one ≡ 1) × (reads two ≡ 2)
+unfolding reads
+read-met = (refl, refl)
+
+pub read-empty : reads (3 ∷ []) ≡ 3
+unfolding reads
+read-empty = refl
 
 -- ---- lookup
 

@@ -17,9 +17,9 @@ use Rattle.bhtf.specs.Bytes.{Bytes, part, store, digits}
 use Rattle.bhtf.specs.Image.{setField}
 use Rattle.updates.specs.Changes.{Pair, joined, runs, pairBytes, whole, changesIn}
 use Rattle.updates.specs.Journal.{newBytes, total}
-use Rattle.bhtf.proofs.Tests.{by-le}
-use Rattle.bhtf.proofs.Bytes.{length-digits, length-store}
-use Rattle.bhtf.proofs.Stores.{store-none, store-append}
+use Rattle.laws.proofs.Tests.{by-le}
+use Rattle.laws.proofs.Bytes.{length-digits, length-store}
+use Rattle.laws.proofs.Stores.{store-none, store-append}
 use Rattle.updates.proofs.Changes.{joined-next, joined-apart, runs-same, runs-differ, Spread, spread-runs}
 use Rattle.changes.specs.Scans.{rest, Differ, ToChange, RunTo, Measured}
 

@@ -15,7 +15,7 @@ use lib.ListN.{length, getD}
 use lib.Seq.{ext-getD}
 use Rattle.bhtf.specs.Bytes.{Bytes}
 use Rattle.updates.specs.Changes.{Pair, covered}
-use Rattle.bhtf.proofs.Tests.{by-le, or-right}
+use Rattle.laws.proofs.Tests.{by-le, or-right}
 use Rattle.updates.proofs.Changes.{inside, inside-yes, inside-below, inside-above, covered-cons}
 use Rattle.updates.proofs.Copied.{Within, length-copied, byte-copied, byte-left}
 use Rattle.changes.specs.declared.windows.Windows.{Windows}

@@ -15,12 +15,12 @@ use Rattle.bhtf.specs.Image.{Layout, layoutOf, slotStart, slot, putSlot, blank,
 use Rattle.bhtf.specs.Delete.{Closing, among, stays, moved, closeFrom, closed}
 use Rattle.bhtf.specs.Questions.{openNumber}
 use Rattle.bhtf.specs.Search.{next}
-use Rattle.bhtf.proofs.Tests.{by-bool}
-use Rattle.bhtf.proofs.Bytes.{Apart}
-use Rattle.bhtf.proofs.Slots.{slots-apart, length-blank}
-use Rattle.bhtf.proofs.Table.{Taken}
-use Rattle.bhtf.proofs.Closing.{Going, left, looks, going-closed, going-skip, going-move, left-skip, left-move}
-use Rattle.bhtf.proofs.Closing.{turn-image, turn-skip, turn-move, closed-looks, hole-other}
+use Rattle.laws.proofs.Tests.{by-bool}
+use Rattle.laws.proofs.Bytes.{Apart}
+use Rattle.laws.proofs.Slots.{slots-apart, length-blank}
+use Rattle.laws.proofs.Table.{Taken}
+use Rattle.laws.proofs.Closing.{Going, left, looks, going-closed, going-skip, going-move, left-skip, left-move}
+use Rattle.laws.proofs.Closing.{turn-image, turn-skip, turn-move, closed-looks, hole-other}
 use Rattle.layout.specs.Shapes.{shapeOf, Open}
 use Rattle.layout.specs.declared.shape.Shape.{Shape}
 use Rattle.table.specs.Slots.{Placed, homeIn}

@@ -24,13 +24,13 @@ use Rattle.bhtf.specs.Image.{field, setField, Layout, slotSize, slotStart, slot
 use Rattle.bhtf.specs.Messages.{headSize, letterAt, lengthAt, textAt, isActive, setFree}
 use Rattle.bhtf.specs.Inspect.{taken}
 use Rattle.compaction.specs.Compact.{beginsAt, packedBelow, packed, packedOffset, packedSlot, packedSlots, packedEnd, packedData, lowerFree, compacted}
-use Rattle.bhtf.proofs.Tests.{by-bool, by-eq, by-le, by-either, and-right}
-use Rattle.bhtf.proofs.Bytes.{part-length, part-add, part-part, Apart, length-store, part-store-inside, part-store-below, part-store-above, length-zeros}
-use Rattle.bhtf.proofs.Slots.{Room, slot-above, length-slot, length-keyOf, length-entry, keyOf-entry, offsetOf-entry, slot-store-data, part-setField-other, field-setField-same, field-setField-other, length-setField}
-use Rattle.bhtf.proofs.Total.{total-same}
-use Rattle.bhtf.proofs.Kept.{Kept, kept-trans, kept-store, kept-free, kept-page}
-use Rattle.bhtf.proofs.Table.{weigh, weight}
-use Rattle.bhtf.proofs.Stretch.{span}
+use Rattle.laws.proofs.Tests.{by-bool, by-eq, by-le, by-either, and-right}
+use Rattle.laws.proofs.Bytes.{part-length, part-add, part-part, Apart, length-store, part-store-inside, part-store-below, part-store-above, length-zeros}
+use Rattle.laws.proofs.Slots.{Room, slot-above, length-slot, length-keyOf, length-entry, keyOf-entry, offsetOf-entry, slot-store-data, part-setField-other, field-setField-same, field-setField-other, length-setField}
+use Rattle.laws.proofs.Total.{total-same}
+use Rattle.laws.proofs.Kept.{Kept, kept-trans, kept-store, kept-free, kept-page}
+use Rattle.laws.proofs.Table.{weigh, weight}
+use Rattle.laws.proofs.Stretch.{span}
 use Rattle.compaction.proofs.Packing.{startAt, Live, Stretches, live-begins}
 use Rattle.compaction.proofs.Packed.{begins-active, begins-end, end-fits, length-parted, packed-at, packed-order, packed-end, span-some, tight-bytes, tight-at, activeSpan, packed-weight}
 

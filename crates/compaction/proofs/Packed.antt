@@ -20,12 +20,12 @@ use Rattle.bhtf.specs.Image.{field, Layout, slot, offsetOf, vacant}
 use Rattle.bhtf.specs.Messages.{headSize, isActive}
 use Rattle.bhtf.specs.Inspect.{taken, someBelow}
 use Rattle.compaction.specs.Compact.{beginsAt, blockAt, packedFrom, packedBelow, packed, packedOffset, packedEnd}
-use Rattle.bhtf.proofs.Tests.{by-bool, by-le, by-eq, and-left, and-right, and-true, not-both}
-use Rattle.bhtf.proofs.Bytes.{part-length, part-add, Apart}
-use Rattle.bhtf.proofs.Total.{total, total-same, total-change, total-const}
-use Rattle.bhtf.proofs.Table.{weigh, weight}
-use Rattle.bhtf.proofs.Meeting.{some-which}
-use Rattle.bhtf.proofs.Stretch.{span}
+use Rattle.laws.proofs.Tests.{by-bool, by-le, by-eq, and-left, and-right, and-true, not-both}
+use Rattle.laws.proofs.Bytes.{part-length, part-add, Apart}
+use Rattle.laws.proofs.Total.{total, total-same, total-change, total-const}
+use Rattle.laws.proofs.Table.{weigh, weight}
+use Rattle.laws.proofs.Meeting.{some-which}
+use Rattle.laws.proofs.Stretch.{span}
 use Rattle.compaction.proofs.Packing.{startAt, Live, Stretches, begins-live}
 
 module _ (g : Layout) (img : Bytes) where

@@ -23,14 +23,14 @@ use Rattle.bhtf.specs.Image.{field, Layout, layoutOf, slot, offsetOf, vacant}
 use Rattle.bhtf.specs.Messages.{headSize, letterAt, lengthAt, isActive}
 use Rattle.bhtf.specs.Inspect.{taken, meets, someBelow, meetsLower, check, sound}
 use Rattle.compaction.specs.Compact.{beginsAt, blockAt, packedFrom, packedBelow, packedOffset}
-use Rattle.bhtf.proofs.Tests.{by-bool, by-eq, by-le, by-or, by-either, and-left, and-right, and-true, not-both}
-use Rattle.bhtf.proofs.Bytes.{Apart, apart-sym, AreBytes, part-length}
-use Rattle.bhtf.proofs.Slots.{Room}
-use Rattle.bhtf.proofs.Opened.{Opened, opened-facts, opened-room}
-use Rattle.bhtf.proofs.Table.{Taken}
-use Rattle.bhtf.proofs.Stretch.{span, Lies, sound-lies}
-use Rattle.bhtf.proofs.Meeting.{some-no, meets-apart}
-use Rattle.bhtf.proofs.Verdict.{check-open, check-messages, check-apart}
+use Rattle.laws.proofs.Tests.{by-bool, by-eq, by-le, by-or, by-either, and-left, and-right, and-true, not-both}
+use Rattle.laws.proofs.Bytes.{Apart, apart-sym, AreBytes, part-length}
+use Rattle.laws.proofs.Slots.{Room}
+use Rattle.laws.proofs.Opened.{Opened, opened-facts, opened-room}
+use Rattle.laws.proofs.Table.{Taken}
+use Rattle.laws.proofs.Stretch.{span, Lies, sound-lies}
+use Rattle.laws.proofs.Meeting.{some-no, meets-apart}
+use Rattle.laws.proofs.Verdict.{check-open, check-messages, check-apart}
 
 -- ---- live slots
 

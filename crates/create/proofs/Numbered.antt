@@ -14,8 +14,8 @@ use Rattle.bhtf.specs.Image.{dataStart}
 use Rattle.bhtf.specs.Create.{slotsAsked, freshImage}
 use Rattle.bhtf.specs.Calls.{plain, settled, create}
 use Rattle.bhtf.specs.Questions.{sizeAllowed, keyAllowed, slotsAllowed, tableFits, createAsks, createNumber}
-use Rattle.bhtf.proofs.Tests.{and-right}
-use Rattle.bhtf.proofs.Opened.{firstNo-none, firstNo-yes, firstNo-no}
+use Rattle.laws.proofs.Tests.{and-right}
+use Rattle.laws.proofs.Opened.{firstNo-none, firstNo-yes, firstNo-no}
 
 pub key-most : (K : ℕ) → keyAllowed K ≡ true → K ≤ mostKey
 unfolding keyAllowed

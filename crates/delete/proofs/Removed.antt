@@ -19,11 +19,11 @@ use Rattle.bhtf.specs.Search.{Probe, search}
 use Rattle.bhtf.specs.Delete.{closed, deletedAt, deleted}
 use Rattle.bhtf.specs.Questions.{openNumber, messageSound, somePoint, firstNo, removedAsks, seekNumber, deleteNumber}
 use Rattle.bhtf.specs.Calls.{plain, settled, delete}
-use Rattle.bhtf.proofs.Opened.{Opened, opened-facts}
-use Rattle.bhtf.proofs.Kept.{kept-trans}
-use Rattle.bhtf.proofs.Effects.{retire-kept, retire-field, retire-opened, points-kept, points-opened}
-use Rattle.bhtf.proofs.Sought.{delete-stop, delete-on}
-use Rattle.bhtf.proofs.Outcomes.{delete-refused}
+use Rattle.laws.proofs.Opened.{Opened, opened-facts}
+use Rattle.laws.proofs.Kept.{kept-trans}
+use Rattle.laws.proofs.Effects.{retire-kept, retire-field, retire-opened, points-kept, points-opened}
+use Rattle.laws.proofs.Sought.{delete-stop, delete-on}
+use Rattle.laws.proofs.Outcomes.{delete-refused}
 use Rattle.table.proofs.Heads.{SameHead, head-opened}
 
 module _ (img : Bytes) (h : openNumber img ≡ 0) (at : ℕ) (s : messageSound (layoutOf img) img at ≡ true) (n : ℕ)

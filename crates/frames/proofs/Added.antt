@@ -24,15 +24,15 @@ use Rattle.bhtf.specs.Search.{met, empty, exhausted, search, isMet}
 use Rattle.bhtf.specs.Messages.{headSize, lengthAt, textAt, isActive, shown, bytesOf, shownLength, held, message, setFree, takeSpace, retire, overwrite, freshText, renewedText, enter, inserted, relocated, renewed, renewedAt, addedAt, noted, added}
 use Rattle.bhtf.specs.Questions.{nameAllowed, modeKnown, messageSound, lengthAllowed, spaceLeft, openNumber, addNumber, placeNumber}
 use Rattle.bhtf.specs.Calls.{add}
-use Rattle.bhtf.proofs.Tests.{by-bool, by-eq, by-either, and-left}
-use Rattle.bhtf.proofs.Bytes.{Apart, part-length, length-store, part-store-other, part-store-behind, length-digits, length-zeros}
-use Rattle.bhtf.proofs.Slots.{Room, slot-end, length-setField, length-entry}
-use Rattle.bhtf.proofs.Opened.{Opened, opened-facts, opened-room, firstNo-head, firstNo-tail}
-use Rattle.bhtf.proofs.Outcomes.{settled-yes, add-closed, add-7, add-8, add-9, add-10-exhausted, add-10-full, add-11, add-14, add-renewed, add-fresh}
-use Rattle.bhtf.proofs.Probe.{search-met, search-empty}
-use Rattle.bhtf.proofs.Effects.{message-end, active-some, by-retire, retire-kept, retire-field, length-message}
-use Rattle.bhtf.proofs.Texts.{replaced-held}
-use Rattle.bhtf.proofs.Stretch.{span, held-some}
+use Rattle.laws.proofs.Tests.{by-bool, by-eq, by-either, and-left}
+use Rattle.laws.proofs.Bytes.{Apart, part-length, length-store, part-store-other, part-store-behind, length-digits, length-zeros}
+use Rattle.laws.proofs.Slots.{Room, slot-end, length-setField, length-entry}
+use Rattle.laws.proofs.Opened.{Opened, opened-facts, opened-room, firstNo-head, firstNo-tail}
+use Rattle.laws.proofs.Outcomes.{settled-yes, add-closed, add-7, add-8, add-9, add-10-exhausted, add-10-full, add-11, add-14, add-renewed, add-fresh}
+use Rattle.laws.proofs.Probe.{search-met, search-empty}
+use Rattle.laws.proofs.Effects.{message-end, active-some, by-retire, retire-kept, retire-field, length-message}
+use Rattle.laws.proofs.Texts.{replaced-held}
+use Rattle.laws.proofs.Stretch.{span, held-some}
 
 -- ---- single writes
 

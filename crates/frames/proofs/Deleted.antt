@@ -19,17 +19,17 @@ use Rattle.bhtf.specs.Messages.{retire}
 use Rattle.bhtf.specs.Delete.{moved, closed, deletedAt}
 use Rattle.bhtf.specs.Questions.{nameAllowed, messageSound, somePoint, openNumber, deleteNumber}
 use Rattle.bhtf.specs.Calls.{delete}
-use Rattle.bhtf.proofs.Tests.{by-bool, by-eq, by-le, and-left, not-both}
-use Rattle.bhtf.proofs.Bytes.{Apart}
-use Rattle.bhtf.proofs.Slots.{Room, length-slot, length-setField, length-blank, slot-putSlot-other, slot-setField}
-use Rattle.bhtf.proofs.Cyclic.{dist-lt, dist-self, dist-zero, dist-same, dist-next}
-use Rattle.bhtf.proofs.Table.{Taken}
-use Rattle.bhtf.proofs.Spread.{room-half, slot-moved-other}
-use Rattle.bhtf.proofs.Closing.{Going, closed-induct}
-use Rattle.bhtf.proofs.Opened.{Opened, opened-facts, opened-room}
-use Rattle.bhtf.proofs.Outcomes.{delete-closed, delete-7, delete-11, delete-14, delete-accepted}
-use Rattle.bhtf.proofs.Probe.{search-met}
-use Rattle.bhtf.proofs.Effects.{retire-kept, retire-slot}
+use Rattle.laws.proofs.Tests.{by-bool, by-eq, by-le, and-left, not-both}
+use Rattle.laws.proofs.Bytes.{Apart}
+use Rattle.laws.proofs.Slots.{Room, length-slot, length-setField, length-blank, slot-putSlot-other, slot-setField}
+use Rattle.laws.proofs.Cyclic.{dist-lt, dist-self, dist-zero, dist-same, dist-next}
+use Rattle.laws.proofs.Table.{Taken}
+use Rattle.laws.proofs.Spread.{room-half, slot-moved-other}
+use Rattle.laws.proofs.Closing.{Going, closed-induct}
+use Rattle.laws.proofs.Opened.{Opened, opened-facts, opened-room}
+use Rattle.laws.proofs.Outcomes.{delete-closed, delete-7, delete-11, delete-14, delete-accepted}
+use Rattle.laws.proofs.Probe.{search-met}
+use Rattle.laws.proofs.Effects.{retire-kept, retire-slot}
 use Rattle.frames.proofs.Added.{Off, field-keeps, slot-keeps, retire-keeps}
 
 abbrev pub Walked : ℕ → ℕ → ℕ → ℕ → Type 0

@@ -13,7 +13,7 @@ use borrow.Author.Tests.{le-leb, leb-true}
 use Rattle.bhtf.specs.Bytes.{Bytes}
 use Rattle.bhtf.specs.Image.{field, hashStep, hashFrom}
 use Rattle.bhtf.specs.Limits.{word}
-use Rattle.bhtf.proofs.Tests.{by-bool}
+use Rattle.laws.proofs.Tests.{by-bool}
 
 module _ (multiplier F E : ℕ) (S : Bytes) where
   pub hashStep-outside : (h c x : ℕ) → x ≡ h * multiplier % word → (F ≤ c → c ≤ E → ⊥)

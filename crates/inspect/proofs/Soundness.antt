@@ -16,12 +16,12 @@ use Rattle.bhtf.specs.Messages.{shown, bytesOf}
 use Rattle.bhtf.specs.Questions.{nameAllowed}
 use Rattle.bhtf.specs.Inspect.{taken, nextTaken, sound, check}
 use Rattle.bhtf.specs.Calls.{lookup}
-use Rattle.bhtf.proofs.Tests.{by-bool, and-true}
-use Rattle.bhtf.proofs.Slots.{length-slot, length-keyOf}
-use Rattle.bhtf.proofs.Table.{Taken, keyAt}
-use Rattle.bhtf.proofs.Opened.{opened-facts, opened-room}
-use Rattle.bhtf.proofs.Outcomes.{lookup-shows}
-use Rattle.bhtf.proofs.Verdict.{lowest-yes, lowest-no, lowest-end, check-open, check-searches, check-messages}
+use Rattle.laws.proofs.Tests.{by-bool, and-true}
+use Rattle.laws.proofs.Slots.{length-slot, length-keyOf}
+use Rattle.laws.proofs.Table.{Taken, keyAt}
+use Rattle.laws.proofs.Opened.{opened-facts, opened-room}
+use Rattle.laws.proofs.Outcomes.{lookup-shows}
+use Rattle.laws.proofs.Verdict.{lowest-yes, lowest-no, lowest-end, check-open, check-searches, check-messages}
 use Rattle.inspect.specs.Walked.{shownThen, walked, takenList}
 
 -- ---- a sound image

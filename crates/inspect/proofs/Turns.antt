@@ -20,10 +20,10 @@ use Rattle.bhtf.specs.Image.{field, Layout, layoutOf, slot, offsetOf}
 use Rattle.bhtf.specs.Search.{Probe, search}
 use Rattle.bhtf.specs.Questions.{messageSound, openNumber}
 use Rattle.bhtf.specs.Inspect.{lowest, taken, takenFrom, endsAt, entrySound, meetsLower, slotSound, slotFails, Verdict, sound, slotBad, countBad, countSound, verdictOf, tableVerdict, check}
-use Rattle.bhtf.proofs.Tests.{by-bool, by-either, and-right, zero-yes, zero-no}
-use Rattle.bhtf.proofs.Meeting.{vacant-apart}
-use Rattle.bhtf.proofs.Table.{keyAt}
-use Rattle.bhtf.proofs.Verdict.{lowest-here, lowest-on, lowest-some, lowest-yes, lowest-no, lowest-end}
+use Rattle.laws.proofs.Tests.{by-bool, by-either, and-right, zero-yes, zero-no}
+use Rattle.laws.proofs.Meeting.{vacant-apart}
+use Rattle.laws.proofs.Table.{keyAt}
+use Rattle.laws.proofs.Verdict.{lowest-here, lowest-on, lowest-some, lowest-yes, lowest-no, lowest-end}
 use Rattle.overlap.specs.Checked.{Checked}
 use Rattle.overlap.specs.Stretches.{numberOr, firstMeeting}
 use Rattle.overlap.proofs.First.{first-low, first-no, first-either}

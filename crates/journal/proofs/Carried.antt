@@ -15,13 +15,13 @@ use Rattle.bhtf.specs.Bytes.{Bytes, store, digits}
 use Rattle.bhtf.specs.Image.{setField}
 use Rattle.updates.specs.Changes.{Pair, runs, pairBytes}
 use Rattle.updates.specs.Journal.{newBytes, content, markPlace, mark, marked, journalAllowed, Disk, Block, Write, toJournal, put, written, allWritten, stretches, toImages, setMark, updates, pairCount, bytesStart, blocksOf, total, journalSound, recoveries}
-use Rattle.bhtf.proofs.Tests.{and-left}
-use Rattle.bhtf.proofs.Bytes.{length-digits, length-store}
-use Rattle.bhtf.proofs.Stores.{store-append}
+use Rattle.laws.proofs.Tests.{and-left}
+use Rattle.laws.proofs.Bytes.{length-digits, length-store}
+use Rattle.laws.proofs.Stores.{store-append}
 use Rattle.updates.proofs.Changes.{Spread, runs-spread, runs-few}
 use Rattle.updates.proofs.Journal.{length-pairBytes, length-content, Holds, holds-content, holds-mark, content-count, content-blocks, content-sound}
 use Rattle.bhtf.specs.Calls.{settled}
-use Rattle.bhtf.proofs.Outcomes.{settled-no}
+use Rattle.laws.proofs.Outcomes.{settled-no}
 use Rattle.journal.proofs.Settling.{take-beyond}
 
 -- ---- the content

@@ -17,8 +17,8 @@ use Rattle.bhtf.specs.Bytes.{Bytes, part, store, number}
 use Rattle.bhtf.specs.Image.{field}
 use Rattle.updates.specs.Changes.{Pair}
 use Rattle.updates.specs.Journal.{Block, put, putAll, blocks, pairCount, pairsFrom, pairsOf, bytesStart, blocksOf, total, contentInside, inOrder, journalSound}
-use Rattle.bhtf.proofs.Tests.{and-left, and-right}
-use Rattle.bhtf.proofs.Bytes.{part-length, length-store}
+use Rattle.laws.proofs.Tests.{and-left, and-right}
+use Rattle.laws.proofs.Bytes.{part-length, length-store}
 
 -- the count is the first number
 pub count-field : (j : Bytes) → field j 0 ≡ pairCount j

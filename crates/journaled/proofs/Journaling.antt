@@ -13,10 +13,10 @@ use Rattle.bhtf.specs.Bytes.{Bytes, part, store}
 use Rattle.bhtf.specs.Calls.{Outcome, settled}
 use Rattle.updates.specs.Changes.{workAllowed, workedNumber}
 use Rattle.updates.specs.Journal.{journalAllowed, Disk, CutSafe, allWritten, updates, journaledNumber, journaled}
-use Rattle.bhtf.proofs.Tests.{by-bool, zero-yes, zero-no}
-use Rattle.bhtf.proofs.Bytes.{part-store-same}
-use Rattle.bhtf.proofs.Stores.{store-lent}
-use Rattle.bhtf.proofs.Outcomes.{settled-no}
+use Rattle.laws.proofs.Tests.{by-bool, zero-yes, zero-no}
+use Rattle.laws.proofs.Bytes.{part-store-same}
+use Rattle.laws.proofs.Stores.{store-lent}
+use Rattle.laws.proofs.Outcomes.{settled-no}
 use Rattle.updates.proofs.Recovery.{cut-safe}
 use Rattle.journaled.specs.Journals.{Journals}
 

@@ -17,16 +17,16 @@ use Rattle.bhtf.specs.Bytes.{Bytes, part, store}
 use Rattle.bhtf.specs.Questions.{openNumber, addNumber, deleteNumber}
 use Rattle.bhtf.specs.Calls.{Outcome, plain, settled, add, delete}
 use Rattle.updates.specs.Changes.{Pair, pairBytes, copied, changesIn, listAllowed, workAllowed, workedNumber, Listed, listed}
-use Rattle.bhtf.proofs.Tests.{by-eq, and-left, and-right, zero-yes, zero-no}
-use Rattle.bhtf.proofs.Bytes.{part-store-same}
-use Rattle.bhtf.proofs.Opened.{opened-facts}
+use Rattle.laws.proofs.Tests.{by-eq, and-left, and-right, zero-yes, zero-no}
+use Rattle.laws.proofs.Bytes.{part-store-same}
+use Rattle.laws.proofs.Opened.{opened-facts}
 use Rattle.updates.proofs.Changes.{copied-changes}
 use Rattle.updates.proofs.Copied.{copied-back}
 use Rattle.changes.specs.Windows.{windowsOf, before, Sorted}
 use Rattle.changes.specs.declared.windows.Windows.{Windows}
 use Rattle.changes.proofs.Windowed.{windows-within}
 use Rattle.reach.specs.Reaches.{Only}
-use Rattle.bhtf.proofs.Outcomes.{settled-yes, settled-no, add-closed, add-refused, delete-closed, delete-refused}
+use Rattle.laws.proofs.Outcomes.{settled-yes, settled-no, add-closed, add-refused, delete-closed, delete-refused}
 use Rattle.listed.specs.Lists.{Lists}
 
 module _ (call : Bytes → Outcome Bytes) (img : Bytes) (work : ℕ) (list : Bytes) where

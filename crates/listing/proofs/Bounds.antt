@@ -14,10 +14,10 @@ use Rattle.bhtf.specs.Image.{layoutOf, slotSize, slot, keyOf, offsetOf}
 use Rattle.bhtf.specs.Messages.{isActive, shownLength}
 use Rattle.bhtf.specs.Questions.{sizeAllowed, versionKnown, headerSound, messageSound, openNumber}
 use Rattle.bhtf.specs.Inspect.{taken}
-use Rattle.bhtf.proofs.Tests.{by-bool, by-eq, by-le}
-use Rattle.bhtf.proofs.Slots.{length-slot, length-keyOf}
-use Rattle.bhtf.proofs.Opened.{opened-facts, opened-room}
-use Rattle.bhtf.proofs.Effects.{message-end, active-some}
+use Rattle.laws.proofs.Tests.{by-bool, by-eq, by-le}
+use Rattle.laws.proofs.Slots.{length-slot, length-keyOf}
+use Rattle.laws.proofs.Opened.{opened-facts, opened-room}
+use Rattle.laws.proofs.Effects.{message-end, active-some}
 use Rattle.messages.proofs.Sound.{length-shown-yes, length-shown-no}
 use Rattle.questions.proofs.Headers.{open-0, open-1, open-5, open-6}
 use Rattle.listing.specs.Listed.{heading, lengthText, line, row, lines, listed, mostListed, tooLong, printed, mostPrinted}

@@ -15,7 +15,7 @@ use Rattle.bhtf.specs.Image.{Layout, layoutOf, slot, keyOf, offsetOf}
 use Rattle.bhtf.specs.Messages.{shownLength}
 use Rattle.bhtf.specs.Questions.{messageSound, openNumber}
 use Rattle.bhtf.specs.Inspect.{taken}
-use Rattle.bhtf.proofs.Tests.{zero-yes, zero-no}
+use Rattle.laws.proofs.Tests.{zero-yes, zero-no}
 use Rattle.text.specs.Text.{decimal, hexes}
 use Rattle.listing.specs.Listed.{heading, bad, lengthText, line, row, lines, refusedText, listed}
 

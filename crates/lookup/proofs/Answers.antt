@@ -19,13 +19,13 @@ use Rattle.bhtf.specs.Search.{Probe, met, empty, exhausted, search, isMet, slot
 use Rattle.bhtf.specs.Messages.{headSize, lengthAt, isActive, bytesOf, isText, held}
 use Rattle.bhtf.specs.Questions.{firstNo, shownAsks, messageSound, openNumber, seekNumber, lookupNumber}
 use Rattle.bhtf.specs.Calls.{lookup, lookupOffset, lookupStart, lookupLength, lookupText, count, countOf}
-use Rattle.bhtf.proofs.Tests.{by-bool, by-eq}
-use Rattle.bhtf.proofs.Bytes.{part-length}
-use Rattle.bhtf.proofs.Opened.{Opened, opened-facts}
-use Rattle.bhtf.proofs.Effects.{message-end, active-some}
-use Rattle.bhtf.proofs.Outcomes.{offset-refused, shown-14, shown-11, shown-0}
-use Rattle.bhtf.proofs.Sought.{seek-opened, lookup-stop, lookup-on}
-use Rattle.bhtf.proofs.Stretch.{held-none, held-some}
+use Rattle.laws.proofs.Tests.{by-bool, by-eq}
+use Rattle.laws.proofs.Bytes.{part-length}
+use Rattle.laws.proofs.Opened.{Opened, opened-facts}
+use Rattle.laws.proofs.Effects.{message-end, active-some}
+use Rattle.laws.proofs.Outcomes.{offset-refused, shown-14, shown-11, shown-0}
+use Rattle.laws.proofs.Sought.{seek-opened, lookup-stop, lookup-on}
+use Rattle.laws.proofs.Stretch.{held-none, held-some}
 use Rattle.words.proofs.Numbers.{part-zero}
 use Rattle.lookup.specs.Shown.{shownOffset, Shows}
 

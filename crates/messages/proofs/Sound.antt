@@ -17,7 +17,7 @@ use Rattle.bhtf.specs.Limits.{active, inactive, lengthWidth, freeField}
 use Rattle.bhtf.specs.Image.{field, Layout, layoutOf}
 use Rattle.bhtf.specs.Messages.{headSize, letterAt, lengthAt, isActive, held, shownLength}
 use Rattle.bhtf.specs.Questions.{messageSound}
-use Rattle.bhtf.proofs.Bytes.{AreBytes}
+use Rattle.laws.proofs.Bytes.{AreBytes}
 use Rattle.words.proofs.Numbers.{part-cons, part-zero, part-three, number-three}
 
 -- ---- the header

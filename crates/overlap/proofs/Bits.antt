@@ -13,7 +13,7 @@ use mathlib.Core.Logic.{_⊎_, inl, inr}
 use lib.Bits.{bitAnd, bitOr, and-mask, and-le-l, and-zero-r, or-zero-r, and-shr, and-mod, or-shr, or-mod, shifted-even}
 use lib.Pow.{pow-add, pow-pos, pow-mono, shr-le, shr-lt, shr-shr, shl-shr, shl-exact}
 use lib.Pow.{high, high-ones, ones-split, ones-lt}
-use Rattle.bhtf.proofs.Tests.{by-eq, by-le}
+use Rattle.laws.proofs.Tests.{by-eq, by-le}
 use Rattle.overlap.specs.Marks.{bit}
 
 -- ---- the mask: ones, shifted

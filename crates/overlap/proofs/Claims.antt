@@ -12,7 +12,7 @@ use lib.Bits.{bitAnd, bitOr}
 use lib.ListN.{length, getD, set, length-set}
 use lib.Seq.{getD-set-same, getD-set-other}
 use Rattle.bhtf.specs.Bytes.{zeros}
-use Rattle.bhtf.proofs.Tests.{by-eq, by-le, by-either}
+use Rattle.laws.proofs.Tests.{by-eq, by-le, by-either}
 use Rattle.overlap.specs.Marks.{Map, bit, marked, Claimed}
 use Rattle.overlap.proofs.Bits.{bit-zero, and-free, and-met, or-in, or-out}
 

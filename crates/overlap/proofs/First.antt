@@ -8,8 +8,8 @@ use native.Mathlib.Omega.{arith}
 use mathlib.Core.Bool.{Bool, true, false, _||_}
 use mathlib.Core.Option.{Option, none, some}
 use Rattle.bhtf.specs.Inspect.{lowest}
-use Rattle.bhtf.proofs.Tests.{by-le, or-right, not-both}
-use Rattle.bhtf.proofs.Verdict.{lowest-some, lowest-none}
+use Rattle.laws.proofs.Tests.{by-le, or-right, not-both}
+use Rattle.laws.proofs.Verdict.{lowest-some, lowest-none}
 use Rattle.overlap.specs.Stretches.{numberOr}
 
 abbrev first : (ℕ → Bool) → ℕ → ℕ

@@ -9,7 +9,7 @@ use mathlib.Core.Bool.{Bool, true, false, cond}
 use mathlib.Core.Logic.{_⊎_, inl, inr}
 use lib.Dec.{ltb}
 use borrow.Author.Tests.{lt-ltb, le-ltb}
-use Rattle.bhtf.proofs.Tests.{by-le, by-eq, by-either}
+use Rattle.laws.proofs.Tests.{by-le, by-eq, by-either}
 use Rattle.overlap.specs.Marks.{Map, marked, Claimed}
 use Rattle.overlap.specs.Windows.{Piece, Unseen, Carried, Clear, Swept}
 

@@ -9,7 +9,7 @@ use native.Mathlib.Omega.{arith}
 use mathlib.Core.Bool.{and-false}
 use lib.Dec.{leb}
 use borrow.Author.Tests.{le-leb, lt-leb, lt-ltb, le-ltb}
-use Rattle.bhtf.proofs.Tests.{by-le}
+use Rattle.laws.proofs.Tests.{by-le}
 use Rattle.overlap.specs.Windows.{within, Piece, Unseen}
 
 module _ (lo hi start : ℕ) where

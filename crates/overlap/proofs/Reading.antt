@@ -16,9 +16,9 @@ use Rattle.bhtf.specs.Limits.{dataField, freeField}
 use Rattle.bhtf.specs.Image.{field, layoutOf}
 use Rattle.bhtf.specs.Messages.{headSize, lengthAt}
 use Rattle.bhtf.specs.Inspect.{taken, stretchStart, stretchEnd, endAt}
-use Rattle.bhtf.proofs.Tests.{by-bool, by-eq}
-use Rattle.bhtf.proofs.Opened.{opened-facts}
-use Rattle.bhtf.proofs.Effects.{message-low, message-end}
+use Rattle.laws.proofs.Tests.{by-bool, by-eq}
+use Rattle.laws.proofs.Opened.{opened-facts}
+use Rattle.laws.proofs.Effects.{message-low, message-end}
 use Rattle.layout.specs.declared.shape.Shape.{Shape}
 use Rattle.layout.proofs.Shaped.{shape-head, head-width}
 use Rattle.table.specs.Slots.{vacantIn, offsetIn}

@@ -12,7 +12,7 @@ use borrow.Author.Tests.{lt-ltb, ltb-true}
 use Rattle.bhtf.specs.Bytes.{Bytes}
 use Rattle.bhtf.specs.Image.{field, layoutOf}
 use Rattle.bhtf.specs.Limits.{dataField, freeField}
-use Rattle.bhtf.proofs.Tests.{by-bool, by-le, by-eq, and-left, and-right, and-true, or-right}
+use Rattle.laws.proofs.Tests.{by-bool, by-le, by-eq, and-left, and-right, and-true, or-right}
 use Rattle.layout.specs.declared.shape.Shape.{Shape}
 use Rattle.overlap.specs.Checked.{startIn, endIn, Checked}
 use Rattle.bhtf.specs.Inspect.{meets, someBelow, meetsLower}

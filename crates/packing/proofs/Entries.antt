@@ -19,11 +19,11 @@ use Rattle.bhtf.specs.Image.{setField, Layout, layoutOf, slotSize, slotStart, s
 use Rattle.bhtf.specs.Messages.{isActive}
 use Rattle.bhtf.specs.Inspect.{taken}
 use mathlib.Core.Logic.{inr}
-use Rattle.bhtf.proofs.Bytes.{AreBytes, part-length, part-store-other}
-use Rattle.bhtf.proofs.Stores.{store-append}
-use Rattle.bhtf.proofs.Slots.{Room, keyOf-slot}
+use Rattle.laws.proofs.Bytes.{AreBytes, part-length, part-store-other}
+use Rattle.laws.proofs.Stores.{store-append}
+use Rattle.laws.proofs.Slots.{Room, keyOf-slot}
 use Rattle.runs.proofs.Little.{bytes-part}
-use Rattle.bhtf.proofs.Tests.{by-bool}
+use Rattle.laws.proofs.Tests.{by-bool}
 use Rattle.packing.specs.Stages.{offsetIn, keyIn, spanIn, deadIn, activeIn, withOffset, tableEnd}
 
 -- ---- four bytes

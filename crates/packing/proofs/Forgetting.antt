@@ -19,14 +19,14 @@ use Rattle.bhtf.specs.Image.{field, Layout, layoutOf, slotSize, slotStart, slot
 use Rattle.bhtf.specs.Messages.{headSize, letterAt, lengthAt, isActive}
 use Rattle.bhtf.specs.Inspect.{taken}
 use Rattle.compaction.specs.Compact.{packedBelow, packed}
-use Rattle.bhtf.proofs.Tests.{by-bool, by-eq, by-le, and-left, and-right, and-true, not-both}
-use Rattle.bhtf.proofs.Slots.{Room, length-slot, length-keyOf, length-entry, length-putSlot, slot-putSlot-same, slot-putSlot-other, part-putSlot-outside}
-use Rattle.bhtf.proofs.Opened.{Opened, opened-facts}
-use Rattle.bhtf.proofs.Stretch.{span, Lies, sound-lies}
-use Rattle.bhtf.proofs.Verdict.{check-messages}
+use Rattle.laws.proofs.Tests.{by-bool, by-eq, by-le, and-left, and-right, and-true, not-both}
+use Rattle.laws.proofs.Slots.{Room, length-slot, length-keyOf, length-entry, length-putSlot, slot-putSlot-same, slot-putSlot-other, part-putSlot-outside}
+use Rattle.laws.proofs.Opened.{Opened, opened-facts}
+use Rattle.laws.proofs.Stretch.{span, Lies, sound-lies}
+use Rattle.laws.proofs.Verdict.{check-messages}
 use Rattle.compaction.proofs.Packing.{startAt, Live, Stretches, sound-stretches, below-start}
-use Rattle.bhtf.proofs.Total.{total, total-same, total-bound}
-use Rattle.bhtf.proofs.Table.{weigh, weight}
+use Rattle.laws.proofs.Total.{total, total-same, total-bound}
+use Rattle.laws.proofs.Table.{weigh, weight}
 use Rattle.compaction.proofs.Packed.{activeSpan, packed-weight}
 use Rattle.layout.specs.Shapes.{Open}
 use Rattle.layout.proofs.Shaped.{shape-head}

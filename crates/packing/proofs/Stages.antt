@@ -18,12 +18,12 @@ use Rattle.bhtf.specs.Image.{field, Layout, layoutOf, slotSize, slot, keyOf, of
 use Rattle.bhtf.specs.Messages.{headSize, lengthAt, isActive}
 use Rattle.bhtf.specs.Inspect.{taken, stretchStart}
 use Rattle.compaction.specs.Compact.{packedBelow}
-use Rattle.bhtf.proofs.Tests.{by-bool, by-eq, by-le}
-use Rattle.bhtf.proofs.Bytes.{part-part}
-use Rattle.bhtf.proofs.Slots.{Room, length-slot, length-keyOf, length-entry, keyOf-entry, offsetOf-entry}
-use Rattle.bhtf.proofs.Opened.{Opened, opened-facts, facts-opened}
-use Rattle.bhtf.proofs.Kept.{Kept, kept-layout, opened-kept, kept-multiplier, kept-start, kept-first, kept-last, middleSize, restSize}
-use Rattle.bhtf.proofs.Stretch.{span}
+use Rattle.laws.proofs.Tests.{by-bool, by-eq, by-le}
+use Rattle.laws.proofs.Bytes.{part-part}
+use Rattle.laws.proofs.Slots.{Room, length-slot, length-keyOf, length-entry, keyOf-entry, offsetOf-entry}
+use Rattle.laws.proofs.Opened.{Opened, opened-facts, facts-opened}
+use Rattle.laws.proofs.Kept.{Kept, kept-layout, opened-kept, kept-multiplier, kept-start, kept-first, kept-last, middleSize, restSize}
+use Rattle.laws.proofs.Stretch.{span}
 use Rattle.compaction.proofs.Packing.{startAt, stopAt, Live, Stretches, packed-below}
 use Rattle.layout.specs.Shapes.{shapeOf, Open}
 use Rattle.layout.specs.declared.shape.Shape.{Shape}

@@ -18,10 +18,10 @@ use Rattle.bhtf.specs.Image.{Layout, slotSize, slotStart, slot, putSlot, keyOf,
 use Rattle.bhtf.specs.Messages.{headSize, lengthAt, isActive}
 use Rattle.bhtf.specs.Inspect.{taken}
 use Rattle.compaction.specs.Compact.{packedBelow}
-use Rattle.bhtf.proofs.Tests.{by-bool, by-eq, by-le}
-use Rattle.bhtf.proofs.Bytes.{part-length, length-store, part-store-same, part-store-below, part-store-above, part-store-other}
-use Rattle.bhtf.proofs.Slots.{Room, length-slot, length-keyOf, length-entry, length-putSlot, slot-putSlot-same, slot-putSlot-other, part-putSlot-outside, slot-store-data}
-use Rattle.bhtf.proofs.Stretch.{span}
+use Rattle.laws.proofs.Tests.{by-bool, by-eq, by-le}
+use Rattle.laws.proofs.Bytes.{part-length, length-store, part-store-same, part-store-below, part-store-above, part-store-other}
+use Rattle.laws.proofs.Slots.{Room, length-slot, length-keyOf, length-entry, length-putSlot, slot-putSlot-same, slot-putSlot-other, part-putSlot-outside, slot-store-data}
+use Rattle.laws.proofs.Stretch.{span}
 use Rattle.compaction.proofs.Packing.{startAt, stopAt, Live, Stretches, below-none, below-one, packed-fits, packed-below}
 use Rattle.runs.proofs.Little.{part-join}
 use Rattle.packing.specs.Stages.{offsetNow, slotNow, tableEnd, Stage}

@@ -13,7 +13,7 @@ use Rattle.bhtf.specs.Image.{field, Layout, layoutOf}
 use Rattle.bhtf.specs.Messages.{isActive}
 use Rattle.bhtf.specs.Inspect.{taken}
 use Rattle.compaction.specs.Compact.{packedBelow, packed, packedOffset, packedEnd}
-use Rattle.bhtf.proofs.Tests.{by-bool}
+use Rattle.laws.proofs.Tests.{by-bool}
 use Rattle.compaction.proofs.Packing.{startAt, Live, Stretches, sound-stretches, live-begins}
 use Rattle.compaction.proofs.Packed.{end-fits, tight-bytes, tight-at}
 use Rattle.layout.specs.declared.shape.Shape.{Shape}

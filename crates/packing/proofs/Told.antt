@@ -16,9 +16,9 @@ use Rattle.bhtf.specs.Questions.{ask, firstNo, openNumber}
 use Rattle.bhtf.specs.Calls.{plain, settled}
 use Rattle.bhtf.specs.Inspect.{lowest, slotFails, countSound, Verdict, sound, verdictOf, tableVerdict, check}
 use Rattle.compaction.specs.Compact.{isSound, compactNumber, compacted, compact}
-use Rattle.bhtf.proofs.Tests.{by-eq, zero-yes, zero-no}
-use Rattle.bhtf.proofs.Opened.{firstNo-none, firstNo-yes, firstNo-no, firstNo-opened, firstNo-refused, opened-facts}
-use Rattle.bhtf.proofs.Verdict.{check-open}
+use Rattle.laws.proofs.Tests.{by-eq, zero-yes, zero-no}
+use Rattle.laws.proofs.Opened.{firstNo-none, firstNo-yes, firstNo-no, firstNo-opened, firstNo-refused, opened-facts}
+use Rattle.laws.proofs.Verdict.{check-open}
 
 -- the call from its number
 module _ (img : Bytes) (n : ℕ) (e : compactNumber img ≡ n) where

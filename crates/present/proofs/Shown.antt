@@ -15,10 +15,10 @@ use Rattle.bhtf.specs.Limits.{freeField}
 use Rattle.bhtf.specs.Image.{field, layoutOf}
 use Rattle.bhtf.specs.Messages.{isActive, textAt, shown, bytesOf, shownLength}
 use Rattle.bhtf.specs.Questions.{messageSound}
-use Rattle.bhtf.proofs.Tests.{by-bool, by-eq}
-use Rattle.bhtf.proofs.Bytes.{length-part-append}
-use Rattle.bhtf.proofs.Opened.{Opened, opened-facts}
-use Rattle.bhtf.proofs.Effects.{area-above, message-end, message-fits, active-some}
+use Rattle.laws.proofs.Tests.{by-bool, by-eq}
+use Rattle.laws.proofs.Bytes.{length-part-append}
+use Rattle.laws.proofs.Opened.{Opened, opened-facts}
+use Rattle.laws.proofs.Effects.{area-above, message-end, message-fits, active-some}
 use Rattle.words.proofs.Numbers.{part-zero}
 use Rattle.layout.specs.Shapes.{Open}
 use Rattle.layout.specs.declared.shape.Shape.{Shape}

@@ -13,8 +13,8 @@ use Rattle.bhtf.specs.Bytes.{Bytes}
 use Rattle.bhtf.specs.Limits.{keyField, slotsField, dataField, freeField, mostKey, mostSlots, mostImage, pageSize}
 use Rattle.bhtf.specs.Image.{field, dataStart}
 use Rattle.bhtf.specs.Questions.{sizeAllowed, keyAllowed, slotsAllowed, versionKnown, headerSound, opened, openNumber}
-use Rattle.bhtf.proofs.Tests.{and-left, and-right}
-use Rattle.bhtf.proofs.Opened.{firstNo-none, firstNo-yes, firstNo-no}
+use Rattle.laws.proofs.Tests.{and-left, and-right}
+use Rattle.laws.proofs.Opened.{firstNo-none, firstNo-yes, firstNo-no}
 use Rattle.questions.specs.Ranges.{rangesSound}
 
 module _ (img : Bytes) where

@@ -13,8 +13,8 @@ use Rattle.bhtf.specs.Bytes.{Bytes, part, number, same}
 use Rattle.bhtf.specs.Limits.{magic}
 use Rattle.bhtf.specs.Image.{field}
 use Rattle.bhtf.specs.Questions.{versionKnown}
-use Rattle.bhtf.proofs.Tests.{and-left, and-right, and-true}
-use Rattle.bhtf.proofs.Bytes.{AreBytes, same-true}
+use Rattle.laws.proofs.Tests.{and-left, and-right, and-true}
+use Rattle.laws.proofs.Bytes.{AreBytes, same-true}
 use Rattle.words.proofs.Numbers.{part-cons, part-four, number-four}
 
 -- two tests of which each follows from the other

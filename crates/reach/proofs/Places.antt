@@ -12,11 +12,11 @@ use Rattle.bhtf.specs.Limits.{freeField, tableStart}
 use Rattle.bhtf.specs.Image.{field, layoutOf, slotSize, slotStart, slot, vacant}
 use Rattle.bhtf.specs.Messages.{headSize, lengthAt, isActive, shownLength}
 use Rattle.bhtf.specs.Questions.{messageSound}
-use Rattle.bhtf.proofs.Tests.{by-bool, by-eq}
-use Rattle.bhtf.proofs.Slots.{Room, slot-end, slot-above}
-use Rattle.bhtf.proofs.Opened.{Opened, opened-facts, opened-room}
-use Rattle.bhtf.proofs.Effects.{message-low, message-end}
-use Rattle.bhtf.proofs.Stretch.{span}
+use Rattle.laws.proofs.Tests.{by-bool, by-eq}
+use Rattle.laws.proofs.Slots.{Room, slot-end, slot-above}
+use Rattle.laws.proofs.Opened.{Opened, opened-facts, opened-room}
+use Rattle.laws.proofs.Effects.{message-low, message-end}
+use Rattle.laws.proofs.Stretch.{span}
 use Rattle.changes.specs.Windows.{Sorted}
 use Rattle.changes.specs.declared.windows.Windows.{Windows}
 use Rattle.layout.specs.Shapes.{Open}

@@ -15,12 +15,12 @@ use Rattle.bhtf.specs.Search.{Probe, met, empty, exhausted, search, isMet, dist
 use Rattle.bhtf.specs.Messages.{headSize, shownLength}
 use Rattle.bhtf.specs.Questions.{modeKnown, messageSound, seekNumber, addNumber, deleteNumber}
 use Rattle.bhtf.specs.Calls.{plain, add, delete}
-use Rattle.bhtf.proofs.Tests.{by-le, by-eq, by-either}
-use Rattle.bhtf.proofs.Bytes.{Apart}
-use Rattle.bhtf.proofs.Slots.{Room, slot-end}
-use Rattle.bhtf.proofs.Cyclic.{by-dist, dist-up, dist-wrap}
-use Rattle.bhtf.proofs.Opened.{opened-facts, opened-room}
-use Rattle.bhtf.proofs.Sought.{add-stop, delete-stop}
+use Rattle.laws.proofs.Tests.{by-le, by-eq, by-either}
+use Rattle.laws.proofs.Bytes.{Apart}
+use Rattle.laws.proofs.Slots.{Room, slot-end}
+use Rattle.laws.proofs.Cyclic.{by-dist, dist-up, dist-wrap}
+use Rattle.laws.proofs.Opened.{opened-facts, opened-room}
+use Rattle.laws.proofs.Sought.{add-stop, delete-stop}
 use Rattle.updates.specs.Changes.{covered}
 use Rattle.updates.proofs.Changes.{byte-part}
 use Rattle.changes.specs.Windows.{windowsOf}

@@ -14,8 +14,8 @@ use Rattle.bhtf.specs.Image.{field, Layout}
 use Rattle.bhtf.specs.Messages.{headSize}
 use Rattle.bhtf.specs.Questions.{lengthAllowed, spaceLeft, placeNumber}
 use Rattle.bhtf.specs.Calls.{settled}
-use Rattle.bhtf.proofs.Opened.{firstNo-none, firstNo-yes, firstNo-no}
-use Rattle.bhtf.proofs.Outcomes.{settled-yes, settled-no, room-none}
+use Rattle.laws.proofs.Opened.{firstNo-none, firstNo-yes, firstNo-no}
+use Rattle.laws.proofs.Outcomes.{settled-yes, settled-no, room-none}
 
 module _ (g : Layout) (img : Bytes) where
   -- ---- of a text of m bytes

@@ -17,8 +17,8 @@ use lib.Dec.{eqb}
 use borrow.Author.Tests.{eq-eqb, ne-eqb, eqb-true}
 use native.Mathlib.Omega.{arith}
 use Rattle.bhtf.specs.Bytes.{Bytes, part, same, allZero}
-use Rattle.bhtf.proofs.Tests.{by-bool, and-left, and-right}
-use Rattle.bhtf.proofs.Bytes.{AreBytes, part-length, same-refl, same-true}
+use Rattle.laws.proofs.Tests.{by-bool, and-left, and-right}
+use Rattle.laws.proofs.Bytes.{AreBytes, part-length, same-refl, same-true}
 use Rattle.runs.specs.Little.{little}
 use Rattle.runs.proofs.Little.{bytes-part, little-same, little-zero, zero-little}
 

@@ -15,7 +15,7 @@ use mathlib.Core.Path.{_≡_, refl, sym, ap, _∙_}
 use lib.ListN.{length, getD, set, take, drop, replicate, length-append, length-drop, List·getD-append}
 use lib.Seq.{take-length, drop-length, length-take-le, drop-drop, getD-take, getD-drop, getD-append-add, paste, paste-suc, length-paste-head}
 use Rattle.bhtf.specs.Bytes.{Bytes, part, store, zeros}
-use Rattle.bhtf.proofs.Bytes.{Apart}
+use Rattle.laws.proofs.Bytes.{Apart}
 
 copied-suc : (s d : Bytes) (i : ℕ) → i < length s → i < length d
     → set (take i s ++ drop i d) i (getD s i 0) ≡ take (suc i) s ++ drop (suc i) d

@@ -13,8 +13,8 @@ use lib.Seq.{getD-drop, take-add, drop-drop}
 use lib.Dec.{eqb}
 use borrow.Author.Tests.{eq-eqb, eqb-true}
 use Rattle.bhtf.specs.Bytes.{Bytes, part, store, allZero}
-use Rattle.bhtf.proofs.Bytes.{AreBytes}
-use Rattle.bhtf.proofs.Tests.{and-left, and-right}
+use Rattle.laws.proofs.Bytes.{AreBytes}
+use Rattle.laws.proofs.Tests.{and-left, and-right}
 use Rattle.words.proofs.Numbers.{part-four, store-sets}
 use Rattle.runs.specs.Little.{little}
 

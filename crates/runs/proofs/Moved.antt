@@ -12,7 +12,7 @@ use mathlib.Core.Path.{_≡_, sym, ap, ap₂, _∙_}
 use lib.ListN.{length, take, drop, take-append-drop, drop-of-length-le}
 use lib.Seq.{take-append-add, drop-append-add, take-append-le, take-all, take-take, drop-drop, length-take-le}
 use Rattle.bhtf.specs.Bytes.{Bytes, part, store}
-use Rattle.bhtf.proofs.Bytes.{Apart, part-length, length-store, part-store-other}
+use Rattle.laws.proofs.Bytes.{Apart, part-length, length-store, part-store-other}
 use Rattle.runs.proofs.Little.{part-join}
 
 -- part of a part from the front

@@ -16,9 +16,9 @@ use Rattle.bhtf.specs.Bytes.{Bytes, store, digits, zeros}
 use Rattle.bhtf.specs.Image.{setField, dataStart}
 use Rattle.bhtf.specs.Create.{step, state, drawn, drawnBytes, freshHeader, freshImage}
 use Rattle.scramble.specs.Numbers.{allDigits}
-use Rattle.bhtf.proofs.Bytes.{length-digits, length-zeros}
-use Rattle.bhtf.proofs.Stores.{store-none, store-append}
-use Rattle.bhtf.proofs.Fresh.{length-drawnBytes, length-freshHeader}
+use Rattle.laws.proofs.Bytes.{length-digits, length-zeros}
+use Rattle.laws.proofs.Stores.{store-none, store-append}
+use Rattle.laws.proofs.Fresh.{length-drawnBytes, length-freshHeader}
 
 -- a store right behind another one, at q
 store-next : (b : Bytes) (p : ℕ) (u v : Bytes) (q : ℕ) → q ≡ p + length u → q + length v ≤ length b

@@ -14,9 +14,9 @@ use Rattle.bhtf.specs.Bytes.{Bytes, allZero}
 use Rattle.bhtf.specs.Image.{layoutOf}
 use Rattle.bhtf.specs.Questions.{nameAllowed, seekNumber}
 use Rattle.bhtf.specs.Calls.{soughtRead}
-use Rattle.bhtf.proofs.Tests.{and-left}
-use Rattle.bhtf.proofs.Sought.{seek-allowed}
-use Rattle.bhtf.proofs.CallsRead.{sought-none, sought-some}
+use Rattle.laws.proofs.Tests.{and-left}
+use Rattle.laws.proofs.Sought.{seek-allowed}
+use Rattle.laws.proofs.CallsRead.{sought-none, sought-some}
 use Rattle.layout.specs.declared.shape.Shape.{Shape}
 use Rattle.table.specs.declared.Found.{Found}
 use Rattle.table.proofs.Headers.{layout-key}

@@ -10,10 +10,10 @@ use Rattle.bhtf.specs.Bytes.{Bytes}
 use Rattle.bhtf.specs.Limits.{mostImage, mostSlots}
 use Rattle.bhtf.specs.Questions.{modeKnown, openNumber, lookupNumber}
 use Rattle.bhtf.specs.Calls.{lookupStart, lookupLength, addRead, deleteRead, lookupRead}
-use Rattle.bhtf.proofs.Tests.{by-eq}
-use Rattle.bhtf.proofs.Opened.{opened-facts}
-use Rattle.bhtf.proofs.CallsRead.{sought-most}
-use Rattle.bhtf.proofs.Outcomes.{lookup-closed, offset-refused}
+use Rattle.laws.proofs.Tests.{by-eq}
+use Rattle.laws.proofs.Opened.{opened-facts}
+use Rattle.laws.proofs.CallsRead.{sought-most}
+use Rattle.laws.proofs.Outcomes.{lookup-closed, offset-refused}
 use Rattle.lookup.proofs.Answers.{start-none, length-none, inside}
 
 open-accepted : (img key : Bytes) → lookupNumber img key ≡ 0 → openNumber img ≡ 0

@@ -13,9 +13,9 @@ use Rattle.bhtf.specs.Limits.{mostSlots, headerSize, keyField, slotsField}
 use Rattle.bhtf.specs.Image.{field, layoutOf, slotSize, slotStart}
 use Rattle.bhtf.specs.Questions.{openNumber}
 use Rattle.bhtf.specs.Inspect.{Stop, stopped, end, stopNumber, keyStart, keyWalk, lowest, slotFails, countSound, Verdict, sound, slotBad, countBad, verdictOf, verdictNumber, check}
-use Rattle.bhtf.proofs.Opened.{opened-facts, opened-room}
-use Rattle.bhtf.proofs.Slots.{slot-end}
-use Rattle.bhtf.proofs.Verdict.{lowest-some}
+use Rattle.laws.proofs.Opened.{opened-facts, opened-room}
+use Rattle.laws.proofs.Slots.{slot-end}
+use Rattle.laws.proofs.Verdict.{lowest-some}
 use Rattle.walk.specs.Stops.{stopSlot}
 use Rattle.inspect.specs.declared.Verdict as code
 use Rattle.walk.proofs.Stopping.{stopped-open, stopped-below}

@@ -16,9 +16,9 @@ use Rattle.bhtf.specs.Bytes.{Bytes, part, store, digits, zeros}
 use Rattle.bhtf.specs.Limits.{active, inactive, lengthWidth, freeField}
 use Rattle.bhtf.specs.Image.{field, Layout}
 use Rattle.bhtf.specs.Messages.{headSize, lengthAt, isActive, message, held, setFree, takeSpace, retire, overwrite}
-use Rattle.bhtf.proofs.Bytes.{part-length, length-part-append, part-part, part-store-same, length-store, length-digits, length-zeros}
-use Rattle.bhtf.proofs.Stores.{store-inner, store-append, store-end, store-lent}
-use Rattle.bhtf.proofs.Stretch.{held-some}
+use Rattle.laws.proofs.Bytes.{part-length, length-part-append, part-part, part-store-same, length-store, length-digits, length-zeros}
+use Rattle.laws.proofs.Stores.{store-inner, store-append, store-end, store-lent}
+use Rattle.laws.proofs.Stretch.{held-some}
 use Rattle.words.proofs.Numbers.{set-store}
 
 -- ---- a letter

@@ -17,9 +17,9 @@ use Rattle.bhtf.specs.Limits.{freeField}
 use Rattle.bhtf.specs.Image.{field, layoutOf, putSlot, slotBytes}
 use Rattle.bhtf.specs.Messages.{headSize, takeSpace, retire, enter, inserted, relocated}
 use Rattle.bhtf.specs.Questions.{messageSound, lengthAllowed, spaceLeft, placeNumber}
-use Rattle.bhtf.proofs.Bytes.{length-part-append}
-use Rattle.bhtf.proofs.Opened.{firstNo-head, firstNo-tail, opened-facts}
-use Rattle.bhtf.proofs.Effects.{retire-kept, retire-opened, retire-field, retire-behind, space-kept, space-opened}
+use Rattle.laws.proofs.Bytes.{length-part-append}
+use Rattle.laws.proofs.Opened.{firstNo-head, firstNo-tail, opened-facts}
+use Rattle.laws.proofs.Effects.{retire-kept, retire-opened, retire-field, retire-behind, space-kept, space-opened}
 use Rattle.layout.specs.Shapes.{Open}
 use Rattle.layout.specs.declared.shape.Shape.{Shape}
 use Rattle.layout.proofs.Shaped.{shape-head, shape-most, head-width}

@@ -17,10 +17,10 @@ use Rattle.bhtf.specs.Bytes.{Bytes, part, store, number, digits}
 use Rattle.bhtf.specs.Limits.{pageSize, mostImage, mostKey, mostSlots, mostCharacter, scrambleStart, tableStart, slotsField, multiplierField, startField, firstField, lastField}
 use Rattle.bhtf.specs.Image.{field, setField, hashFrom, hash, scramble, home, layoutOf, slotSize, slotStart, slot, putSlot, offsetOf, slotBytes}
 use Rattle.bhtf.specs.Questions.{openNumber}
-use Rattle.bhtf.proofs.Bytes.{length-digits}
-use Rattle.bhtf.proofs.Slots.{Room, keyOf-slot}
-use Rattle.bhtf.proofs.Opened.{opened-facts, opened-room}
-use Rattle.bhtf.proofs.Table.{keyAt}
+use Rattle.laws.proofs.Bytes.{length-digits}
+use Rattle.laws.proofs.Slots.{Room, keyOf-slot}
+use Rattle.laws.proofs.Opened.{opened-facts, opened-room}
+use Rattle.laws.proofs.Table.{keyAt}
 use Rattle.layout.specs.Shapes.{shapeOf, Open}
 use Rattle.layout.specs.declared.shape.Shape.{Shape}
 use Rattle.table.specs.Slots.{Placed}

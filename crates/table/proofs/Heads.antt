@@ -15,10 +15,10 @@ use Rattle.bhtf.specs.Image.{field, Layout, layoutOf, slotSize, slotStart, slot
 use Rattle.bhtf.specs.Messages.{headSize}
 use Rattle.bhtf.specs.Delete.{moved}
 use Rattle.bhtf.specs.Questions.{openNumber}
-use Rattle.bhtf.proofs.Slots.{Room, slot-end, slot-above, length-slot, field-putSlot, length-blank}
-use Rattle.bhtf.proofs.Spread.{room-half}
-use Rattle.bhtf.proofs.Opened.{Opened, opened-facts, facts-opened}
-use Rattle.bhtf.proofs.Kept.{Fixed, Kept, kept-store, kept-layout, opened-kept, kept-key, kept-slots, kept-data, kept-multiplier, kept-start, kept-first, kept-last}
+use Rattle.laws.proofs.Slots.{Room, slot-end, slot-above, length-slot, field-putSlot, length-blank}
+use Rattle.laws.proofs.Spread.{room-half}
+use Rattle.laws.proofs.Opened.{Opened, opened-facts, facts-opened}
+use Rattle.laws.proofs.Kept.{Fixed, Kept, kept-store, kept-layout, opened-kept, kept-key, kept-slots, kept-data, kept-multiplier, kept-start, kept-first, kept-last}
 use Rattle.layout.specs.Shapes.{shapeOf, Open}
 use Rattle.layout.specs.declared.shape.Shape.{Shape}
 

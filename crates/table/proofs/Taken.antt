@@ -17,8 +17,8 @@ use Rattle.bhtf.specs.Bytes.{Bytes}
 use Rattle.bhtf.specs.Image.{layoutOf}
 use Rattle.bhtf.specs.Questions.{nameAllowed}
 use Rattle.bhtf.specs.Search.{met, empty, exhausted, search, isMet}
-use Rattle.bhtf.proofs.Tests.{by-either}
-use Rattle.bhtf.proofs.Probe.{by-search, search-met, search-empty}
+use Rattle.laws.proofs.Tests.{by-either}
+use Rattle.laws.proofs.Probe.{by-search, search-met, search-empty}
 use Rattle.layout.specs.Shapes.{shapeOf, Open}
 use Rattle.layout.specs.declared.places.Slot.{Slot}
 use Rattle.layout.specs.declared.shape.Shape.{Shape}

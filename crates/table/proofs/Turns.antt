@@ -14,10 +14,10 @@ use lib.Dec.{eqb}
 use Rattle.bhtf.specs.Bytes.{Bytes, part, same, allZero}
 use Rattle.bhtf.specs.Image.{Layout, layoutOf, slot, vacant, home}
 use Rattle.bhtf.specs.Search.{Probe, met, empty, exhausted, next, probe, search, readFrom, slotsRead}
-use Rattle.bhtf.proofs.Slots.{length-slot, length-keyOf}
-use Rattle.bhtf.proofs.Table.{keyAt}
-use Rattle.bhtf.proofs.Probe.{turn-met, turn-empty, turn-on}
-use Rattle.bhtf.proofs.SlotsRead.{from-met, from-empty, from-on}
+use Rattle.laws.proofs.Slots.{length-slot, length-keyOf}
+use Rattle.laws.proofs.Table.{keyAt}
+use Rattle.laws.proofs.Probe.{turn-met, turn-empty, turn-on}
+use Rattle.laws.proofs.SlotsRead.{from-met, from-empty, from-on}
 use Rattle.runs.specs.Little.{little}
 use Rattle.runs.proofs.Compare.{other-key}
 use Rattle.layout.specs.Shapes.{Open}

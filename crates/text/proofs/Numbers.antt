@@ -13,7 +13,7 @@ use lib.ListN.{length, drop, getD, length-append}
 use lib.Seq.{drop-cons, drop-length}
 use borrow.Author.Tests.{lt-ltb, le-ltb}
 use Rattle.bhtf.specs.Bytes.{Bytes}
-use Rattle.bhtf.proofs.Tests.{by-le}
+use Rattle.laws.proofs.Tests.{by-le}
 use Rattle.text.specs.Text.{digit, decimalFrom, decimal, hexByte, hexes}
 
 low-from : (f n : ℕ) → n < 10 → decimalFrom f n ≡ digit n ∷ []

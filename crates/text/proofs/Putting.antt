@@ -10,8 +10,8 @@ use mathlib.Core.List.{[], _++_}
 use lib.ListN.{length, take, length-append}
 use lib.Seq.{length-take-le}
 use Rattle.bhtf.specs.Bytes.{Bytes, store}
-use Rattle.bhtf.proofs.Bytes.{length-store}
-use Rattle.bhtf.proofs.Stores.{store-none, store-append}
+use Rattle.laws.proofs.Bytes.{length-store}
+use Rattle.laws.proofs.Stores.{store-none, store-append}
 use Rattle.text.specs.Puts.{Put}
 
 pub put-none : (b : Bytes) (p : ℕ) → Put b p b p []

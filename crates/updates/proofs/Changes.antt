@@ -19,8 +19,8 @@ use lib.Dec.{leb, ltb, eqb}
 use borrow.Author.Tests.{le-leb, lt-leb, lt-ltb, le-ltb, eq-eqb, ne-eqb, eqb-true, not-false}
 use Rattle.bhtf.specs.Bytes.{Bytes, part, store}
 use Rattle.updates.specs.Changes.{Pair, joined, runs, covered, whole, changesIn, copied}
-use Rattle.bhtf.proofs.Tests.{by-bool, by-le, by-eq}
-use Rattle.bhtf.proofs.Bytes.{part-length, length-store, part-store-inside, part-store-other}
+use Rattle.laws.proofs.Tests.{by-bool, by-le, by-eq}
+use Rattle.laws.proofs.Bytes.{part-length, length-store, part-store-inside, part-store-other}
 
 -- ---- a byte after a store
 

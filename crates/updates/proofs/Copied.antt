@@ -14,8 +14,8 @@ use lib.ListN.{length, getD}
 use lib.Seq.{ext-getD}
 use Rattle.bhtf.specs.Bytes.{Bytes, part, store}
 use Rattle.updates.specs.Changes.{Pair, covered, copied}
-use Rattle.bhtf.proofs.Tests.{by-bool, by-le, by-either}
-use Rattle.bhtf.proofs.Bytes.{part-length, length-store}
+use Rattle.laws.proofs.Tests.{by-bool, by-le, by-either}
+use Rattle.laws.proofs.Bytes.{part-length, length-store}
 use Rattle.updates.proofs.Changes.{byte-part, byte-store-below, byte-store-above, byte-store-inside, inside, inside-yes, inside-below, inside-above, covered-cons, Near}
 
 abbrev pub Within : ℕ → List Pair → Type 0

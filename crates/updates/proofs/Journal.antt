@@ -15,8 +15,8 @@ use borrow.Author.Tests.{le-leb}
 use Rattle.bhtf.specs.Bytes.{Bytes, part, store, number, digits}
 use Rattle.updates.specs.Changes.{Pair, runs, pairBytes}
 use Rattle.updates.specs.Journal.{newBytes, content, markPlace, Block, stretches, blocks, pairCount, pairsFrom, pairsOf, bytesStart, blocksOf, total, contentInside, inOrder, journalSound}
-use Rattle.bhtf.proofs.Bytes.{part-length, length-digits, number-digits-fits, length-store}
-use Rattle.bhtf.proofs.Stores.{take-store}
+use Rattle.laws.proofs.Bytes.{part-length, length-digits, number-digits-fits, length-store}
+use Rattle.laws.proofs.Stores.{take-store}
 use Rattle.updates.proofs.Changes.{Spread}
 
 -- ---- lengths

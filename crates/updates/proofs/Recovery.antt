@@ -20,10 +20,10 @@ use Rattle.bhtf.specs.Bytes.{Bytes, part, store}
 use Rattle.bhtf.specs.Calls.{settled}
 use Rattle.updates.specs.Changes.{Pair, runs, copied}
 use Rattle.updates.specs.Journal.{newBytes, content, markPlace, mark, marked, journalAllowed, Disk, Block, Write, toJournal, toImage, put, written, allWritten, putAll, stretches, toImages, setMark, updates, spoiltBytes, spoiltBlock, spoilt, cutAfter, blocksOf, isMarked, journalSound, recoverNumber, recovered, recoveries, Safe, CutSafe}
-use Rattle.bhtf.proofs.Tests.{by-bool, by-eq, and-left, and-right, and-true}
-use Rattle.bhtf.proofs.Bytes.{part-length, length-store}
-use Rattle.bhtf.proofs.Stores.{store-inner}
-use Rattle.bhtf.proofs.Outcomes.{settled-yes, settled-no}
+use Rattle.laws.proofs.Tests.{by-bool, by-eq, and-left, and-right, and-true}
+use Rattle.laws.proofs.Bytes.{part-length, length-store}
+use Rattle.laws.proofs.Stores.{store-inner}
+use Rattle.laws.proofs.Outcomes.{settled-yes, settled-no}
 use Rattle.updates.proofs.Changes.{byte-store-above, byte-store-inside, Spread, Near, near-none, near-more, near-any, near-copy, near-runs, copied-near, runs-spread, runs-few}
 use Rattle.updates.proofs.Journal.{Holds, holds-content, holds-mark, content-blocks, content-sound}
 

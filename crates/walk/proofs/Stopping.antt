@@ -17,10 +17,10 @@ use Rattle.bhtf.specs.Limits.{slotsField}
 use Rattle.bhtf.specs.Image.{field, Layout, layoutOf}
 use Rattle.bhtf.specs.Inspect.{Stop, stopped, end, lowest, taken, nextTaken, stopAt, keyWalk, stopNumber, keyStart, keyLength, keyShown}
 use Rattle.bhtf.specs.Questions.{openNumber}
-use Rattle.bhtf.proofs.Slots.{keyOf-slot}
-use Rattle.bhtf.proofs.Table.{keyAt}
-use Rattle.bhtf.proofs.Tests.{zero-yes, zero-no}
-use Rattle.bhtf.proofs.Verdict.{lowest-some, lowest-yes, lowest-end}
+use Rattle.laws.proofs.Slots.{keyOf-slot}
+use Rattle.laws.proofs.Table.{keyAt}
+use Rattle.laws.proofs.Tests.{zero-yes, zero-no}
+use Rattle.laws.proofs.Verdict.{lowest-some, lowest-yes, lowest-end}
 use Rattle.layout.specs.declared.places.Slot.{Slot}
 use Rattle.walk.specs.Stops.{stopOf, stopSlot}
 use Rattle.walk.specs.declared.Stop as code

@@ -14,8 +14,8 @@ use Rattle.bhtf.specs.Search.{Probe}
 use Rattle.bhtf.specs.Messages.{freshText, inserted, addedAt}
 use Rattle.bhtf.specs.Questions.{firstNo, pointAsks}
 use Rattle.bhtf.specs.Calls.{settled}
-use Rattle.bhtf.proofs.Opened.{opened-facts}
-use Rattle.bhtf.proofs.Outcomes.{settled-no, point-14, point-10-exhausted, point-10-full, point-fresh}
+use Rattle.laws.proofs.Opened.{opened-facts}
+use Rattle.laws.proofs.Outcomes.{settled-no, point-14, point-10-exhausted, point-10-full, point-fresh}
 use Rattle.table.proofs.Headers.{layout-slots}
 use Rattle.table.proofs.Taken.{other-empty, empty-is, empty-within}
 use Rattle.absent.proofs.add_absent.Statement.{statement}

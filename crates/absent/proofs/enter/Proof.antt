@@ -7,7 +7,7 @@ use Rattle.bhtf.specs.Bytes.{Bytes}
 use Rattle.bhtf.specs.Limits.{pointsField}
 use Rattle.bhtf.specs.Image.{setField}
 use Rattle.bhtf.specs.Messages.{enter}
-use Rattle.bhtf.proofs.Opened.{opened-facts}
+use Rattle.laws.proofs.Opened.{opened-facts}
 use Rattle.table.proofs.Headers.{placed-opened}
 use Rattle.absent.proofs.enter.Statement.{statement}
 use Rattle.absent.proofs.enter.Tie as tie

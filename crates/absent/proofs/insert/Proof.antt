@@ -9,7 +9,7 @@ use Rattle.bhtf.specs.Bytes.{Bytes, part}
 use Rattle.bhtf.specs.Limits.{freeField}
 use Rattle.bhtf.specs.Image.{field, layoutOf}
 use Rattle.bhtf.specs.Messages.{takeSpace}
-use Rattle.bhtf.proofs.Opened.{opened-facts}
+use Rattle.laws.proofs.Opened.{opened-facts}
 use Rattle.words.proofs.Numbers.{part-zero}
 use Rattle.table.proofs.Heads.{SameHead, same-open}
 use Rattle.storing.proofs.Steps.{head-space, inserted-steps}

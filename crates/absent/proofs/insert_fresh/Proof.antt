@@ -6,7 +6,7 @@ use borrow.Author.Needs.{needs}
 use Rattle.bhtf.specs.Bytes.{Bytes}
 use Rattle.bhtf.specs.Image.{layoutOf}
 use Rattle.bhtf.specs.Messages.{enter, freshText, inserted}
-use Rattle.bhtf.proofs.Texts.{fresh-none, fresh-some}
+use Rattle.laws.proofs.Texts.{fresh-none, fresh-some}
 use Rattle.room.proofs.Rooms.{place-nothing, place-refused, place-done}
 use Rattle.storing.proofs.Steps.{place-fits}
 use Rattle.absent.proofs.insert_fresh.Statement.{statement}

@@ -4,8 +4,8 @@ use native.Mathlib.Omega.{arith}
 use borrow.Author.Needs.{needs}
 use Rattle.bhtf.specs.Bytes.{Bytes}
 use Rattle.bhtf.specs.Messages.{noted}
-use Rattle.bhtf.proofs.Opened.{opened-facts}
-use Rattle.bhtf.proofs.Outcomes.{settled-yes, settled-no}
+use Rattle.laws.proofs.Opened.{opened-facts}
+use Rattle.laws.proofs.Outcomes.{settled-yes, settled-no}
 use Rattle.add.proofs.add_found.Statement.{statement}
 use Rattle.add.proofs.add_found.Tie as tie
 

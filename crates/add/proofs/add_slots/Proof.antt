@@ -3,7 +3,7 @@ use mathlib.Core.Path.{sym, ap, _∙_}
 use borrow.Author.Needs.{needs}
 use Rattle.bhtf.specs.Calls.{soughtRead, addRead}
 use Rattle.seek.proofs.Reaching.{refused-is, reached-is, reached-key, refused-read, reached-read}
-use Rattle.bhtf.proofs.Sought.{seek-known}
+use Rattle.laws.proofs.Sought.{seek-known}
 use Rattle.add.proofs.Added.{refused-answer, found-answer}
 use Rattle.add.proofs.add_slots.Statement.{statement}
 use Rattle.add.proofs.add_slots.Tie as tie

@@ -6,7 +6,7 @@ use borrow.Author.Needs.{needs}
 use Rattle.bhtf.specs.Bytes.{Bytes, store}
 use Rattle.bhtf.specs.Limits.{versionField}
 use Rattle.bhtf.specs.Messages.{noted}
-use Rattle.bhtf.proofs.Stores.{store-lent}
+use Rattle.laws.proofs.Stores.{store-lent}
 use Rattle.add.proofs.note_version.Statement.{statement}
 use Rattle.add.proofs.note_version.Tie as tie
 

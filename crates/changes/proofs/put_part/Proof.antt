@@ -5,8 +5,8 @@ use mathlib.Core.Path.{_≡_, refl, ap, _∙_}
 use lib.ListN.{length}
 use borrow.Author.Needs.{needs}
 use Rattle.bhtf.specs.Bytes.{Bytes, part, store}
-use Rattle.bhtf.proofs.Bytes.{part-length}
-use Rattle.bhtf.proofs.Stores.{store-lent}
+use Rattle.laws.proofs.Bytes.{part-length}
+use Rattle.laws.proofs.Stores.{store-lent}
 use Rattle.changes.proofs.put_part.Statement.{statement}
 use Rattle.changes.proofs.put_part.Tie as tie
 

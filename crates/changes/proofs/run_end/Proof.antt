@@ -5,7 +5,7 @@ use mathlib.Core.Logic.{inl}
 use lib.ListN.{length}
 use borrow.Author.Needs.{needs}
 use Rattle.bhtf.specs.Bytes.{Bytes}
-use Rattle.bhtf.proofs.Tests.{by-le}
+use Rattle.laws.proofs.Tests.{by-le}
 use Rattle.changes.specs.Scans.{Differ, RunTo}
 use Rattle.changes.specs.Windows.{before}
 use Rattle.changes.proofs.Scanning.{Stops, run-to, stops-later}

@@ -8,7 +8,7 @@ use borrow.Author.Needs.{needs}
 use Rattle.bhtf.specs.Bytes.{Bytes, part, store}
 use Rattle.updates.specs.Changes.{Pair}
 use Rattle.updates.specs.Journal.{newBytes}
-use Rattle.bhtf.proofs.Bytes.{part-length}
+use Rattle.laws.proofs.Bytes.{part-length}
 use Rattle.changes.specs.Windows.{before}
 use Rattle.changes.proofs.Windowed.{length-before}
 use Rattle.changes.proofs.Scanning.{Writing, writing-start, writing-room, writing-more, writing-end, part-piece, part-step, part-is, bytes-nil}

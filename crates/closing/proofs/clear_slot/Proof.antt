@@ -6,7 +6,7 @@ use mathlib.Core.Path.{_≡_, refl, sym, ap, _∙_}
 use borrow.Rule.Slice.PartMut.{putMid, mid-len}
 use Rattle.bhtf.specs.Bytes.{Bytes, zeros}
 use Rattle.bhtf.specs.Image.{layoutOf, blank}
-use Rattle.bhtf.proofs.Slots.{length-blank}
+use Rattle.laws.proofs.Slots.{length-blank}
 use Rattle.table.proofs.Headers.{spot-placed, slot-room, put-slot}
 use borrow.Author.Needs.{needs}
 use Rattle.closing.proofs.clear_slot.Statement.{statement}

@@ -2,10 +2,10 @@
 -- `left`, which falls with every look, so that it ends for any bytes.
 -- Assumes nothing.
 use native.Mathlib.Omega.{arith}
-use Rattle.bhtf.proofs.Tests.{was-no, was-yes}
+use Rattle.laws.proofs.Tests.{was-no, was-yes}
 use mathlib.Core.Path.{_∙_}
 use Rattle.bhtf.specs.Image.{layoutOf}
-use Rattle.bhtf.proofs.Closing.{left}
+use Rattle.laws.proofs.Closing.{left}
 use Rattle.table.proofs.Headers.{placed-opened}
 use Rattle.closing.proofs.Walking.{Walking, After, walking-slots, walking-other, walking-turn, walking-end, walking-start, walking-closed}
 use Rattle.closing.proofs.close.Statement.{statement}

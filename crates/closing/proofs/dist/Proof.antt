@@ -1,7 +1,7 @@
 -- `closing::dist` meets its contract: one comparison.
 -- Assumes nothing.
 use native.Mathlib.Omega.{arith}
-use Rattle.bhtf.proofs.Cyclic.{dist-up, dist-wrap}
+use Rattle.laws.proofs.Cyclic.{dist-up, dist-wrap}
 use borrow.Author.Needs.{needs}
 use Rattle.closing.proofs.dist.Statement.{statement}
 use Rattle.closing.proofs.dist.Tie as tie

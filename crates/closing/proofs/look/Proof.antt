@@ -3,7 +3,7 @@
 use native.Mathlib.Omega.{arith}
 use mathlib.Core.Path.{sym, _∙_}
 use Rattle.bhtf.specs.Image.{layoutOf}
-use Rattle.bhtf.proofs.Probe.{home-lt}
+use Rattle.laws.proofs.Probe.{home-lt}
 use Rattle.table.specs.Slots.{keyIn}
 use Rattle.table.proofs.Headers.{header, layout-slots}
 use Rattle.closing.proofs.Walking.{stays-code, looked-stays, looked-moves}

@@ -6,7 +6,7 @@ use native.Mathlib.Omega.{arith}
 use lib.Dec.{leb}
 use Rattle.bhtf.specs.Delete.{among}
 use Rattle.bhtf.specs.Search.{next, dist}
-use Rattle.bhtf.proofs.Cyclic.{next-lt}
+use Rattle.laws.proofs.Cyclic.{next-lt}
 use borrow.Author.Needs.{needs}
 use Rattle.closing.proofs.stays.Statement.{statement}
 use Rattle.closing.proofs.stays.Tie as tie

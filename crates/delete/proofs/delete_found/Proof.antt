@@ -10,9 +10,9 @@ use Rattle.bhtf.specs.Search.{Probe, met}
 use Rattle.bhtf.specs.Delete.{deleted}
 use Rattle.bhtf.specs.Calls.{settled}
 use Rattle.bhtf.specs.Questions.{messageSound, firstNo, removedAsks}
-use Rattle.bhtf.proofs.Tests.{was-no, was-yes}
-use Rattle.bhtf.proofs.Opened.{opened-facts}
-use Rattle.bhtf.proofs.Outcomes.{settled-yes, settled-no, removed-14, removed-11, removed-0}
+use Rattle.laws.proofs.Tests.{was-no, was-yes}
+use Rattle.laws.proofs.Opened.{opened-facts}
+use Rattle.laws.proofs.Outcomes.{settled-yes, settled-no, removed-14, removed-11, removed-0}
 use Rattle.table.proofs.Taken.{other-met, met-is, met-within}
 use Rattle.delete.proofs.Removed.{unsound, no-point, some-point}
 use Rattle.delete.proofs.delete_found.Statement.{statement}

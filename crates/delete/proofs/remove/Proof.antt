@@ -8,8 +8,8 @@ use lib.ListN.{length}
 use Rattle.bhtf.specs.Bytes.{Bytes}
 use Rattle.bhtf.specs.Image.{setField}
 use Rattle.bhtf.specs.Messages.{retire}
-use Rattle.bhtf.proofs.Opened.{opened-facts}
-use Rattle.bhtf.proofs.Effects.{message-head, retire-opened}
+use Rattle.laws.proofs.Opened.{opened-facts}
+use Rattle.laws.proofs.Effects.{message-head, retire-opened}
 use Rattle.table.proofs.Heads.{SameHead, same-open}
 use Rattle.delete.proofs.Removed.{head-counted, removed}
 use Rattle.delete.proofs.remove.Statement.{statement}

@@ -3,7 +3,7 @@ use native.Mathlib.Omega.{arith}
 use mathlib.Core.Path.{_≡_, sym, _∙_}
 use borrow.Author.Needs.{needs}
 use Rattle.bhtf.specs.Questions.{openNumber}
-use Rattle.bhtf.proofs.Opened.{opened-facts}
+use Rattle.laws.proofs.Opened.{opened-facts}
 use Rattle.inspect.specs.Verdicts.{verdictIn}
 use Rattle.inspect.proofs.Turns.{check-closed, check-open}
 use Rattle.inspect.proofs.check.Statement.{statement}

@@ -2,7 +2,7 @@
 use native.Mathlib.Omega.{arith}
 use mathlib.Core.Path.{sym, _∙_}
 use borrow.Author.Needs.{needs}
-use Rattle.bhtf.proofs.Opened.{opened-facts}
+use Rattle.laws.proofs.Opened.{opened-facts}
 use Rattle.table.proofs.Headers.{layout-slots}
 use Rattle.inspect.specs.Verdicts.{verdictIn}
 use Rattle.inspect.proofs.Turns.{entries-checked, verdict-slot, verdict-count, verdict-sound}

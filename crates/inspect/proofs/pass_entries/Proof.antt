@@ -4,7 +4,7 @@ use native.Mathlib.Omega.{arith}
 use mathlib.Core.Path.{sym, _∙_, subst}
 use borrow.Author.Needs.{needs}
 use Rattle.bhtf.specs.Image.{layoutOf}
-use Rattle.bhtf.proofs.Tests.{by-either, was-no, was-yes}
+use Rattle.laws.proofs.Tests.{by-either, was-no, was-yes}
 use Rattle.table.proofs.Headers.{header}
 use Rattle.inspect.proofs.Turns.{Passed, passed-start, passed-on, passed-over, passed-fails, passed-all}
 use Rattle.inspect.proofs.pass_entries.Statement.{statement}

@@ -6,7 +6,7 @@ use mathlib.Core.Bool.{true}
 use lib.ListN.{length}
 use borrow.Author.Needs.{needs}
 use Rattle.updates.specs.Journal.{pairCount, journalSound}
-use Rattle.bhtf.proofs.Tests.{was-no, was-yes}
+use Rattle.laws.proofs.Tests.{was-no, was-yes}
 use Rattle.journal.proofs.Reading.{count-field, sound-start}
 use Rattle.journal.proofs.Recovering.{is-marked, is-other, recover-empty, recover-unsound, recover-other, recover-marked}
 use Rattle.journal.proofs.recover.Statement.{statement}

@@ -9,7 +9,7 @@ use borrow.Author.Needs.{needs}
 use Rattle.bhtf.specs.Bytes.{Bytes}
 use Rattle.updates.specs.Changes.{runs}
 use Rattle.updates.specs.Journal.{content, journalAllowed, Disk, Write, allWritten, updates}
-use Rattle.bhtf.proofs.Outcomes.{settled-yes}
+use Rattle.laws.proofs.Outcomes.{settled-yes}
 use Rattle.updates.proofs.Recovery.{updates-arrive}
 use Rattle.journal.proofs.Carried.{counted-content, refused-short, refused-mark, allowed-both, taken-all, update-refused}
 use Rattle.journal.proofs.update.Statement.{statement}

@@ -5,9 +5,9 @@ use lib.ListN.{length}
 use borrow.Author.Needs.{needs}
 use Rattle.bhtf.specs.Bytes.{Bytes}
 use Rattle.bhtf.specs.Image.{layoutOf}
-use Rattle.bhtf.proofs.Tests.{was-no, was-yes}
-use Rattle.bhtf.proofs.Effects.{message-head}
-use Rattle.bhtf.proofs.Opened.{opened-facts}
+use Rattle.laws.proofs.Tests.{was-no, was-yes}
+use Rattle.laws.proofs.Effects.{message-head}
+use Rattle.laws.proofs.Opened.{opened-facts}
 use Rattle.layout.proofs.Shaped.{head-width}
 use Rattle.table.specs.Slots.{offsetIn}
 use Rattle.text.specs.Text.{decimal}

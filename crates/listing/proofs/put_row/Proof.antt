@@ -2,7 +2,7 @@
 use native.Mathlib.Omega.{arith}
 use mathlib.Core.Path.{sym, ap}
 use lib.ListN.{length}
-use Rattle.bhtf.proofs.Tests.{was-no, was-yes}
+use Rattle.laws.proofs.Tests.{was-no, was-yes}
 use Rattle.bhtf.specs.Image.{layoutOf}
 use Rattle.text.proofs.Putting.{put-same, put-none}
 use Rattle.listing.proofs.Rows.{row-taken, row-vacant}

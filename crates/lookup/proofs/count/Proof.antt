@@ -2,7 +2,7 @@
 use borrow.Author.Needs.{needs}
 use mathlib.Core.Path.{sym, _∙_}
 use native.Mathlib.Omega.{arith}
-use Rattle.bhtf.proofs.Opened.{opened-facts}
+use Rattle.laws.proofs.Opened.{opened-facts}
 use Rattle.lookup.proofs.Answers.{count-refused, count-accepted}
 use Rattle.lookup.proofs.count.Statement.{statement}
 use Rattle.lookup.proofs.count.Tie as tie

@@ -10,10 +10,10 @@ use Rattle.bhtf.specs.Image.{layoutOf, slot, offsetOf}
 use Rattle.bhtf.specs.Search.{Probe, met}
 use Rattle.bhtf.specs.Messages.{headSize, lengthAt, isActive}
 use Rattle.bhtf.specs.Questions.{messageSound}
-use Rattle.bhtf.proofs.Tests.{was-no, was-yes}
-use Rattle.bhtf.proofs.Opened.{opened-facts}
-use Rattle.bhtf.proofs.Effects.{message-fits}
-use Rattle.bhtf.proofs.Outcomes.{shown-14, shown-11}
+use Rattle.laws.proofs.Tests.{was-no, was-yes}
+use Rattle.laws.proofs.Opened.{opened-facts}
+use Rattle.laws.proofs.Effects.{message-fits}
+use Rattle.laws.proofs.Outcomes.{shown-14, shown-11}
 use Rattle.layout.proofs.Shaped.{shape-head, head-width}
 use Rattle.table.proofs.Taken.{other-met, met-is, met-within}
 use Rattle.lookup.specs.Shown.{Shows}

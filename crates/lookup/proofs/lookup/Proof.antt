@@ -4,7 +4,7 @@ use borrow.Author.Needs.{needs}
 use mathlib.Core.Path.{ap₂, _∙_}
 use native.Mathlib.Omega.{arith}
 use Rattle.bhtf.specs.Bytes.{part}
-use Rattle.bhtf.proofs.Stores.{part-lent}
+use Rattle.laws.proofs.Stores.{part-lent}
 use Rattle.lookup.proofs.Answers.{inside, lookup-answer}
 use Rattle.lookup.proofs.lookup.Statement.{statement}
 use Rattle.lookup.proofs.lookup.Tie as tie

@@ -4,7 +4,7 @@ use lib.Dec.{leb}
 use borrow.Author.Needs.{needs}
 use borrow.Author.Tests.{eq-eqb, ne-eqb}
 use Rattle.bhtf.specs.Image.{layoutOf}
-use Rattle.bhtf.proofs.Stretch.{held-some}
+use Rattle.laws.proofs.Stretch.{held-some}
 use Rattle.messages.proofs.holds.Statement.{statement}
 use Rattle.messages.proofs.holds.Tie as tie
 

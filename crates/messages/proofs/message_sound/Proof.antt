@@ -6,8 +6,8 @@ use lib.ListN.{length}
 use borrow.Author.Needs.{needs}
 use Rattle.bhtf.specs.Bytes.{Bytes}
 use Rattle.bhtf.specs.Image.{field, layoutOf}
-use Rattle.bhtf.proofs.Opened.{opened-facts}
-use Rattle.bhtf.proofs.Effects.{area-above}
+use Rattle.laws.proofs.Opened.{opened-facts}
+use Rattle.laws.proofs.Effects.{area-above}
 use Rattle.bhtf.specs.Limits.{mostImage, lengthWidth, freeField}
 use Rattle.layout.proofs.Shaped.{shape-area, shape-head, head-width}
 use Rattle.messages.proofs.Sound.{length-bound}

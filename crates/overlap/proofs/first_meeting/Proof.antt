@@ -1,7 +1,7 @@
 -- `overlap::first_meeting` meets its contract: X is not below D. Assumes nothing.
 use native.Mathlib.Omega.{arith}
 use borrow.Author.Needs.{needs}
-use Rattle.bhtf.proofs.Opened.{opened-facts}
+use Rattle.laws.proofs.Opened.{opened-facts}
 use Rattle.layout.proofs.Shaped.{area-field}
 use Rattle.overlap.proofs.first_meeting.Statement.{statement}
 use Rattle.overlap.proofs.first_meeting.Tie as tie

@@ -6,8 +6,8 @@ use lib.ListN.{length, take}
 use lib.Seq.{length-take-le, length-front}
 use Rattle.bhtf.specs.Image.{field}
 use Rattle.bhtf.specs.Limits.{dataField, freeField}
-use Rattle.bhtf.proofs.Opened.{opened-facts}
-use Rattle.bhtf.proofs.Effects.{area-above}
+use Rattle.laws.proofs.Opened.{opened-facts}
+use Rattle.laws.proofs.Effects.{area-above}
 use Rattle.overlap.specs.Checked.{startIn, endIn}
 use Rattle.overlap.specs.Windows.{Swept}
 use Rattle.layout.proofs.Shaped.{area-field}

@@ -2,8 +2,8 @@
 use native.Mathlib.Omega.{arith}
 use mathlib.Core.Path.{sym, ap, _∙_}
 use borrow.Author.Needs.{needs}
-use Rattle.bhtf.proofs.Opened.{opened-facts}
-use Rattle.bhtf.proofs.Verdict.{check-open}
+use Rattle.laws.proofs.Opened.{opened-facts}
+use Rattle.laws.proofs.Verdict.{check-open}
 use Rattle.inspect.specs.Verdicts.{verdictIn}
 use Rattle.packing.proofs.Told.{told-refused, told-sound, told-slot, told-count}
 use Rattle.packing.proofs.compact.Statement.{statement}

@@ -4,7 +4,7 @@ use mathlib.Core.Path.{ap₂, _∙_}
 use Prim.Native.Nat.{ℕ}
 use borrow.Author.Needs.{needs}
 use Rattle.bhtf.specs.Messages.{setFree}
-use Rattle.bhtf.proofs.Opened.{opened-facts}
+use Rattle.laws.proofs.Opened.{opened-facts}
 use Rattle.layout.proofs.Shaped.{shape-area}
 use Rattle.packing.proofs.Ends.{finish-same, finish-lower}
 use Rattle.packing.proofs.finish.Statement.{statement}

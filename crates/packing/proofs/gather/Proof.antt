@@ -6,7 +6,7 @@ use mathlib.Core.Path.{_≡_, sym, ap, _∙_, subst}
 use borrow.Author.Needs.{needs}
 use Rattle.bhtf.specs.Limits.{freeField}
 use Rattle.bhtf.specs.Image.{field, layoutOf}
-use Rattle.bhtf.proofs.Opened.{opened-facts}
+use Rattle.laws.proofs.Opened.{opened-facts}
 use Rattle.layout.proofs.Shaped.{shape-area}
 use Rattle.packing.specs.Stages.{Stage, Begun}
 use Rattle.packing.proofs.Stages.{front-field}

@@ -1,7 +1,7 @@
 -- `packing::move_all` meets its contract: X is not below D. Assumes nothing.
 use native.Mathlib.Omega.{arith}
 use borrow.Author.Needs.{needs}
-use Rattle.bhtf.proofs.Opened.{opened-facts}
+use Rattle.laws.proofs.Opened.{opened-facts}
 use Rattle.layout.proofs.Shaped.{area-field}
 use Rattle.packing.proofs.Cells.{staged-open}
 use Rattle.packing.proofs.move_all.Statement.{statement}

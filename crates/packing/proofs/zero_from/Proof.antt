@@ -6,8 +6,8 @@ use lib.ListN.{length}
 use borrow.Rule.Slice.PartMut.{putMid, mid-len}
 use borrow.Author.Needs.{needs}
 use Rattle.bhtf.specs.Bytes.{Bytes, zeros}
-use Rattle.bhtf.proofs.Bytes.{length-zeros}
-use Rattle.bhtf.proofs.Stores.{store-lent}
+use Rattle.laws.proofs.Bytes.{length-zeros}
+use Rattle.laws.proofs.Stores.{store-lent}
 use Rattle.packing.proofs.zero_from.Statement.{statement}
 use Rattle.packing.proofs.zero_from.Tie as tie
 

@@ -11,9 +11,9 @@ use Rattle.bhtf.specs.Search.{met}
 use Rattle.bhtf.specs.Messages.{renewedText, renewedAt, addedAt}
 use Rattle.bhtf.specs.Questions.{firstNo, pointAsks, messageSound, placeNumber}
 use Rattle.bhtf.specs.Calls.{settled}
-use Rattle.bhtf.proofs.Tests.{was-no, was-yes}
-use Rattle.bhtf.proofs.Outcomes.{settled-no, point-9, point-11, point-renewed}
-use Rattle.bhtf.proofs.Texts.{mode-three, withdrawn-none, withdrawn-retired}
+use Rattle.laws.proofs.Tests.{was-no, was-yes}
+use Rattle.laws.proofs.Outcomes.{settled-no, point-9, point-11, point-renewed}
+use Rattle.laws.proofs.Texts.{mode-three, withdrawn-none, withdrawn-retired}
 use Rattle.layout.proofs.Shaped.{head-width}
 use Rattle.room.proofs.Rooms.{place-nothing}
 use Rattle.present.proofs.Shown.{head-fits}

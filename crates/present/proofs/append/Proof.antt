@@ -8,8 +8,8 @@ use borrow.Author.Needs.{needs}
 use Rattle.bhtf.specs.Bytes.{Bytes, part}
 use Rattle.bhtf.specs.Image.{layoutOf}
 use Rattle.bhtf.specs.Messages.{shown, bytesOf, relocated, renewedText, renewedAt}
-use Rattle.bhtf.proofs.Opened.{opened-facts}
-use Rattle.bhtf.proofs.Texts.{appended-none, appended-some, appended-same, renewed-moved}
+use Rattle.laws.proofs.Opened.{opened-facts}
+use Rattle.laws.proofs.Texts.{appended-none, appended-some, appended-same, renewed-moved}
 use Rattle.room.proofs.Rooms.{place-nothing, place-refused, place-done}
 use Rattle.storing.specs.Fits.{Fits}
 use Rattle.storing.proofs.Steps.{place-fits}

@@ -9,7 +9,7 @@ use borrow.Author.Needs.{needs}
 use Rattle.bhtf.specs.Bytes.{Bytes}
 use Rattle.bhtf.specs.Image.{layoutOf}
 use Rattle.bhtf.specs.Messages.{relocated, renewedText, renewedAt}
-use Rattle.bhtf.proofs.Texts.{replaced-none, replaced-some, replaced-held, replaced-written, renewed-moved}
+use Rattle.laws.proofs.Texts.{replaced-none, replaced-some, replaced-held, replaced-written, renewed-moved}
 use Rattle.room.proofs.Rooms.{place-nothing, place-refused, place-done}
 use Rattle.storing.specs.Fits.{Fits}
 use Rattle.storing.proofs.Steps.{place-fits}

@@ -4,7 +4,7 @@ use mathlib.Core.Path.{_≡_, sym}
 use mathlib.Core.Bool.{true}
 use native.Mathlib.Omega.{arith}
 use Rattle.questions.specs.Ranges.{rangesSound}
-use Rattle.bhtf.proofs.Tests.{was-no, was-yes}
+use Rattle.laws.proofs.Tests.{was-no, was-yes}
 use Rattle.questions.proofs.Headers.{header-refused, header-rest, ranges-key, ranges-slots}
 use Rattle.questions.proofs.header_sound.Statement.{statement}
 use Rattle.questions.proofs.header_sound.Tie as tie

@@ -6,8 +6,8 @@ use mathlib.Core.Bool.{true}
 use lib.ListN.{length}
 use Rattle.bhtf.specs.Image.{layoutOf}
 use Rattle.bhtf.specs.Questions.{messageSound}
-use Rattle.bhtf.proofs.Tests.{not-both, was-no, was-yes}
-use Rattle.bhtf.proofs.Opened.{opened-facts, opened-room}
+use Rattle.laws.proofs.Tests.{not-both, was-no, was-yes}
+use Rattle.laws.proofs.Opened.{opened-facts, opened-room}
 use Rattle.changes.specs.declared.windows.Windows.{Windows}
 use Rattle.table.specs.Slots.{offsetIn}
 use Rattle.table.specs.Probes.{probeOf}

@@ -6,8 +6,8 @@ use lib.ListN.{length}
 use Rattle.bhtf.specs.Limits.{lengthWidth}
 use Rattle.bhtf.specs.Image.{layoutOf}
 use Rattle.bhtf.specs.Messages.{lengthAt, shownLength}
-use Rattle.bhtf.proofs.Opened.{opened-facts}
-use Rattle.bhtf.proofs.Effects.{message-fits}
+use Rattle.laws.proofs.Opened.{opened-facts}
+use Rattle.laws.proofs.Effects.{message-fits}
 use Rattle.layout.proofs.Shaped.{shape-head, head-width}
 use Rattle.table.proofs.Headers.{header, spot}
 use Rattle.messages.proofs.Sound.{length-bound}

@@ -4,7 +4,7 @@ use mathlib.Core.Path.{ap, _∙_, subst}
 use lib.ListN.{length}
 use Rattle.bhtf.specs.Image.{layoutOf}
 use Rattle.bhtf.specs.Questions.{messageSound}
-use Rattle.bhtf.proofs.Stretch.{none-sound}
+use Rattle.laws.proofs.Stretch.{none-sound}
 use Rattle.table.specs.Probes.{probeOf}
 use Rattle.table.proofs.Taken.{met-is, met-within, empty-is, empty-within}
 use Rattle.reach.specs.Reaches.{Entry}

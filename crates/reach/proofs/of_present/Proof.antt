@@ -4,7 +4,7 @@ use mathlib.Core.Path.{sym, ap, _∙_, subst}
 use lib.ListN.{length}
 use Rattle.bhtf.specs.Image.{layoutOf}
 use Rattle.bhtf.specs.Questions.{messageSound}
-use Rattle.bhtf.proofs.Tests.{not-both, was-no, was-yes}
+use Rattle.laws.proofs.Tests.{not-both, was-no, was-yes}
 use Rattle.table.specs.Slots.{offsetIn}
 use Rattle.reach.specs.Reaches.{Entry}
 use borrow.Author.Needs.{needs}

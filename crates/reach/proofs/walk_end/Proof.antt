@@ -4,7 +4,7 @@ use native.Mathlib.Omega.{arith}
 use mathlib.Core.Path.{_≡_, sym, ap, _∙_}
 use borrow.Author.Needs.{needs}
 use Rattle.bhtf.specs.Search.{dist}
-use Rattle.bhtf.proofs.Cyclic.{next-lt, dist-from-next}
+use Rattle.laws.proofs.Cyclic.{next-lt, dist-from-next}
 use Rattle.reach.proofs.walk_end.Statement.{statement}
 use Rattle.reach.proofs.walk_end.Tie as tie
 

@@ -5,7 +5,7 @@ use mathlib.Core.Path.{_≡_, sym, _∙_}
 use borrow.Author.Needs.{needs}
 use lib.ListN.{length}
 use Rattle.bhtf.specs.Image.{layoutOf}
-use Rattle.bhtf.proofs.Opened.{opened-facts}
+use Rattle.laws.proofs.Opened.{opened-facts}
 use Rattle.layout.proofs.Shaped.{shape-head, shape-most, head-width, most-width}
 use Rattle.room.proofs.Rooms.{place-12, place-13, place-0}
 use Rattle.room.proofs.room_number.Statement.{statement}

@@ -5,7 +5,7 @@ use mathlib.Core.Path.{_≡_, refl, sym, ap₂, _∙_}
 use lib.ListN.{length, drop}
 use lib.Dec.{eqb}
 use Rattle.bhtf.specs.Bytes.{same}
-use Rattle.bhtf.proofs.Bytes.{AreBytes}
+use Rattle.laws.proofs.Bytes.{AreBytes}
 use Rattle.runs.proofs.Compare.{same-block, block-differ, same-last, same-lengths}
 use Rattle.runs.proofs.same_bytes.Statement.{statement}
 use Rattle.runs.proofs.same_bytes.Tie as tie

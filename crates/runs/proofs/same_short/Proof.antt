@@ -5,7 +5,7 @@ use mathlib.Core.Path.{sym, ap, ap₂, _∙_}
 use lib.ListN.{length}
 use lib.Dec.{eqb}
 use Rattle.bhtf.specs.Bytes.{part}
-use Rattle.bhtf.proofs.Bytes.{AreBytes}
+use Rattle.laws.proofs.Bytes.{AreBytes}
 use Rattle.runs.specs.Little.{little}
 use Rattle.runs.proofs.Compare.{same-block, block-differ, same-last}
 use borrow.Author.Needs.{needs}

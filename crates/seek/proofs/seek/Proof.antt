@@ -6,8 +6,8 @@ use borrow.Author.Needs.{needs}
 use borrow.Author.Tests.{not-true, not-false}
 use Rattle.bhtf.specs.Image.{layoutOf}
 use Rattle.bhtf.specs.Questions.{nameAllowed, openNumber}
-use Rattle.bhtf.proofs.Opened.{opened-facts}
-use Rattle.bhtf.proofs.Sought.{seek-closed, seek-7, seek-8, seek-0}
+use Rattle.laws.proofs.Opened.{opened-facts}
+use Rattle.laws.proofs.Sought.{seek-closed, seek-7, seek-8, seek-0}
 use Rattle.table.proofs.Taken.{named-no, named-yes, search-within}
 use Rattle.table.specs.Probes.{Within}
 use Rattle.seek.specs.Seeks.{SoughtIs}

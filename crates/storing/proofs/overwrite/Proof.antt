@@ -10,9 +10,9 @@ use Rattle.bhtf.specs.Bytes.{Bytes}
 use Rattle.bhtf.specs.Limits.{mostImage, lengthWidth}
 use Rattle.bhtf.specs.Image.{layoutOf}
 use Rattle.bhtf.specs.Messages.{headSize, lengthAt, message}
-use Rattle.bhtf.proofs.Opened.{opened-facts}
-use Rattle.bhtf.proofs.Effects.{message-end}
-use Rattle.bhtf.proofs.Stretch.{held-some}
+use Rattle.laws.proofs.Opened.{opened-facts}
+use Rattle.laws.proofs.Effects.{message-end}
+use Rattle.laws.proofs.Stretch.{held-some}
 use Rattle.words.proofs.Numbers.{part-zero}
 use Rattle.layout.proofs.Shaped.{shape-head, head-width}
 use Rattle.messages.proofs.Sound.{length-bound}

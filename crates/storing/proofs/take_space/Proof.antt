@@ -9,7 +9,7 @@ use Rattle.bhtf.specs.Bytes.{Bytes, part, store}
 use Rattle.bhtf.specs.Limits.{mostImage, lengthWidth, freeField}
 use Rattle.bhtf.specs.Image.{field, layoutOf}
 use Rattle.bhtf.specs.Messages.{setFree}
-use Rattle.bhtf.proofs.Opened.{Opened, opened-facts}
+use Rattle.laws.proofs.Opened.{Opened, opened-facts}
 use Rattle.layout.proofs.Shaped.{shape-area, area-field, head-width, most-width}
 use Rattle.storing.proofs.Placed.{place-steps, takeSpace-set}
 use Rattle.storing.proofs.take_space.Statement.{statement}

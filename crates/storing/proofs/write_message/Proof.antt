@@ -6,7 +6,7 @@ use lib.ListN.{length, length-set}
 use borrow.Author.Needs.{needs}
 use borrow.Rule.Slice.PartMut.{mid-len, same-len-mid}
 use Rattle.bhtf.specs.Bytes.{Bytes, store}
-use Rattle.bhtf.proofs.Stores.{store-lent}
+use Rattle.laws.proofs.Stores.{store-lent}
 use Rattle.storing.proofs.Placed.{written-at}
 use Rattle.storing.proofs.write_message.Statement.{statement}
 use Rattle.storing.proofs.write_message.Tie as tie

@@ -4,7 +4,7 @@ use native.Mathlib.Omega.{arith}
 use mathlib.Core.Path.{sym, ap, _∙_}
 use Rattle.bhtf.specs.Image.{layoutOf}
 use Rattle.bhtf.specs.Search.{next}
-use Rattle.bhtf.proofs.Cyclic.{next-lt}
+use Rattle.laws.proofs.Cyclic.{next-lt}
 use Rattle.table.specs.Probes.{GoesOn}
 use Rattle.table.proofs.Headers.{layout-slots}
 use Rattle.table.proofs.Turns.{goes-same, goes-over, read-on, stored-length, other-tail}

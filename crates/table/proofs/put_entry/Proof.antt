@@ -7,7 +7,7 @@ use lib.ListN.{length, length-append}
 use borrow.Rule.Slice.PartMut.{putMid, mid-len}
 use Rattle.bhtf.specs.Bytes.{Bytes, digits}
 use Rattle.bhtf.specs.Image.{slotBytes}
-use Rattle.bhtf.proofs.Bytes.{length-digits}
+use Rattle.laws.proofs.Bytes.{length-digits}
 use Rattle.table.proofs.Headers.{spot-placed, put-slot}
 use borrow.Author.Needs.{needs}
 use Rattle.table.proofs.put_entry.Statement.{statement}

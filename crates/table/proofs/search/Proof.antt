@@ -6,8 +6,8 @@ use native.Mathlib.Omega.{arith}
 use mathlib.Core.Path.{sym, ap, _∙_}
 use Rattle.bhtf.specs.Image.{layoutOf, home}
 use Rattle.bhtf.specs.Search.{next}
-use Rattle.bhtf.proofs.Cyclic.{next-lt}
-use Rattle.bhtf.proofs.Probe.{home-lt}
+use Rattle.laws.proofs.Cyclic.{next-lt}
+use Rattle.laws.proofs.Probe.{home-lt}
 use Rattle.table.specs.Probes.{probeOf, GoesOn}
 use Rattle.table.proofs.Headers.{header, layout-slots}
 use Rattle.table.proofs.Turns.{Searching, search-start, goes-over, read-on, ended-met, ended-empty, ended-exhausted}

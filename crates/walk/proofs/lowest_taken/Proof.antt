@@ -6,7 +6,7 @@ use mathlib.Core.Path.{_≡_, sym, ap, _∙_}
 use borrow.Author.Needs.{needs}
 use Rattle.bhtf.specs.Image.{layoutOf}
 use Rattle.bhtf.specs.Inspect.{lowest, taken, nextTaken}
-use Rattle.bhtf.proofs.Verdict.{lowest-no}
+use Rattle.laws.proofs.Verdict.{lowest-no}
 use Rattle.walk.specs.Stops.{stopOf}
 use Rattle.table.proofs.Headers.{layout-slots}
 use Rattle.walk.proofs.Stopping.{walk-start, walk-here, walk-end}

@@ -2,7 +2,7 @@
 -- Assumes nothing.
 use native.Mathlib.Omega.{arith}
 use mathlib.Core.Path.{sym, _∙_}
-use Rattle.bhtf.proofs.Opened.{opened-facts}
+use Rattle.laws.proofs.Opened.{opened-facts}
 use Rattle.walk.specs.Stops.{stopOf}
 use Rattle.walk.proofs.Stopping.{walk-closed, walk-open}
 use borrow.Author.Needs.{needs}

@@ -6,7 +6,7 @@ use mathlib.Core.Path.{_≡_, sym, _∙_, subst}
 use Rattle.bhtf.specs.Image.{field}
 use Rattle.bhtf.specs.Inspect.{keyWalk, stopped}
 use Rattle.bhtf.specs.Limits.{slotsField}
-use Rattle.bhtf.proofs.Opened.{opened-facts}
+use Rattle.laws.proofs.Opened.{opened-facts}
 use Rattle.table.proofs.Headers.{layout-slots}
 use Rattle.walk.proofs.Stopping.{stopped-is, refused-is, end-is, stopped-open, stopped-below, stopped-slot, shown-refused, shown-stopped, shown-end}
 use borrow.Author.Needs.{needs}

@@ -1,7 +1,7 @@
 -- Questions 1 to 4 in turn: each that is passed over was answered yes. Assumes nothing.
 use mathlib.Core.Path.{sym}
 use native.Mathlib.Omega.{arith}
-use Rattle.bhtf.proofs.Tests.{was-no, was-yes}
+use Rattle.laws.proofs.Tests.{was-no, was-yes}
 use Rattle.create.proofs.Numbered.{create-1, create-2, create-3, create-4, create-0, key-most, slots-most}
 use borrow.Author.Needs.{needs}
 use Rattle.create.proofs.asked.create_number.Statement.{statement}

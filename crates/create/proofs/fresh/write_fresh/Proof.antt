@@ -5,7 +5,7 @@ use native.Mathlib.Omega.{arith}
 use lib.ListN.{length}
 use Rattle.bhtf.specs.Bytes.{Bytes, store}
 use Rattle.bhtf.specs.Create.{drawnBytes, freshHeader}
-use Rattle.bhtf.proofs.Accepted.{accepted-facts}
+use Rattle.laws.proofs.Accepted.{accepted-facts}
 use Rattle.scramble.proofs.Stores.{fresh-stored}
 use borrow.Author.Needs.{needs}
 use Rattle.create.proofs.fresh.write_fresh.Statement.{statement}

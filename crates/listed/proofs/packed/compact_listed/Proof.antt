@@ -8,7 +8,7 @@ use borrow.Author.Needs.{needs}
 use Rattle.bhtf.specs.Bytes.{Bytes, store}
 use Rattle.compaction.specs.Compact.{compact}
 use Rattle.updates.specs.Changes.{pairBytes, changesIn, listAllowed, workAllowed}
-use Rattle.bhtf.proofs.Tests.{was-no, was-yes}
+use Rattle.laws.proofs.Tests.{was-no, was-yes}
 use Rattle.packing.proofs.Told.{compact-leaves, compact-small}
 use Rattle.listed.proofs.Listing.{lists-16, lists-refused, lists-done, allowed-list, allowed-work, work-holds}
 use Rattle.listed.proofs.packed.compact_listed.Statement.{statement}

@@ -7,7 +7,7 @@ use borrow.Author.Needs.{needs}
 use Rattle.bhtf.specs.Bytes.{Bytes}
 use Rattle.bhtf.specs.Image.{layoutOf, slot, vacant}
 use Rattle.bhtf.specs.Messages.{lengthAt, isActive}
-use Rattle.bhtf.proofs.Tests.{was-no, was-yes}
+use Rattle.laws.proofs.Tests.{was-no, was-yes}
 use Rattle.layout.proofs.Shaped.{shape-head, head-width}
 use Rattle.packing.specs.Stages.{offsetIn, activeIn}
 use Rattle.packing.proofs.Entries.{vacant-taken, active-vacant, active-quiet, active-is}

@@ -2,7 +2,7 @@
 use native.Mathlib.Omega.{arith}
 use mathlib.Core.Path.{refl, ap, _∙_}
 use borrow.Author.Needs.{needs}
-use Rattle.bhtf.proofs.Tests.{was-no, was-yes}
+use Rattle.laws.proofs.Tests.{was-no, was-yes}
 use Rattle.table.proofs.Headers.{placed-opened}
 use Rattle.packing.specs.Stages.{withOffset}
 use Rattle.packing.proofs.slots.forget.Statement.{statement}

@@ -6,7 +6,7 @@ use mathlib.Core.Bool.{true, cond}
 use lib.ListN.{length}
 use Rattle.bhtf.specs.Image.{layoutOf}
 use Rattle.bhtf.specs.Inspect.{taken}
-use Rattle.bhtf.proofs.Total.{total}
+use Rattle.laws.proofs.Total.{total}
 use Rattle.layout.specs.Shapes.{Open}
 use Rattle.table.proofs.Headers.{header, layout-slots}
 use Rattle.packing.specs.Stages.{offsetIn, withOffset, deadIn, activeIn}

@@ -1,7 +1,7 @@
 -- The slot after a slot: one up, or the first. Assumes nothing.
 use borrow.Author.Needs.{needs}
 use mathlib.Core.Path.{sym}
-use Rattle.bhtf.proofs.Cyclic.{next-up, next-wrap}
+use Rattle.laws.proofs.Cyclic.{next-up, next-wrap}
 use Rattle.layout.proofs.places.Slot.next.Statement.{statement}
 use Rattle.layout.proofs.places.Slot.next.Tie as tie
 use Rattle.layout.proofs.places.Slot.next.Reads as reads

@@ -5,10 +5,10 @@ use mathlib.Core.Path.{_≡_, refl, ap₂, _∙_}
 use Prim.Native.Nat.{ℕ, zero, suc, _+_, _*_}
 use native.Mathlib.Omega.{arith}
 use lib.ListN.{length, length-append}
 use Rattle.bhtf.specs.Bytes.{digits}
 use Rattle.bhtf.specs.Limits.{headerSize}
 use Rattle.bhtf.specs.Create.{drawn, drawnBytes, freshHeader}
-use Rattle.bhtf.proofs.Bytes.{length-digits}
+use Rattle.laws.proofs.Bytes.{length-digits}
 
 pub length-drawnBytes : (seed i n : ℕ) → length (drawnBytes seed i n) ≡ 4 * n
 unfolding drawnBytes

@@ -10,13 +10,13 @@ use mathlib.Core.Bool.{Bool, true, false, cond, _&&_, _||_, false≢true}
 use mathlib.Core.Logic.{inl, inr}
 use lib.Dec.{ltb, eqb}
 use borrow.Author.Tests.{lt-ltb, le-ltb, ltb-true, ne-eqb}
 use Rattle.bhtf.specs.Bytes.{Bytes}
 use Rattle.bhtf.specs.Image.{Layout, slot, offsetOf}
 use Rattle.bhtf.specs.Messages.{headSize, lengthAt}
 use Rattle.bhtf.specs.Inspect.{taken, stretchStart, endAt, stretchEnd, meets, someBelow, meetsLower}
-use Rattle.bhtf.proofs.Tests.{by-bool, by-eq, by-le, and-left, and-right, and-true, or-right, by-or, not-both}
-use Rattle.bhtf.proofs.Bytes.{Apart}
-use Rattle.bhtf.proofs.Stretch.{span}
+use Rattle.laws.proofs.Tests.{by-bool, by-eq, by-le, and-left, and-right, and-true, or-right, by-or, not-both}
+use Rattle.laws.proofs.Bytes.{Apart}
+use Rattle.laws.proofs.Stretch.{span}
 
 -- ---- a test over the numbers below n
 

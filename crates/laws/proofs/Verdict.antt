@@ -12,16 +12,16 @@ use mathlib.Core.Bool.{Bool, true, false, cond, not, _&&_}
 use mathlib.Core.Option.{Option, none, some}
 use lib.Dec.{eqb}
 use borrow.Author.Tests.{eqb-true, not-true, not-false}
 use Rattle.bhtf.specs.Bytes.{Bytes}
 use Rattle.bhtf.specs.Limits.{pointsField}
 use Rattle.bhtf.specs.Image.{field, Layout, layoutOf, slot, offsetOf}
 use Rattle.bhtf.specs.Search.{Probe, met, empty, exhausted, search}
 use Rattle.bhtf.specs.Questions.{messageSound, openNumber}
 use Rattle.bhtf.specs.Inspect.{lowest, taken, takenFrom, endsAt, entrySound, meetsLower, slotSound, slotFails, Verdict, sound, countSound, verdictOf, tableVerdict, check}
-use Rattle.bhtf.proofs.Tests.{by-bool, by-eq, and-left, and-right}
-use Rattle.bhtf.proofs.Table.{Taken, keyAt, Findable, weight}
-use Rattle.bhtf.proofs.Probe.{search-met}
-use Rattle.bhtf.proofs.Insert.{count-taken}
+use Rattle.laws.proofs.Tests.{by-bool, by-eq, and-left, and-right}
+use Rattle.laws.proofs.Table.{Taken, keyAt, Findable, weight}
+use Rattle.laws.proofs.Probe.{search-met}
+use Rattle.laws.proofs.Insert.{count-taken}
 
 -- ---- the lowest number for which a test holds
 

@@ -12,17 +12,17 @@ use mathlib.Core.List.{[], _∷_}
 use lib.ListN.{length, length-append}
 use lib.Dec.{eqb}
 use borrow.Author.Tests.{eq-eqb, not-true}
 use Rattle.bhtf.specs.Bytes.{Bytes, part, store, digits}
 use Rattle.bhtf.specs.Limits.{pageSize, active, inactive, pointsField, freeField, pageField, slotsField, dataField, headerSize, tableStart}
 use Rattle.bhtf.specs.Image.{field, setField, lastPage, Layout, layoutOf, slotSize, slotStart, slot}
 use Rattle.bhtf.specs.Messages.{headSize, isActive, message, setFree, takeSpace, retire}
 use Rattle.bhtf.specs.Questions.{messageSound}
-use Rattle.bhtf.proofs.Tests.{by-bool, by-eq, and-left, not-both}
-use Rattle.bhtf.proofs.Bytes.{length-store, part-store-same, part-store-below, part-store-above, length-digits}
-use Rattle.bhtf.proofs.Slots.{slot-above, slot-store-data, part-setField-other, field-store-other, field-setField-other, field-setField-same, length-setField}
-use Rattle.bhtf.proofs.Opened.{Opened, opened-room}
-use Rattle.bhtf.proofs.Kept.{Kept, kept-refl, kept-trans, kept-store, kept-points, kept-free, kept-page, opened-kept}
-use Rattle.bhtf.proofs.Stretch.{span, sound-lies}
+use Rattle.laws.proofs.Tests.{by-bool, by-eq, and-left, not-both}
+use Rattle.laws.proofs.Bytes.{length-store, part-store-same, part-store-below, part-store-above, length-digits}
+use Rattle.laws.proofs.Slots.{slot-above, slot-store-data, part-setField-other, field-store-other, field-setField-other, field-setField-same, length-setField}
+use Rattle.laws.proofs.Opened.{Opened, opened-room}
+use Rattle.laws.proofs.Kept.{Kept, kept-refl, kept-trans, kept-store, kept-points, kept-free, kept-page, opened-kept}
+use Rattle.laws.proofs.Stretch.{span, sound-lies}
 
 -- the data area begins above the table's start
 pub area-above : (img : Bytes) → Opened img → tableStart ≤ field img dataField

@@ -9,11 +9,11 @@ use mathlib.Core.Bool.{true}
 use mathlib.Core.Logic.{_⊎_, inl, inr}
 use lib.ListN.{length, take, drop, replicate, length-append, length-replicate, replicate-append-replicate}
 use lib.Seq.{take-at, drop-at, take-take, length-take-le}
 use Rattle.bhtf.specs.Bytes.{Bytes, part, store, number, digits, zeros, allZero}
 use Rattle.bhtf.specs.Limits.{word, tableStart}
 use Rattle.bhtf.specs.Image.{field, setField, Layout, layoutOf, slotSize, slotStart, slot, putSlot, keyOf, offsetOf, slotBytes, blank, vacant}
-use Rattle.bhtf.proofs.Tests.{by-le, by-eq}
-use Rattle.bhtf.proofs.Bytes.{part-length, length-store, part-store-same, part-store-other, Apart, length-digits, number-digits-fits, length-zeros, allZero-zeros}
+use Rattle.laws.proofs.Tests.{by-le, by-eq}
+use Rattle.laws.proofs.Bytes.{part-length, length-store, part-store-same, part-store-other, Apart, length-digits, number-digits-fits, length-zeros, allZero-zeros}
 
 -- ---- fields
 

@@ -11,12 +11,12 @@ use mathlib.Core.List.{List, [], _∷_}
 use lib.ListN.{length}
 use lib.Dec.{leb, eqb}
 use borrow.Author.Tests.{leb-true, le-leb, eqb-true, eq-eqb}
 use Rattle.bhtf.specs.Bytes.{Bytes}
 use Rattle.bhtf.specs.Limits.{pageSize, mostImage, mostKey, mostSlots, mostCharacter, keyField, slotsField, pointsField, firstField, lastField, scrambleField, tableField, dataField, freeField, scrambleStart, tableStart}
 use Rattle.bhtf.specs.Image.{field, roundUp, dataStart, layoutOf, slotSize}
 use Rattle.bhtf.specs.Questions.{Question, ask, firstNo, sizeAllowed, keyAllowed, slotsAllowed, versionKnown, headerSound, opened, openNumber}
-use Rattle.bhtf.proofs.Tests.{by-bool, and-left, and-right, and-true}
-use Rattle.bhtf.proofs.Slots.{Room}
+use Rattle.laws.proofs.Tests.{by-bool, and-left, and-right, and-true}
+use Rattle.laws.proofs.Slots.{Room}
 
 -- ---- the first no
 

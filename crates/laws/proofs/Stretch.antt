@@ -12,13 +12,13 @@ use mathlib.Core.Bool.{true, _&&_, _||_}
 use lib.ListN.{length}
 use lib.Dec.{leb, eqb}
 use borrow.Author.Tests.{leb-true, le-leb, eqb-true, ne-eqb}
 use Rattle.bhtf.specs.Bytes.{Bytes, part, store, number}
 use Rattle.bhtf.specs.Limits.{active, inactive, freeField}
 use Rattle.bhtf.specs.Image.{field, Layout}
 use Rattle.bhtf.specs.Messages.{headSize, letterAt, lengthAt, textAt, isActive, shown, held}
 use Rattle.bhtf.specs.Questions.{messageSound}
-use Rattle.bhtf.proofs.Tests.{by-eq, by-or, and-left, and-right, and-true, or-right}
-use Rattle.bhtf.proofs.Bytes.{Apart, part-store-other}
+use Rattle.laws.proofs.Tests.{by-eq, by-or, and-left, and-right, and-true, or-right}
+use Rattle.laws.proofs.Bytes.{Apart, part-store-other}
 
 abbrev pub span : Layout → Bytes → ℕ → ℕ
 span g img o = headSize g + lengthAt g img o

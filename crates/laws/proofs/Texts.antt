@@ -13,11 +13,11 @@ use mathlib.Core.Option.{none, some, Option·none-ne-some}
 use lib.ListN.{length}
 use lib.Dec.{eqb, leb}
 use borrow.Author.Tests.{leb-true, eq-eqb, ne-eqb, not-true}
 use Rattle.bhtf.specs.Bytes.{Bytes}
 use Rattle.bhtf.specs.Image.{Layout}
 use Rattle.bhtf.specs.Messages.{shown, bytesOf, held, retire, overwrite, relocated, freshText, renewedText, renewed, renewedAt}
 use Rattle.bhtf.specs.Questions.{modeKnown}
-use Rattle.bhtf.proofs.Tests.{by-bool, by-eq, and-left, and-right, not-both}
+use Rattle.laws.proofs.Tests.{by-bool, by-eq, and-left, and-right, not-both}
 
 -- ---- the modes
 

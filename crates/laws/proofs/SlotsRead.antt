@@ -9,14 +9,14 @@ use Prim.Native.Nat.{ℕ, zero, suc, _+_, _-_, _≤_, _<_}
 use native.Mathlib.Nat.{zero-add}
 use native.Mathlib.Omega.{arith}
 use mathlib.Core.Bool.{true, false, cond, not}
 use Rattle.bhtf.specs.Bytes.{Bytes, same}
 use Rattle.bhtf.specs.Image.{Layout, slot, vacant, home}
 use Rattle.bhtf.specs.Search.{Probe, met, empty, exhausted, next, dist, probe, search, readFrom, slotsRead}
 use Rattle.bhtf.specs.Inspect.{taken, takenFrom}
-use Rattle.bhtf.proofs.Tests.{by-bool, by-le}
-use Rattle.bhtf.proofs.Cyclic.{dist-up, dist-wrap, dist-lt, dist-self, dist-next, next-lt}
-use Rattle.bhtf.proofs.Table.{Taken, keyAt}
-use Rattle.bhtf.proofs.Probe.{home-lt, turn-met, turn-empty, turn-on, Passed, search-met, search-empty, search-exhausted, by-search}
+use Rattle.laws.proofs.Tests.{by-bool, by-le}
+use Rattle.laws.proofs.Cyclic.{dist-up, dist-wrap, dist-lt, dist-self, dist-next, next-lt}
+use Rattle.laws.proofs.Table.{Taken, keyAt}
+use Rattle.laws.proofs.Probe.{home-lt, turn-met, turn-empty, turn-on, Passed, search-met, search-empty, search-exhausted, by-search}
 
 -- ---- one slot read
 

@@ -6,7 +6,7 @@ use mathlib.Core.Path.{_≡_, refl, sym, ap, ap₂}
 use Prim.Native.Nat.{ℕ, zero, suc, _+_, _*_, _≤_, _<_}
 use native.Mathlib.Nat.{suc-mul}
 use native.Mathlib.Omega.{arith}
-use Rattle.bhtf.proofs.Tests.{by-eq}
+use Rattle.laws.proofs.Tests.{by-eq}
 
 unfoldable pub total : (ℕ → ℕ) → ℕ → ℕ
 total f zero = 0

@@ -9,17 +9,17 @@ use Prim.Native.Nat.{ℕ, _+_, _-_, _≤_, _<_}
 use native.Mathlib.Omega.{arith}
 use mathlib.Core.Logic.{_↔_, inl}
 use lib.ListN.{length}
 use Rattle.bhtf.specs.Bytes.{Bytes, part, number}
 use Rattle.bhtf.specs.Limits.{versionField, serialField, pointsField, multiplierField, headerSize, tableStart}
 use Rattle.bhtf.specs.Image.{field, Layout, slot, putSlot, keyOf, blank, vacant}
 use Rattle.bhtf.specs.Delete.{moved, closed}
-use Rattle.bhtf.proofs.Tests.{by-eq, not-both}
-use Rattle.bhtf.proofs.Slots.{Room, length-slot, slot-putSlot-same, slot-putSlot-other, Outside, part-putSlot-outside, length-blank, vacant-blank}
-use Rattle.bhtf.proofs.Kept.{Kept, middleSize, restSize}
-use Rattle.bhtf.proofs.Table.{Taken, keyAt, weigh, weight}
-use Rattle.bhtf.proofs.Spread.{over, over-moved, room-half, slot-moved-from, slot-moved-hole, slot-moved-other}
-use Rattle.bhtf.proofs.Closing.{Going, hole-other, closed-induct, length-closed}
-use Rattle.bhtf.proofs.Insert.{Stands, weigh-taken, weigh-vacant, weight-putSlot}
+use Rattle.laws.proofs.Tests.{by-eq, not-both}
+use Rattle.laws.proofs.Slots.{Room, length-slot, slot-putSlot-same, slot-putSlot-other, Outside, part-putSlot-outside, length-blank, vacant-blank}
+use Rattle.laws.proofs.Kept.{Kept, middleSize, restSize}
+use Rattle.laws.proofs.Table.{Taken, keyAt, weigh, weight}
+use Rattle.laws.proofs.Spread.{over, over-moved, room-half, slot-moved-from, slot-moved-hole, slot-moved-other}
+use Rattle.laws.proofs.Closing.{Going, hole-other, closed-induct, length-closed}
+use Rattle.laws.proofs.Insert.{Stands, weigh-taken, weigh-vacant, weight-putSlot}
 
 -- ---- the bytes outside the table
 pub part-moved : (g : Layout) (img : Bytes) (r : Room g (length img)) (h j : ℕ) (lh : h < g .N) (lj : j < g .N)

@@ -8,11 +8,11 @@ use mathlib.Core.Bool.{_&&_}
 use mathlib.Core.List.{[]}
 use lib.Dec.{eqb, leb}
 use borrow.Author.Tests.{eqb-true, leb-true}
 use Rattle.bhtf.specs.Limits.{pageSize, mostImage, mostKey, mostSlots}
 use Rattle.bhtf.specs.Image.{dataStart}
 use Rattle.bhtf.specs.Questions.{sizeAllowed, keyAllowed, slotsAllowed, tableFits, createAsks, createNumber}
-use Rattle.bhtf.proofs.Tests.{and-left, and-right}
-use Rattle.bhtf.proofs.Opened.{firstNo-head, firstNo-tail}
+use Rattle.laws.proofs.Tests.{and-left, and-right}
+use Rattle.laws.proofs.Opened.{firstNo-head, firstNo-tail}
 
 pub record Accepted (L K N : ℕ) : Type 0 where
   pub page : L % pageSize ≡ 0

@@ -12,8 +12,8 @@ use mathlib.Core.List.{[], _++_, append-assoc, append-nil}
 use lib.ListN.{length, take, drop, length-append, length-drop, take-append-drop}
 use lib.Seq.{take-all, take-at, drop-at, drop-drop, drop-length, length-take-le}
 use borrow.Rule.Slice.PartMut.{putMid}
 use Rattle.bhtf.specs.Bytes.{Bytes, part, store}
-use Rattle.bhtf.proofs.Bytes.{length-store, part-store-below, part-store-above}
+use Rattle.laws.proofs.Bytes.{length-store, part-store-below, part-store-above}
 
 pub store-none : (b : Bytes) (p : ℕ) → store b p [] ≡ b
 unfolding store

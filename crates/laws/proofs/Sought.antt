@@ -8,12 +8,12 @@ use Prim.Native.Nat.{ℕ}
 use native.Mathlib.Omega.{arith}
 use mathlib.Core.Bool.{Bool, true, false}
 use mathlib.Core.List.{List, [], _∷_}
 use Rattle.bhtf.specs.Bytes.{Bytes}
 use Rattle.bhtf.specs.Image.{layoutOf}
 use Rattle.bhtf.specs.Search.{search}
 use Rattle.bhtf.specs.Questions.{Question, ask, firstNo, opened, nameAllowed, modeKnown, named, pointAsks, addAsks, shownAsks, removedAsks, lookupAsks, deleteAsks, openNumber, seekNumber, addNumber, deleteNumber, lookupNumber}
-use Rattle.bhtf.proofs.Tests.{by-bool, by-eq}
-use Rattle.bhtf.proofs.Opened.{firstNo-none, firstNo-yes, firstNo-no, firstNo-head, firstNo-tail, firstNo-opened, firstNo-refused}
+use Rattle.laws.proofs.Tests.{by-bool, by-eq}
+use Rattle.laws.proofs.Opened.{firstNo-none, firstNo-yes, firstNo-no, firstNo-head, firstNo-tail, firstNo-opened, firstNo-refused}
 
 module _ (img key : Bytes) (known : Bool) where
   abbrev allowed : Bool

@@ -11,19 +11,19 @@ use Prim.Native.Nat.{ℕ, _+_, _≤_, _<_}
 use native.Mathlib.Omega.{arith}
 use mathlib.Core.Bool.{true, false}
 use lib.ListN.{length}
 use Rattle.bhtf.specs.Bytes.{Bytes}
 use Rattle.bhtf.specs.Image.{Layout, slot, putSlot, keyOf, blank, vacant, home}
 use Rattle.bhtf.specs.Search.{next, dist}
 use Rattle.bhtf.specs.Delete.{stays, moved, closed}
-use Rattle.bhtf.proofs.Tests.{by-le, by-eq, not-both}
-use Rattle.bhtf.proofs.Slots.{Room}
-use Rattle.bhtf.proofs.Cyclic.{dist-lt, dist-self, dist-zero, dist-same, dist-back, dist-from-next, dist-next-self, round3}
-use Rattle.bhtf.proofs.Table.{Taken, keyAt, homeAt, Findable}
-use Rattle.bhtf.proofs.Spread.{slot-moved-hole, slot-moved-other}
-use Rattle.bhtf.proofs.Probe.{home-lt}
-use Rattle.bhtf.proofs.Closing.{Going, hole-other, stays-near, goes-far, closed-induct}
-use Rattle.bhtf.proofs.Frames.{taken-same, by-moved, stands-walked, zeroed-other, zeroed-same, zeroed-taken}
-use Rattle.bhtf.proofs.Insert.{Stands}
+use Rattle.laws.proofs.Tests.{by-le, by-eq, not-both}
+use Rattle.laws.proofs.Slots.{Room}
+use Rattle.laws.proofs.Cyclic.{dist-lt, dist-self, dist-zero, dist-same, dist-back, dist-from-next, dist-next-self, round3}
+use Rattle.laws.proofs.Table.{Taken, keyAt, homeAt, Findable}
+use Rattle.laws.proofs.Spread.{slot-moved-hole, slot-moved-other}
+use Rattle.laws.proofs.Probe.{home-lt}
+use Rattle.laws.proofs.Closing.{Going, hole-other, stays-near, goes-far, closed-induct}
+use Rattle.laws.proofs.Frames.{taken-same, by-moved, stands-walked, zeroed-other, zeroed-same, zeroed-taken}
+use Rattle.laws.proofs.Insert.{Stands}
 
 pub record Mending (g : Layout) (img : Bytes) (h j : ℕ) : Type 0 where
   pub paths : (s k : ℕ) → s < g .N → k < g .N → Taken g img s

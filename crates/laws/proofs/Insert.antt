@@ -14,16 +14,16 @@ use mathlib.Core.Bool.{Bool, true, false, cond, not}
 use mathlib.Core.Option.{none, some}
 use mathlib.Core.Logic.{_↔_}
 use lib.ListN.{length}
 use Rattle.bhtf.specs.Bytes.{Bytes, allZero}
 use Rattle.bhtf.specs.Image.{Layout, slot, putSlot, slotSize, keyOf, vacant, home}
 use Rattle.bhtf.specs.Search.{met, empty, exhausted, dist, search}
 use Rattle.bhtf.specs.Inspect.{taken, takenFrom}
-use Rattle.bhtf.proofs.Tests.{by-eq, not-both}
-use Rattle.bhtf.proofs.Slots.{Room, slot-putSlot-same, slot-putSlot-other}
-use Rattle.bhtf.proofs.Total.{total, total-same}
-use Rattle.bhtf.proofs.Spread.{over, over-putSlot}
-use Rattle.bhtf.proofs.Table.{Taken, keyAt, Findable, slotMet, entryOf, weigh, weight}
-use Rattle.bhtf.proofs.Probe.{vacant-key, search-met, search-empty, by-search, met-taken, search-finds, search-keys}
+use Rattle.laws.proofs.Tests.{by-eq, not-both}
+use Rattle.laws.proofs.Slots.{Room, slot-putSlot-same, slot-putSlot-other}
+use Rattle.laws.proofs.Total.{total, total-same}
+use Rattle.laws.proofs.Spread.{over, over-putSlot}
+use Rattle.laws.proofs.Table.{Taken, keyAt, Findable, slotMet, entryOf, weigh, weight}
+use Rattle.laws.proofs.Probe.{vacant-key, search-met, search-empty, by-search, met-taken, search-finds, search-keys}
 
 -- some taken slot holds the bytes s
 abbrev pub Stands : Layout → Bytes → Bytes → Type 0

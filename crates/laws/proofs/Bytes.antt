@@ -13,8 +13,8 @@ use lib.Seq.{take-at, drop-at, take-append-le, drop-append-le, drop-append-add, 
 use lib.Dec.{eqb}
 use lib.Pow.{pow-add, mod-pow-add}
 use borrow.Author.Tests.{eqb-true, eq-eqb}
-use Rattle.bhtf.proofs.Tests.{by-bool, by-le, and-left, and-right}
+use Rattle.laws.proofs.Tests.{by-bool, by-le, and-left, and-right}
 use Rattle.bhtf.specs.Bytes.{Bytes, part, store, number, digits, zeros, allZero, same}
 
 -- ---- part
 

@@ -8,10 +8,10 @@ use mathlib.Core.Path.{_≡_}
 use Prim.Native.Nat.{ℕ, _<_}
 use mathlib.Core.Bool.{false, cond}
 use mathlib.Core.Option.{Option, none, some}
 use Rattle.bhtf.specs.Bytes.{Bytes}
 use Rattle.bhtf.specs.Image.{Layout, slot, keyOf, vacant, home}
 use Rattle.bhtf.specs.Search.{Probe, met, empty, exhausted, search, dist}
-use Rattle.bhtf.proofs.Total.{total}
+use Rattle.laws.proofs.Total.{total}
 
 abbrev pub Taken : Layout → Bytes → ℕ → Type 0
 Taken g img i = vacant g (slot g img i) ≡ false

@@ -12,16 +12,16 @@ use native.Mathlib.Omega.{arith}
 use mathlib.Core.Bool.{true, false}
 use lib.ListN.{length}
 use borrow.Author.Tests.{ltb-true, ltb-false}
 use Rattle.bhtf.specs.Bytes.{Bytes}
 use Rattle.bhtf.specs.Image.{Layout, slot, putSlot, blank, vacant}
 use Rattle.bhtf.specs.Search.{next, dist}
 use Rattle.bhtf.specs.Delete.{stays, moved, Closing, closeFrom, closed}
-use Rattle.bhtf.proofs.Tests.{by-bool, not-both}
-use Rattle.bhtf.proofs.Slots.{Room, length-putSlot, slot-putSlot-same, length-blank, vacant-blank}
-use Rattle.bhtf.proofs.Cyclic.{next-lt, dist-lt, dist-back, dist-from-next, dist-next-self, among-dist}
-use Rattle.bhtf.proofs.Table.{Taken, keyAt, homeAt}
-use Rattle.bhtf.proofs.Spread.{spread, spread-bound, spread-moved, length-moved, room-moved, vacant-moved, room-putSlot}
-use Rattle.bhtf.proofs.Probe.{home-lt}
+use Rattle.laws.proofs.Tests.{by-bool, not-both}
+use Rattle.laws.proofs.Slots.{Room, length-putSlot, slot-putSlot-same, length-blank, vacant-blank}
+use Rattle.laws.proofs.Cyclic.{next-lt, dist-lt, dist-back, dist-from-next, dist-next-self, among-dist}
+use Rattle.laws.proofs.Table.{Taken, keyAt, homeAt}
+use Rattle.laws.proofs.Spread.{spread, spread-bound, spread-moved, length-moved, room-moved, vacant-moved, room-putSlot}
+use Rattle.laws.proofs.Probe.{home-lt}
 
 pub record Going (g : Layout) (img : Bytes) (h j : ℕ) : Type 0 where
   pub room : Room g (length img)

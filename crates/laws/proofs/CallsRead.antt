@@ -9,18 +9,18 @@ use Prim.Native.Nat.{ℕ, _+_, _≤_, _<_}
 use native.Mathlib.Omega.{arith}
 use mathlib.Core.Bool.{Bool, true}
 use borrow.Author.Tests.{eq-eqb, ne-eqb}
 use Rattle.bhtf.specs.Bytes.{Bytes}
 use Rattle.bhtf.specs.Limits.{mostSlots, pointsField}
 use Rattle.bhtf.specs.Image.{field, layoutOf}
 use Rattle.bhtf.specs.Search.{slotsRead}
 use Rattle.bhtf.specs.Questions.{modeKnown, openNumber, seekNumber}
 use Rattle.bhtf.specs.Calls.{soughtRead, addRead, deleteRead, lookupRead}
 use Rattle.bhtf.specs.Inspect.{check, sound}
-use Rattle.bhtf.proofs.Tests.{by-eq}
-use Rattle.bhtf.proofs.Opened.{opened-facts}
-use Rattle.bhtf.proofs.SlotsRead.{read-all, read-few}
-use Rattle.bhtf.proofs.Sought.{seek-opened}
-use Rattle.bhtf.proofs.Verdict.{check-open, check-count}
+use Rattle.laws.proofs.Tests.{by-eq}
+use Rattle.laws.proofs.Opened.{opened-facts}
+use Rattle.laws.proofs.SlotsRead.{read-all, read-few}
+use Rattle.laws.proofs.Sought.{seek-opened}
+use Rattle.laws.proofs.Verdict.{check-open, check-count}
 
 -- an accepted header has a slot
 some-slot : (img : Bytes) → openNumber img ≡ 0 → 0 < layoutOf img .N

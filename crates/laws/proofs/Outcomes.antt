@@ -14,18 +14,18 @@ use mathlib.Core.Option.{Option, none}
 use lib.ListN.{length}
 use lib.Dec.{eqb, ltb}
 use borrow.Author.Tests.{ne-eqb}
 use Rattle.bhtf.specs.Bytes.{Bytes, part}
 use Rattle.bhtf.specs.Limits.{pointsField, freeField}
 use Rattle.bhtf.specs.Image.{field, Layout, layoutOf, slot, offsetOf}
 use Rattle.bhtf.specs.Search.{Probe, met, empty, exhausted, search, isMet, isEmpty, slotOf}
 use Rattle.bhtf.specs.Messages.{headSize, lengthAt, textAt, isActive, shown, bytesOf, held, freshText, renewedText, placedText}
 use Rattle.bhtf.specs.Delete.{deleted, deletedAt}
 use Rattle.bhtf.specs.Questions.{ask, firstNo, nameAllowed, modeKnown, metInMode4, newInMode1, slotToTake, messageSound, metMessageSound, somePoint, lengthAllowed, spaceLeft, named, pointAsks, addAsks, shownAsks, removedAsks, lookupAsks, deleteAsks, openNumber, addNumber, deleteNumber, lookupNumber, placeNumber}
 use Rattle.bhtf.specs.Calls.{plain, settled, add, delete, lookup, lookupOffset, lookupStart, lookupLength, lookupText}
-use Rattle.bhtf.proofs.Tests.{by-bool, and-true, zero-yes, zero-no}
-use Rattle.bhtf.proofs.Bytes.{part-length}
-use Rattle.bhtf.proofs.Opened.{firstNo-none, firstNo-yes, firstNo-no, firstNo-opened, firstNo-refused, opened-facts}
-use Rattle.bhtf.proofs.Effects.{message-end, active-some}
+use Rattle.laws.proofs.Tests.{by-bool, and-true, zero-yes, zero-no}
+use Rattle.laws.proofs.Bytes.{part-length}
+use Rattle.laws.proofs.Opened.{firstNo-none, firstNo-yes, firstNo-no, firstNo-opened, firstNo-refused, opened-facts}
+use Rattle.laws.proofs.Effects.{message-end, active-some}
 
 -- ---- the image by the number
 

@@ -8,9 +8,9 @@ use Prim.Native.Nat.{ℕ, zero, suc, _+_, _-_, _≤_, _<_}
 use native.Mathlib.Omega.{arith}
 use lib.Dec.{ltb}
 use borrow.Author.Tests.{lt-ltb, le-ltb, le-leb, lt-leb}
 use Rattle.bhtf.specs.Search.{next, dist}
 use Rattle.bhtf.specs.Delete.{among}
-use Rattle.bhtf.proofs.Tests.{by-le, by-eq}
+use Rattle.laws.proofs.Tests.{by-le, by-eq}
 
 -- ---- the two definitions, by cases
 pub next-up : (N i : ℕ) → i + 1 < N → next N i ≡ i + 1

@@ -11,13 +11,13 @@ use native.Mathlib.Nat.{mod-lt}
 use native.Mathlib.Omega.{arith}
 use mathlib.Core.Bool.{true, false}
 use mathlib.Core.Option.{some}
 use Rattle.bhtf.specs.Bytes.{Bytes, allZero, same}
 use Rattle.bhtf.specs.Image.{Layout, slot, keyOf, vacant, home}
 use Rattle.bhtf.specs.Search.{Probe, met, empty, exhausted, next, dist, probe, search}
-use Rattle.bhtf.proofs.Tests.{by-bool, by-le, by-eq, not-both}
-use Rattle.bhtf.proofs.Bytes.{same-true, same-false}
-use Rattle.bhtf.proofs.Cyclic.{next-lt, dist-lt, dist-self, dist-same, dist-next}
-use Rattle.bhtf.proofs.Table.{Taken, keyAt, Findable, slotMet, entryOf}
+use Rattle.laws.proofs.Tests.{by-bool, by-le, by-eq, not-both}
+use Rattle.laws.proofs.Bytes.{same-true, same-false}
+use Rattle.laws.proofs.Cyclic.{next-lt, dist-lt, dist-self, dist-same, dist-next}
+use Rattle.laws.proofs.Table.{Taken, keyAt, Findable, slotMet, entryOf}
 
 pub home-lt : (g : Layout) (key : Bytes) → 0 < g .N → home g key < g .N
 unfolding home

@@ -14,13 +14,13 @@ use mathlib.Core.Bool.{true}
 use mathlib.Core.List.{[], _∷_}
 use lib.ListN.{length, getD, drop}
 use lib.Seq.{getD-take, getD-drop}
 use Rattle.bhtf.specs.Bytes.{Bytes, part, store, number, digits, same}
 use Rattle.bhtf.specs.Limits.{mostCharacter, magic, major, minor, patch, versionField, serialField, keyField, slotsField, pointsField, multiplierField, startField, firstField, lastField, scrambleField, tableField, dataField, freeField, pageField, headerSize, scrambleStart, tableStart}
 use Rattle.bhtf.specs.Image.{field, setField, hash, scramble, layoutOf}
 use Rattle.bhtf.specs.Questions.{versionKnown}
-use Rattle.bhtf.proofs.Bytes.{Apart, apart-inside, length-store, part-store-other, part-store-same, part-part, length-digits}
-use Rattle.bhtf.proofs.Tests.{and-left}
-use Rattle.bhtf.proofs.Opened.{Opened}
+use Rattle.laws.proofs.Bytes.{Apart, apart-inside, length-store, part-store-other, part-store-same, part-part, length-digits}
+use Rattle.laws.proofs.Tests.{and-left}
+use Rattle.laws.proofs.Opened.{Opened}
 
 -- the bytes from the multiplier to D, and those from behind M to the table, the scramble among them
 abbrev pub middleSize : ℕ

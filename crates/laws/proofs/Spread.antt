@@ -9,15 +9,15 @@ use Prim.Native.Nat.{ℕ, _+_, _-_, _*_, _≤_, _<_}
 use native.Mathlib.Omega.{arith}
 use mathlib.Core.Bool.{Bool, true, false, cond}
 use lib.ListN.{length}
 use Rattle.bhtf.specs.Bytes.{Bytes}
 use Rattle.bhtf.specs.Image.{Layout, slotSize, slot, putSlot, keyOf, blank, vacant, home}
 use Rattle.bhtf.specs.Search.{dist}
 use Rattle.bhtf.specs.Delete.{moved}
-use Rattle.bhtf.proofs.Slots.{Room, length-slot, length-putSlot, slot-putSlot-same, slot-putSlot-other, length-blank, vacant-blank}
-use Rattle.bhtf.proofs.Cyclic.{dist-lt, round3}
-use Rattle.bhtf.proofs.Probe.{home-lt}
-use Rattle.bhtf.proofs.Total.{total, total-change, total-bound}
-use Rattle.bhtf.proofs.Table.{Taken, keyAt, homeAt}
+use Rattle.laws.proofs.Slots.{Room, length-slot, length-putSlot, slot-putSlot-same, slot-putSlot-other, length-blank, vacant-blank}
+use Rattle.laws.proofs.Cyclic.{dist-lt, round3}
+use Rattle.laws.proofs.Probe.{home-lt}
+use Rattle.laws.proofs.Total.{total, total-change, total-bound}
+use Rattle.laws.proofs.Table.{Taken, keyAt, homeAt}
 
 -- ---- sums over the slots
 unfoldable pub over : Layout → Bytes → (ℕ → Bytes → ℕ) → ℕ
