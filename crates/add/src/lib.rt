@@ -6,6 +6,7 @@ use questions::mode_known;
 use seek::Sought;
 use seek::Told;
 use seek::seek;
+use seek::slots_read;
 use table::Found;
 use words::limits::VERSION_BYTES;
 ghost use mathlib.Core.Path.{_≡_};
@@ -19,6 +20,7 @@ ghost use Rattle.bhtf.specs.Limits.{major, minor, patch, versionField};
 ghost use Rattle.bhtf.specs.Messages.{addedAt, noted};
 ghost use Rattle.bhtf.specs.Questions.{firstNo, pointAsks, modeKnown};
 ghost use Rattle.layout.specs.Shapes.{Open};
+ghost use Rattle.seek.specs.Seeks.{SoughtIs};
 ghost use Rattle.table.specs.Probes.{probeOf, Within};
 
 // Writes the version bytes 1, 0, 2.
@@ -92,20 +94,29 @@ fn add_found(
     0
 }
 
+// Add of a point for which `seek` answered so.
+fn add_sought(image: &mut [u8], key: &[u8], bytes: &[u8], mode: u32, sought: Sought) -> u32
+    requires { ⌜ SoughtIs (now image) (now key) (modeKnown mode) sought ⌝ }
+    ensures { λ r. ⌜ (r ≡ add (now (image .entry)) (now (key .entry)) (now (bytes .entry)) mode .answer .number)
+        × (now (image .exit) ≡ add (now (image .entry)) (now (key .entry)) (now (bytes .entry)) mode .after) ⌝ }
+{
+    match sought {
+        Sought::Refused(number) => number,
+        Sought::At(shape, found, _) => add_found(image, shape, found, key, bytes, mode),
+    }
+}
+
 // Stores the bytes as `add` does, and answers how many slots its search read too.
 pub fn add_slots(image: &mut [u8], key: &[u8], bytes: &[u8], mode: u32) -> Told
     ensures { λ r. ⌜ (r .number ≡ add (now (image .entry)) (now (key .entry)) (now (bytes .entry)) mode .answer .number)
         × (now (image .exit) ≡ add (now (image .entry)) (now (key .entry)) (now (bytes .entry)) mode .after)
         × (r .read ≡ addRead (now (image .entry)) (now (key .entry)) mode) ⌝ }
 {
-    let sought = seek(image, key, mode_known(mode));
-    match sought {
-        Sought::Refused(number) => Told { number, read: 0 },
-        Sought::At(shape, found, read) => {
-            let number = add_found(image, shape, found, key, bytes, mode);
-            Told { number, read }
-        }
-    }
+    let known = mode_known(mode);
+    let sought = seek(image, key, known);
+    let read = slots_read(sought);
+    let number = add_sought(image, key, bytes, mode, sought);
+    Told { number, read }
 }
 
 // Stores the bytes under the key: mode 1 for a key that is absent only, 2 replaces its message, 3 appends to it, 4
@@ -115,6 +126,6 @@ pub fn add(image: &mut [u8], key: &[u8], bytes: &[u8], mode: u32) -> u32
     ensures { λ r. ⌜ (r ≡ add (now (image .entry)) (now (key .entry)) (now (bytes .entry)) mode .answer .number)
         × (now (image .exit) ≡ add (now (image .entry)) (now (key .entry)) (now (bytes .entry)) mode .after) ⌝ }
 {
-    let told = add_slots(image, key, bytes, mode);
-    told.number
+    let sought = seek(image, key, mode_known(mode));
+    add_sought(image, key, bytes, mode, sought)
 }

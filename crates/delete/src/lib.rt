@@ -7,6 +7,7 @@ use messages::message_sound;
 use seek::Sought;
 use seek::Told;
 use seek::seek;
+use seek::slots_read;
 use storing::retire;
 use table::Found;
 use table::offset_of;
@@ -22,6 +23,7 @@ ghost use Rattle.bhtf.specs.Image.{field, layoutOf, slot, offsetOf};
 ghost use Rattle.bhtf.specs.Delete.{deletedAt, deleted};
 ghost use Rattle.bhtf.specs.Questions.{messageSound, firstNo, removedAsks};
 ghost use Rattle.layout.specs.Shapes.{Open};
+ghost use Rattle.seek.specs.Seeks.{SoughtIs};
 ghost use Rattle.table.specs.Probes.{probeOf, Within};
 
 // Takes the point of slot i out, of message offset o, from an image that holds so many points.
@@ -62,6 +64,18 @@ fn delete_found(image: &mut [u8], shape: Shape, found: Found) -> u32
     0
 }
 
+// Deletes the key's point, for which `seek` answered so.
+fn delete_sought(image: &mut [u8], key: &[u8], sought: Sought) -> u32
+    requires { ⌜ SoughtIs (now image) (now key) true sought ⌝ }
+    ensures { λ r. ⌜ (r ≡ delete (now (image .entry)) (now (key .entry)) .answer .number)
+        × (now (image .exit) ≡ delete (now (image .entry)) (now (key .entry)) .after) ⌝ }
+{
+    match sought {
+        Sought::Refused(number) => number,
+        Sought::At(shape, found, _) => delete_found(image, shape, found),
+    }
+}
+
 // Deletes the key's point, and answers how many slots its search read too. The walk that closes the gap is not counted.
 pub fn delete_slots(image: &mut [u8], key: &[u8]) -> Told
     ensures { λ r. ⌜ (r .number ≡ delete (now (image .entry)) (now (key .entry)) .answer .number)
@@ -69,13 +83,9 @@ pub fn delete_slots(image: &mut [u8], key: &[u8]) -> Told
         × (r .read ≡ deleteRead (now (image .entry)) (now (key .entry))) ⌝ }
 {
     let sought = seek(image, key, true);
-    match sought {
-        Sought::Refused(number) => Told { number, read: 0 },
-        Sought::At(shape, found, read) => {
-            let number = delete_found(image, shape, found);
-            Told { number, read }
-        }
-    }
+    let read = slots_read(sought);
+    let number = delete_sought(image, key, sought);
+    Told { number, read }
 }
 
 // Deletes the key's point. Answers 0; or the number of the first question answered no, and then changes no byte.
@@ -83,6 +93,6 @@ pub fn delete(image: &mut [u8], key: &[u8]) -> u32
     ensures { λ r. ⌜ (r ≡ delete (now (image .entry)) (now (key .entry)) .answer .number)
         × (now (image .exit) ≡ delete (now (image .entry)) (now (key .entry)) .after) ⌝ }
 {
-    let told = delete_slots(image, key);
-    told.number
+    let sought = seek(image, key, true);
+    delete_sought(image, key, sought)
 }

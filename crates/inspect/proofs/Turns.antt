@@ -3,7 +3,7 @@
 --     passed-start, passed-on, passed-over, passed-fails, passed-all      the loop's turns
 --     entries-checked      below the first entry that fails, messages pass question 11
 --     verdict-slot, verdict-count, verdict-sound      the verdict, from the lowest slot that fails for any reason
---     ends-false, ends-true, not-met, met-other, met-here      a slot's search and its message
+--     ends-false, ends-true      a slot's search and its message
 -- Assumes nothing.
 use mathlib.Core.Path.{_≡_, refl, sym, ap, ap₂, _∙_, subst}
 use Prim.Native.Nat.{ℕ, zero, suc, _+_, _-_, _≤_, _<_}
@@ -11,8 +11,6 @@ use native.Mathlib.Omega.{arith}
 use mathlib.Core.Bool.{Bool, true, false, cond, not, _&&_, _||_, true≢false}
 use mathlib.Core.List.{[], _∷_}
 use mathlib.Core.Option.{Option, none, some}
-use types.Run.{OneOf}
-use denote.Enum.Declared.{tagOf}
 use borrow.Author.Tests.{eq-eqb, ne-eqb, not-false}
 use Rattle.bhtf.specs.Bytes.{Bytes}
 use Rattle.bhtf.specs.Limits.{pointsField}
@@ -30,11 +28,6 @@ use Rattle.overlap.proofs.First.{first-low, first-no, first-either}
 use Rattle.layout.specs.Shapes.{Open}
 use Rattle.layout.specs.declared.shape.Shape.{Shape}
 use Rattle.inspect.specs.Entries.{entryFails, EntriesPassed}
-use Rattle.layout.specs.declared.places.Slot.{Slot}
-use Rattle.table.specs.Probes.{probeOf}
-use Rattle.table.specs.declared.Found as found
-use Rattle.table.proofs.Found as row
-use Rattle.table.specs.declared.Found.the-variants.{Met, Empty, Exhausted}
 
 -- ---- the number of taken slots from i on
 module _ (g : Layout) (img : Bytes) where
@@ -253,35 +246,17 @@ unfolding check
 check-open img h = sym (zero-yes (openNumber img) (tableVerdict img) (Verdict.refused (openNumber img)) h)
 
 -- ---- a slot's search
-pub not-met : (f : found.Found) → OneOf (1 ∷ 2 ∷ []) (tagOf row.the-type f) → (i : ℕ) → endsAt (probeOf f) i ≡ false
-unfolding probeOf endsAt
-not-met (Met s) h i = absurd (by-either h (λ (z : _≡_ {A = ℕ} 0 1). omega arith) (λ (z : _≡_ {A = ℕ} 0 2). omega arith))
-not-met (Empty s) h i = refl
-not-met Exhausted h i = refl
+module _ (g : Layout) (img : Bytes) (i : ℕ) where
+  abbrev here : Bool
+  here = endsAt (search g img (keyAt g img i)) i
 
-pub met-other : (f : found.Found) {j : Slot} → f ≡ Met j → (i : ℕ) → (j .0 ≡ i → ⊥) → endsAt (probeOf f) i ≡ false
-unfolding probeOf endsAt
-met-other f {j} e i n = ap (λ (x : found.Found). endsAt (probeOf x) i) e ∙ ne-eqb (j .0) i n
-
-pub met-here : (f : found.Found) {j : Slot} → f ≡ Met j → (i : ℕ) → j .0 ≡ i → endsAt (probeOf f) i ≡ true
-unfolding probeOf endsAt
-met-here f {j} e i n = ap (λ (x : found.Found). endsAt (probeOf x) i) e ∙ eq-eqb (j .0) i n
-
--- k is the key of slot i, and f how its search ended
-module _ (g : Layout) (img : Bytes) (i : ℕ) (k : Bytes) (is : k ≡ keyAt g img i)
-    (f : found.Found) (e : probeOf f ≡ search g img k) where
-  searched : probeOf f ≡ search g img (keyAt g img i)
-  searched = e ∙ ap (search g img) is
-
-  sound-is : entrySound g img i ≡ (endsAt (probeOf f) i && messageSound g img (offsetOf g (slot g img i)))
+  pub ends-false : here ≡ false → false ≡ entrySound g img i
   unfolding entrySound
-  sound-is = ap (λ (p : Probe). endsAt p i && messageSound g img (offsetOf g (slot g img i))) (sym searched)
+  ends-false z = sym (ap (λ (b : Bool). b && messageSound g img (offsetOf g (slot g img i))) z)
 
-  pub ends-false : endsAt (probeOf f) i ≡ false → false ≡ entrySound g img i
-  ends-false z = sym (sound-is ∙ ap (λ (b : Bool). b && messageSound g img (offsetOf g (slot g img i))) z)
-
-  pub ends-true : endsAt (probeOf f) i ≡ true → (m : Bool) (o : ℕ) → o ≡ offsetOf g (slot g img i)
+  pub ends-true : here ≡ true → (m : Bool) (o : ℕ) → o ≡ offsetOf g (slot g img i)
       → m ≡ messageSound g img o → m ≡ entrySound g img i
+  unfolding entrySound
   ends-true z m o q r =
       r ∙ ap (messageSound g img) q
-      ∙ sym (sound-is ∙ ap (λ (b : Bool). b && messageSound g img (offsetOf g (slot g img i))) z)
+      ∙ sym (ap (λ (b : Bool). b && messageSound g img (offsetOf g (slot g img i))) z)

@@ -7,18 +7,22 @@ use layout::shape::read_shape;
 use messages::message_sound;
 use overlap::first_meeting;
 use questions::open_number;
-use table::Found;
+use runs::all_zero;
+use runs::same_bytes;
+use table::home;
 use table::key_of;
 use table::offset_of;
-use table::search;
+use table::pass_over;
 use walk::is_taken;
 use words::fields::read_u32;
 use words::limits::POINTS_FIELD;
 ghost use mathlib.Core.Path.{_≡_};
 ghost use Prim.Native.Nat.{_<_};
 ghost use Rattle.bhtf.specs.Image.{layoutOf};
-ghost use Rattle.bhtf.specs.Inspect.{entrySound, tableVerdict, check};
+ghost use Rattle.bhtf.specs.Search.{search};
+ghost use Rattle.bhtf.specs.Inspect.{endsAt, entrySound, tableVerdict, check};
 ghost use Rattle.layout.specs.Shapes.{Open};
+ghost use Rattle.table.specs.Slots.{keyIn};
 ghost use Rattle.inspect.specs.Entries.{EntriesPassed};
 ghost use Rattle.inspect.specs.Verdicts.{verdictIn};
 
@@ -30,17 +34,41 @@ pub enum Verdict {
     CountFails,
 }
 
+// Whether the search for the key of slot i ends there: the slots from the key's home up to it hold other keys.
+fn ends_here(image: &[u8], shape: Shape, i: Slot) -> bool
+    requires { ⌜ Open (now image) shape × (i .0 < shape .slots) ⌝ }
+    ensures { λ r. ⌜ r ≡ endsAt (search (layoutOf (now (image .entry))) (now (image .entry))
+        (keyIn (now (image .entry)) (i .0))) (i .0) ⌝ }
+{
+    let slots = shape.slots;
+    let key = key_of(image, shape, i);
+    let mut at = home(image, shape, key);
+    let mut left = slots;
+    while 0 < left {
+        let turn = pass_over(image, shape, key, at, left);
+        if turn.left == 0 {
+            return false;
+        }
+        let slot = turn.slot;
+        if slot.number() == i.number() {
+            return true;
+        }
+        let stored = key_of(image, shape, slot);
+        if same_bytes(stored, key) | all_zero(stored) {
+            return false;
+        }
+        at = slot.next(slots);
+        left = turn.left - 1;
+    }
+    false
+}
+
 // Whether the key of slot i, searched, ends there, and its message passes question 11.
 fn entry_sound(image: &[u8], shape: Shape, i: Slot) -> bool
     requires { ⌜ Open (now image) shape × (i .0 < shape .slots) ⌝ }
     ensures { λ r. ⌜ r ≡ entrySound (layoutOf (now (image .entry))) (now (image .entry)) (i .0) ⌝ }
 {
-    let probed = search(image, shape, key_of(image, shape, i));
-    let found = probed.found;
-    let Found::Met(j) = found else {
-        return false;
-    };
-    if j.number() != i.number() {
+    if !ends_here(image, shape, i) {
         return false;
     }
     message_sound(image, shape, offset_of(image, shape, i))

@@ -1,10 +1,9 @@
 // A message is read: whether it is sound, whether it is active, how long it is, and its text.
 use layout::places::Offset;
 use layout::shape::Shape;
-use words::fields::read_u24;
+use words::fields::read_low_u24;
 use words::fields::read_u32;
 use words::limits::FREE_FIELD;
-use words::limits::LENGTH_WIDTH;
 ghost use mathlib.Core.Path.{_≡_};
 ghost use mathlib.Core.Bool.{not, _&&_};
 ghost use lib.Dec.{eqb, leb};
@@ -20,8 +19,7 @@ pub fn length_at(image: &[u8], shape: Shape, o: Offset) -> usize
     requires { ⌜ Open (now image) shape × (o .0 + shape .head ≤ length (now image)) ⌝ }
     ensures { λ r. ⌜ r ≡ lengthAt (layoutOf (now (image .entry))) (now (image .entry)) (o .0) ⌝ }
 {
-    let text = o.at() + shape.head;
-    read_u24(image, text - LENGTH_WIDTH) as usize
+    read_low_u24(image, o.at()) as usize
 }
 
 // Question 11 of an offset. The header is read only once its end is known to lie below X.

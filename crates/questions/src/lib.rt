@@ -26,7 +26,9 @@ use words::limits::TABLE_START;
 use words::limits::VERSION;
 use words::limits::VERSION_FIELD;
 ghost use mathlib.Core.Path.{_≡_};
+ghost use mathlib.Core.Bool.{_&&_};
 ghost use Prim.Native.Nat.{_≤_};
+ghost use lib.Dec.{leb};
 ghost use lib.ListN.{length};
 ghost use Rattle.bhtf.specs.Image.{dataStart};
 ghost use Rattle.bhtf.specs.Questions.{sizeAllowed, keyAllowed, slotsAllowed, versionKnown, headerSound, openNumber};
@@ -52,6 +54,13 @@ pub fn slots_allowed(n: u32) -> bool
     ensures { λ r. ⌜ r ≡ slotsAllowed n ⌝ }
 {
     n <= MOST_SLOTS
+}
+
+// Question 6 of N, by one comparison: below 1 the difference wraps.
+fn table_allowed(n: u32) -> bool
+    ensures { λ r. ⌜ r ≡ (leb 1 n && slotsAllowed n) ⌝ }
+{
+    std::num::wrapping_sub_u32(n, 1) < MOST_SLOTS
 }
 
 // D, by its formula.
@@ -84,7 +93,7 @@ fn ranges_sound(image: &[u8]) -> bool
     let scramble = read_u32(image, SCRAMBLE_FIELD);
     let table = read_u32(image, TABLE_FIELD);
     key_allowed(key)
-        & ((1 <= slots) & slots_allowed(slots))
+        & table_allowed(slots)
         & (points <= slots)
         & ((first <= last) & (last <= MOST_CHARACTER))
         & ((scramble == SCRAMBLE_OFFSET) & (table == TABLE_OFFSET))

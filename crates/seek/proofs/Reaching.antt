@@ -2,9 +2,9 @@
 --     refused-is, refused-some      the number of the first no, which is not 0
 --     reached-is                    the shape, and how the search ended
 --     reached-key                   the key is as long as the file's keys
---     refused-read, reached-read    how many slots the search read
+--     refused-read, reached-read    how many slots the search read; read-is, by both
 -- Assumes nothing.
-use mathlib.Core.Path.{_≡_, sym, _∙_, subst}
+use mathlib.Core.Path.{_≡_, refl, sym, _∙_, subst}
 use Prim.Native.Nat.{ℕ}
 use mathlib.Core.Bool.{Bool, not}
 use lib.ListN.{length}
@@ -22,7 +22,7 @@ use Rattle.table.specs.declared.Found.{Found}
 use Rattle.table.proofs.Headers.{layout-key}
 use Rattle.seek.specs.declared.Sought.{Sought}
 use Rattle.seek.specs.declared.Sought.the-variants.{Refused, At}
-use Rattle.seek.specs.Seeks.{Reached, SoughtIs}
+use Rattle.seek.specs.Seeks.{Reached, SoughtIs, readOf}
 
 module _ (img key : Bytes) (known : Bool) {r : Sought} (is : SoughtIs img key known r) where
   pub refused-is : {n : ℕ} → r ≡ Refused n → (n ≡ seekNumber img key known) × (n ≡ 0 → ⊥)
@@ -38,6 +38,12 @@ module _ (img key : Bytes) (known : Bool) {r : Sought} (is : SoughtIs img key kn
 
   pub reached-read : {s : Shape} {f : Found} {n : ℕ} → r ≡ At s f n → n ≡ soughtRead img key known
   reached-read e = let w = reached-is e in w .counted ∙ sym (sought-some img key known (w .asked))
+
+pub read-is : (img key : Bytes) (known : Bool) (r : Sought) → SoughtIs img key known r
+    → readOf r ≡ soughtRead img key known
+unfolding readOf
+read-is img key known (Refused n) is = refused-read img key known is refl
+read-is img key known (At s f n) is = reached-read img key known is refl
 
 pub reached-key : {img key : Bytes} {known : Bool} {s : Shape} {f : Found} {n : ℕ} → Reached img key known s f n
     → length key ≡ s .keylen

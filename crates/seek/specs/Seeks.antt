@@ -1,6 +1,7 @@
 -- What `seek` answers, of any image and key.
 --     SoughtIs img key known r      r is a refusal with the first no's number; or the header is accepted, and r tells
 --                                   its shape, how the search ended and how many slots it read
+--     readOf r                      how many slots it says its search read, 0 where it is a refusal
 -- Assumes nothing.
 use mathlib.Core.Path.{_≡_}
 use Prim.Native.Nat.{ℕ}
@@ -26,3 +27,7 @@ pub record Reached (img key : Bytes) (known : Bool) (s : Shape) (f : Found) (n :
 unfoldable pub SoughtIs : Bytes → Bytes → Bool → Sought → Type 0
 SoughtIs img key known (Refused n) = (n ≡ seekNumber img key known) × (n ≡ 0 → ⊥)
 SoughtIs img key known (At s f n) = Reached img key known s f n
+
+unfoldable pub readOf : Sought → ℕ
+readOf (Refused n) = 0
+readOf (At s f n) = n

@@ -5,7 +5,8 @@ use questions::name_allowed;
 use questions::open_number;
 use table::Found;
 use table::search;
-ghost use Rattle.seek.specs.Seeks.{SoughtIs};
+ghost use mathlib.Core.Path.{_≡_};
+ghost use Rattle.seek.specs.Seeks.{SoughtIs, readOf};
 
 // Refused with the number of the first no; or the image's shape, how the search ended, and how many slots it read.
 pub enum Sought {
@@ -38,4 +39,14 @@ pub fn seek(image: &[u8], key: &[u8], known: bool) -> Sought
     let probed = search(image, shape, key);
     let found = probed.found;
     Sought::At(shape, found, probed.read)
+}
+
+// How many slots the search read, 0 where a question before it was answered no.
+pub fn slots_read(sought: Sought) -> usize
+    ensures { λ r. ⌜ r ≡ readOf sought ⌝ }
+{
+    match sought {
+        Sought::Refused(_) => 0,
+        Sought::At(_, _, read) => read,
+    }
 }

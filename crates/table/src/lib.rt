@@ -82,13 +82,13 @@ pub fn is_vacant(image: &[u8], shape: Shape, i: Slot) -> bool
 }
 
 // Where a search stands: the slot to read next, and how many are left.
-struct Turn {
-    slot: Slot,
-    left: usize,
+pub struct Turn {
+    pub slot: Slot,
+    pub left: usize,
 }
 
 // Passes over slots that hold other keys, as the last four bytes show: most slots that a search reads.
-fn pass_over(image: &[u8], shape: Shape, key: &[u8], from: Slot, most: usize) -> Turn
+pub fn pass_over(image: &[u8], shape: Shape, key: &[u8], from: Slot, most: usize) -> Turn
     requires { ⌜ Open (now image) shape × (from .0 < shape .slots) ⌝ }
     ensures { λ r. ⌜ (r .slot .0 < shape .slots)
         × GoesOn (layoutOf (now (image .entry))) (now (image .entry)) (now (key .entry))

@@ -19,7 +19,7 @@ use lib.Dec.{leb, ltb, eqb}
 use borrow.Author.Tests.{le-leb, lt-leb, lt-ltb, le-ltb, eq-eqb, ne-eqb, eqb-true, not-false}
 use Rattle.bhtf.specs.Bytes.{Bytes, part, store}
 use Rattle.updates.specs.Changes.{Pair, joined, runs, covered, whole, changesIn, copied}
-use Rattle.laws.proofs.Tests.{by-bool, by-le, by-eq}
+use Rattle.laws.proofs.Tests.{by-bool, by-le, by-eq, or-no}
 use Rattle.laws.proofs.Bytes.{part-length, length-store, part-store-inside, part-store-other}
 
 -- ---- a byte after a store
@@ -252,12 +252,8 @@ pub near-more : (r : Pair) (rs : List Pair) (img new : Bytes) → Near rs img ne
 near-more r rs img new h =
     record {
       size = h .size;
-      outside = λ i f. h .outside i (or-no (inside r i) (covered rs i) (sym (covered-cons r rs i) ∙ f));
+      outside = λ i f. h .outside i (or-no (inside r i) (covered rs i) (sym (covered-cons r rs i) ∙ f) .1);
     }
-  where
-    or-no : (a b : Bool) → (a || b) ≡ false → b ≡ false
-    or-no true b e = absurd (true≢false e)
-    or-no false b e = e
 
 module _ (r : Pair) (rs : List Pair) (img new : Bytes) (fits : r .at + r .size ≤ length new)
     (h : Near (r ∷ rs) img new) where
@@ -285,17 +281,10 @@ module _ (r : Pair) (rs : List Pair) (img new : Bytes) (fits : r .at + r .size �
     near-any =
         record {
           size = put-size;
-          outside = λ i f. put-outside i (or-first (inside r i) (covered rs i) (sym (covered-cons r rs i) ∙ f))
-              (or-second (inside r i) (covered rs i) (sym (covered-cons r rs i) ∙ f));
+          outside = λ i f.
+              let no = or-no (inside r i) (covered rs i) (sym (covered-cons r rs i) ∙ f) in
+              put-outside i (no .0) (no .1);
         }
-      where
-        or-first : (a b : Bool) → (a || b) ≡ false → a ≡ false
-        or-first true b e = e
-        or-first false b e = refl
-
-        or-second : (a b : Bool) → (a || b) ≡ false → b ≡ false
-        or-second true b e = absurd (true≢false e)
-        or-second false b e = e
 
   pub near-copy : Near rs (store img (r .at) (part new (r .at) (r .size))) new
   near-copy =

@@ -14,7 +14,7 @@ use lib.ListN.{length, getD}
 use lib.Seq.{ext-getD}
 use Rattle.bhtf.specs.Bytes.{Bytes, part, store}
 use Rattle.updates.specs.Changes.{Pair, covered, copied}
-use Rattle.laws.proofs.Tests.{by-bool, by-le, by-either}
+use Rattle.laws.proofs.Tests.{by-bool, by-le, by-either, or-no}
 use Rattle.laws.proofs.Bytes.{part-length, length-store}
 use Rattle.updates.proofs.Changes.{byte-part, byte-store-below, byte-store-above, byte-store-inside, inside, inside-yes, inside-below, inside-above, covered-cons, Near}
 
@@ -62,10 +62,6 @@ module _ (r : Pair) (src img : Bytes) (L : ℕ) (fits : r .at + r .size ≤ L) (
         (λ e side. by-either side
         (λ l. byte-store-below img (r .at) v i room l)
         (λ l. byte-store-above img (r .at) v i room (omega (arith, long))))
-
-or-no : (a b : Bool) → (a || b) ≡ false → (a ≡ false) × (b ≡ false)
-or-no true b e = absurd (true≢false e)
-or-no false b e = (refl, e)
 
 pub length-copied : (L : ℕ) (rs : List Pair) (src img : Bytes) → Within L rs → L ≤ length src → L ≤ length img
     → length (copied rs src img) ≡ length img

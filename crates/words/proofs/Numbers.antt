@@ -2,6 +2,7 @@
 --     part-cons, part-four, part-three        a part, byte by byte
 --     number-four, number-three               the number of so many bytes, written out
 --     or-four, or-three                       the same number, by shifts and ors
+--     low-three                               the number of the last three of four bytes
 --     swapped-four                            the same number with its bytes in the other order
 --     store-sets, set-store, store-four, store-three     stores of bytes one after the other
 --     digits-four, digits-three               the digits, by shifts and masks
@@ -81,6 +82,11 @@ or-four a b c d p q r s =
 
 low-byte : (h l : ℕ) → l < 256 → (h * 256 + l) % 256 ≡ l
 low-byte h l p = omega arith
+
+-- the last three of four bytes
+pub low-three : (a b c d : ℕ) → b < 256 → c < 256 → d < 256
+    → (a * 16777216 + (b * 65536 + (c * 256 + d))) % 16777216 ≡ b * 65536 + (c * 256 + d)
+low-three a b c d q r s = omega arith
 
 -- four bytes in the other order
 pub swapped-four : (a b c d x : ℕ) → a < 256 → b < 256 → c < 256 → d < 256

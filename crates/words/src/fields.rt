@@ -44,12 +44,12 @@ pub fn write_u32(s: &mut [u8], at: usize, v: u32)
     s[at + 3] = (v & 255) as u8;
 }
 
-// The number of 3 bytes that stands at `at`.
-pub fn read_u24(s: &[u8], at: usize) -> u32
-    requires { ⌜ at + 3 ≤ length (now s) ⌝ }
-    ensures { λ r. ⌜ r ≡ number (part (now (s .entry)) at 3) ⌝ }
+// The number of 3 bytes that stands behind the byte at `at`: one load of four, and a mask.
+pub fn read_low_u24(s: &[u8], at: usize) -> u32
+    requires { ⌜ at + 4 ≤ length (now s) ⌝ }
+    ensures { λ r. ⌜ r ≡ number (part (now (s .entry)) (at + 1) 3) ⌝ }
 {
-    ((s[at] as u32) << 16) | ((s[at + 1] as u32) << 8) | (s[at + 2] as u32)
+    read_u32(s, at) & 0xffffff
 }
 
 // Puts v at `at`, in 3 bytes.

@@ -28,8 +28,8 @@ read-u32-requires-7 c κs = search needs
 key-allowed-requires : tie.Need-key-allowed-requires
 key-allowed-requires c κs = search needs
 
-slots-allowed-requires : tie.Need-slots-allowed-requires
-slots-allowed-requires c κs = search needs
+table-allowed-requires : tie.Need-table-allowed-requires
+table-allowed-requires c κs = search needs
 
 returns : tie.Need-returns
 unfolding rangesSound
@@ -47,5 +47,5 @@ ranges-sound-spec =
     read-u32-requires-6
     read-u32-requires-7
     key-allowed-requires
-    slots-allowed-requires
+    table-allowed-requires
     returns)
