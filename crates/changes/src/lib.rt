@@ -7,7 +7,7 @@ pub mod windows;
 use crate::windows::Windows;
 use crate::windows::ahead;
 use crate::windows::whole;
-use runs::copy;
+use copies::copy;
 use words::fields::write_u32;
 ghost use mathlib.Core.Path.{_≡_};
 ghost use mathlib.Core.List.{_++_};

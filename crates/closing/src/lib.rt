@@ -1,9 +1,9 @@
 // Delete's walk: the gap that an entry leaves is closed by entries that a search would no longer find (Knuth's
 // Algorithm R, run upwards).
+use copies::clear;
 use layout::places::Slot;
 use layout::shape::Shape;
-use runs::copy_apart;
-use runs::zero;
+use shifts::copy_apart;
 use table::home;
 use table::is_vacant;
 use table::key_of;
@@ -47,7 +47,7 @@ fn clear_slot(image: &mut [u8], shape: Shape, i: Slot)
     let size = shape.keylen;
     let a = i.start(size).at();
     let e = a + (size + 4);
-    zero(&mut image[a..e]);
+    clear(&mut image[a..e]);
 }
 
 // Moves the entry of slot j into the hole; slot j is zeroed.

@@ -1,6 +1,6 @@
 // The image that create leaves.
+use copies::zero;
 use questions::data_start;
-use runs::zero;
 use scramble::numbers::write_numbers;
 use scramble::write_scramble;
 use words::limits::MAGIC;

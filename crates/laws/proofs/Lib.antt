@@ -5,6 +5,7 @@
 -- ---- bytes and numbers
 pub mod Tests  -- tests on Bools and numbers, as facts and case splits
 pub mod Bytes  -- parts, stores, numbers of any width
+pub mod Byte  -- one byte, of a part and after a store
 pub mod Stores  -- stores in turn as one, and a part that was lent
 pub mod Slots  -- fields and slots after a write
 pub mod Total  -- sums over slots

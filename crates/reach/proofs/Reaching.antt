@@ -22,7 +22,7 @@ use Rattle.laws.proofs.Cyclic.{by-dist, dist-up, dist-wrap}
 use Rattle.laws.proofs.Opened.{opened-facts, opened-room}
 use Rattle.laws.proofs.Sought.{add-stop, delete-stop}
 use Rattle.updates.specs.Changes.{covered}
-use Rattle.updates.proofs.Changes.{byte-part}
+use Rattle.laws.proofs.Byte.{byte-part}
 use Rattle.changes.specs.Windows.{windowsOf}
 use Rattle.changes.specs.declared.windows.Windows.{Windows}
 use Rattle.changes.proofs.Windowed.{Off, covered-1, covered-2, covered-3, covered-4}

@@ -1,11 +1,11 @@
 // A message is written: made inactive, in place, or in new space at X.
+use copies::copy;
+use copies::zero;
 use layout::places::Offset;
 use layout::shape::Shape;
 use messages::is_active;
 use messages::length_at;
-use runs::copy;
-use runs::copy_up;
-use runs::zero;
+use shifts::copy_up;
 use words::fields::read_u32;
 use words::fields::write_u24;
 use words::fields::write_u32;

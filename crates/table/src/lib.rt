@@ -1,10 +1,10 @@
 // From a name to its slot: home, and the search from there upwards.
+use copies::copy;
 use hashing::hash;
 use layout::places::Offset;
 use layout::places::Slot;
 use layout::shape::Shape;
 use runs::all_zero;
-use runs::copy;
 use runs::same_bytes;
 use runs::tail;
 use words::fields::read_u32;

@@ -1,5 +1,5 @@
 // Text put into a slice from a place on; each answers the place behind it and leaves all other bytes.
-use runs::copy;
+use copies::copy;
 ghost use Prim.Native.Nat.{_+_, _≤_, _<_};
 ghost use mathlib.Core.List.{[], _∷_};
 ghost use mathlib.Core.Path.{_≡_};

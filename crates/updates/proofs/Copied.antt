@@ -16,7 +16,8 @@ use Rattle.bhtf.specs.Bytes.{Bytes, part, store}
 use Rattle.updates.specs.Changes.{Pair, covered, copied}
 use Rattle.laws.proofs.Tests.{by-bool, by-le, by-either, or-no}
 use Rattle.laws.proofs.Bytes.{part-length, length-store}
-use Rattle.updates.proofs.Changes.{byte-part, byte-store-below, byte-store-above, byte-store-inside, inside, inside-yes, inside-below, inside-above, covered-cons, Near}
+use Rattle.updates.proofs.Changes.{inside, inside-yes, inside-below, inside-above, covered-cons, Near}
+use Rattle.laws.proofs.Byte.{byte-part, byte-store-below, byte-store-above, byte-store-inside}
 
 abbrev pub Within : ℕ → List Pair → Type 0
 Within L [] = Unit {0}

@@ -24,7 +24,8 @@ use Rattle.laws.proofs.Tests.{by-bool, by-eq, and-left, and-right, and-true}
 use Rattle.laws.proofs.Bytes.{part-length, length-store}
 use Rattle.laws.proofs.Stores.{store-inner}
 use Rattle.laws.proofs.Outcomes.{settled-yes, settled-no}
-use Rattle.updates.proofs.Changes.{byte-store-above, byte-store-inside, Spread, Near, near-none, near-more, near-any, near-copy, near-runs, copied-near, runs-spread, runs-few}
+use Rattle.updates.proofs.Changes.{Spread, Near, near-none, near-more, near-any, near-copy, near-runs, copied-near, runs-spread, runs-few}
+use Rattle.laws.proofs.Byte.{byte-store-above, byte-store-inside}
 use Rattle.updates.proofs.Journal.{Holds, holds-content, holds-mark, content-blocks, content-sound}
 
 -- ---- the mark

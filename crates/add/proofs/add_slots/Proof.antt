@@ -39,12 +39,13 @@ returns c =
     let N = c .before .before in
     let R = N .before .before in
     let k = R .before in
+    let known = k .before .before .mode-known in
     let A = start-at-seek k .args in (
       N .add-sought .ensures .0,
       N .add-sought .ensures .1,
       R .slots-read .ensures
-          ∙ read-is (A .image .now) (A .key .now) (k .before .before .mode-known .result) (k .seek .result) (k .seek .ensures)
-          ∙ ap (soughtRead (A .image .now) (A .key .now)) (k .before .before .mode-known .ensures),
+          ∙ read-is (A .image .now) (A .key .now) (known .result) (k .seek .result) (k .seek .ensures)
+          ∙ ap (soughtRead (A .image .now) (A .key .now)) (known .ensures),
     )
 
 pub add-slots-spec : {M : Type 1} → statement M

@@ -1,5 +1,5 @@
--- `inspect::ends_here` meets its contract: the search for the slot's key goes on from slot to slot, and meets its key at
--- the slot itself where it comes there.
+-- `inspect::ends_here` meets its contract: the search for the slot's key goes on from slot to slot, and meets the key
+-- at the slot itself where it comes there.
 -- Assumes nothing.
 use Prim.Native.Nat.{ℕ, _<_}
 use native.Mathlib.Omega.{arith}

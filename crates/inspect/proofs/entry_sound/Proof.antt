@@ -13,7 +13,8 @@ ends-here-requires c κs = search needs
 returns : tie.Need-returns
 returns c =
     let A = c .before .before .before .args in
-    ends-false (layoutOf (A .image .now)) (A .image .now) (A .i .0) (was-no (c .before .ends-here .ensures) (c .if1 .taken))
+    ends-false (layoutOf (A .image .now)) (A .image .now) (A .i .0)
+    (was-no (c .before .ends-here .ensures) (c .if1 .taken))
 
 offset-of-requires : tie.Need-offset-of-requires
 offset-of-requires c κs = search needs
@@ -26,7 +27,8 @@ returns-2 c =
     let E = c .before .before in
     let A = E .before .before .before .args in
     let o = c .before .offset-of in
-    ends-true (layoutOf (A .image .now)) (A .image .now) (A .i .0) (was-yes (E .before .ends-here .ensures) (E .if1 .left))
+    ends-true (layoutOf (A .image .now)) (A .image .now) (A .i .0)
+    (was-yes (E .before .ends-here .ensures) (E .if1 .left))
     (c .message-sound .result) (o .result .0) (o .ensures) (c .message-sound .ensures)
 
 pub entry-sound-spec : {M : Type 1} → statement M

@@ -7,7 +7,7 @@ use mathlib.Core.Path.{_≡_, refl, ap, _∙_}
 use lib.ListN.{length, set, drop, replicate, length-set}
 use borrow.Author.Needs.{needs}
 use borrow.Author.Fill.{fill-more}
-use Rattle.runs.proofs.Copied.{zeroed-all}
+use Rattle.copies.proofs.Copied.{zeroed-all}
 use Rattle.overlap.proofs.marks.clear.Statement.{statement}
 use Rattle.overlap.proofs.marks.clear.Tie as tie
 

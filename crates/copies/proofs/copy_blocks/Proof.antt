@@ -4,9 +4,9 @@ use native.Mathlib.Omega.{arith}
 use mathlib.Core.Path.{_≡_, refl, sym, ap, _∙_}
 use lib.ListN.{length}
 use Rattle.bhtf.specs.Bytes.{part, store}
-use Rattle.runs.proofs.Moved.{none-yet, copied-block, copied-whole, length-moved}
-use Rattle.runs.proofs.copy_blocks.Statement.{statement}
-use Rattle.runs.proofs.copy_blocks.Tie as tie
+use Rattle.copies.proofs.Moved.{none-yet, copied-block, copied-whole, length-moved}
+use Rattle.copies.proofs.copy_blocks.Statement.{statement}
+use Rattle.copies.proofs.copy_blocks.Tie as tie
 
 abbrev Inv-loop : tie.InvT-loop
 Inv-loop dst₀ src n last i₀ dst i = (dst ≡ store dst₀ 0 (part src 0 i)) × (i ≤ length dst₀) × (length dst ≡ length dst₀)

@@ -1,4 +1,4 @@
--- `runs::zero` meets its contract: after i turns the first i bytes are zero and the rest are as they were.
+-- `copies::zero` meets its contract: after i turns the first i bytes are zero and the rest are as they were.
 -- Assumes nothing.
 use Prim.Native.Nat.{ℕ, _≤_, _-_}
 use native.Mathlib.Omega.{arith}
@@ -7,9 +7,9 @@ use mathlib.Core.Path.{_≡_, refl, ap, _∙_}
 use lib.ListN.{length, set, drop, replicate, length-set}
 use borrow.Author.Needs.{needs}
 use borrow.Author.Fill.{fill-more}
-use Rattle.runs.proofs.Copied.{zeroed-all}
-use Rattle.runs.proofs.zero.Statement.{statement}
-use Rattle.runs.proofs.zero.Tie as tie
+use Rattle.copies.proofs.Copied.{zeroed-all}
+use Rattle.copies.proofs.zero.Statement.{statement}
+use Rattle.copies.proofs.zero.Tie as tie
 
 abbrev Inv-loop : tie.InvT-loop
 Inv-loop s₀ i₀ s i = (s ≡ replicate i 0 ++ drop i s₀) × (i ≤ length s₀) × (length s ≡ length s₀)

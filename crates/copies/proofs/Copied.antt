@@ -1,8 +1,8 @@
 -- What a loop that copies or zeroes byte by byte leaves, as one list.
 --     copied-more      one more byte of s, copied over d from the front
 --     copied-all, zeroed-all     all of them
---     copied-more-apart, copied-more-down     one more byte of a run copied within one list, to a place that it does not
---                      meet, or that is not above it
+--     copied-more-apart, copied-more-down     one more byte of a run copied within one list, to a place that it does
+--                      not meet, or that is not above it
 --     copied-all-within      all of them
 -- Assumes nothing.
 use Prim.Native.Nat.{ℕ, zero, suc, _+_, _-_, _<_, _≤_}

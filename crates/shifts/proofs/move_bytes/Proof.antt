@@ -1,4 +1,4 @@
--- `runs::move_bytes` meets its contract: i bytes are written, and none that is still to be read.
+-- `shifts::move_bytes` meets its contract: i bytes are written, and none that is still to be read.
 -- Assumes nothing.
 use Prim.Native.Nat.{ℕ, _+_, _≤_, _-_}
 use native.Mathlib.Omega.{arith}
@@ -7,9 +7,9 @@ use mathlib.Core.Path.{_≡_, refl, ap, _∙_}
 use lib.ListN.{length, getD, set, drop, length-set}
 use lib.Seq.{paste, paste-zero}
 use borrow.Author.Needs.{needs}
-use Rattle.runs.proofs.Copied.{copied-more-apart, copied-all-within}
-use Rattle.runs.proofs.move_bytes.Statement.{statement}
-use Rattle.runs.proofs.move_bytes.Tie as tie
+use Rattle.copies.proofs.Copied.{copied-more-apart, copied-all-within}
+use Rattle.shifts.proofs.move_bytes.Statement.{statement}
+use Rattle.shifts.proofs.move_bytes.Tie as tie
 
 abbrev Inv-loop : tie.InvT-loop
 Inv-loop s₀ from to n i₀ s i = (s ≡ paste s₀ to (drop from s₀) i) × (i ≤ n) × (length s ≡ length s₀)

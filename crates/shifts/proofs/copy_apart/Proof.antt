@@ -5,9 +5,9 @@ use native.Mathlib.Omega.{arith}
 use mathlib.Core.Path.{_≡_, refl, sym, ap, _∙_}
 use lib.ListN.{length}
 use Rattle.bhtf.specs.Bytes.{part, store}
-use Rattle.runs.proofs.Moved.{none-yet, moved-block, length-moved}
-use Rattle.runs.proofs.copy_apart.Statement.{statement}
-use Rattle.runs.proofs.copy_apart.Tie as tie
+use Rattle.copies.proofs.Moved.{none-yet, moved-block, length-moved}
+use Rattle.shifts.proofs.copy_apart.Statement.{statement}
+use Rattle.shifts.proofs.copy_apart.Tie as tie
 
 abbrev Inv-loop : tie.InvT-loop
 Inv-loop s₀ from to n last i₀ s i = (s ≡ store s₀ to (part s₀ from i)) × (i ≤ n) × (length s ≡ length s₀)

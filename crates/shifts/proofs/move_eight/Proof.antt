@@ -5,9 +5,9 @@ use mathlib.Core.Path.{sym, ap, _∙_}
 use lib.ListN.{getD, length-set}
 use borrow.Author.Needs.{needs}
 use Rattle.bhtf.specs.Bytes.{Bytes, store}
 use Rattle.runs.proofs.Little.{part-eight, store-eight}
-use Rattle.runs.proofs.blocks.move_eight.Statement.{statement}
-use Rattle.runs.proofs.blocks.move_eight.Tie as tie
+use Rattle.shifts.proofs.move_eight.Statement.{statement}
+use Rattle.shifts.proofs.move_eight.Tie as tie
 
 slice-read-b0 : tie.Need-slice-read-b0
 slice-read-b0 c = search needs

@@ -1,10 +1,10 @@
--- `runs::copy_up` meets its contract: a run and one above it do not meet.
+-- `shifts::copy_up` meets its contract: a run and one above it do not meet.
 -- Assumes nothing.
 use native.Mathlib.Omega.{arith}
 use mathlib.Core.Logic.{inl}
 use borrow.Author.Needs.{needs}
-use Rattle.runs.proofs.copy_up.Statement.{statement}
-use Rattle.runs.proofs.copy_up.Tie as tie
+use Rattle.shifts.proofs.copy_up.Statement.{statement}
+use Rattle.shifts.proofs.copy_up.Tie as tie
 
 copy-apart-requires : tie.Need-copy-apart-requires
 copy-apart-requires c κs =

@@ -5,9 +5,9 @@ use mathlib.Core.Path.{sym, ap, _∙_}
 use lib.ListN.{getD, length-set}
 use borrow.Author.Needs.{needs}
 use Rattle.bhtf.specs.Bytes.{Bytes, store}
 use Rattle.runs.proofs.Little.{part-eight, store-eight}
-use Rattle.runs.proofs.blocks.copy_eight.Statement.{statement}
-use Rattle.runs.proofs.blocks.copy_eight.Tie as tie
+use Rattle.copies.proofs.copy_eight.Statement.{statement}
+use Rattle.copies.proofs.copy_eight.Tie as tie
 
 shared-slice-read-b0 : tie.Need-shared-slice-read-b0
 shared-slice-read-b0 c = search needs

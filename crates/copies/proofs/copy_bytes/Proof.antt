@@ -1,4 +1,4 @@
--- `runs::copy_bytes` meets its contract: after i turns the first i bytes are src's and the rest are as they were.
+-- `copies::copy_bytes` meets its contract: after i turns the first i bytes are src's and the rest are as they were.
 -- Assumes nothing.
 use Prim.Native.Nat.{ℕ, _≤_, _-_}
 use native.Mathlib.Omega.{arith}
@@ -6,9 +6,9 @@ use mathlib.Core.List.{List, _++_}
 use mathlib.Core.Path.{_≡_, refl, ap, _∙_}
 use lib.ListN.{length, getD, set, take, drop, length-set}
 use borrow.Author.Needs.{needs}
-use Rattle.runs.proofs.Copied.{copied-more, copied-all}
-use Rattle.runs.proofs.copy_bytes.Statement.{statement}
-use Rattle.runs.proofs.copy_bytes.Tie as tie
+use Rattle.copies.proofs.Copied.{copied-more, copied-all}
+use Rattle.copies.proofs.copy_bytes.Statement.{statement}
+use Rattle.copies.proofs.copy_bytes.Tie as tie
 
 abbrev Inv-loop : tie.InvT-loop
 Inv-loop dst₀ src i₀ dst i = (dst ≡ take i src ++ drop i dst₀) × (i ≤ length dst₀) × (length dst ≡ length dst₀)

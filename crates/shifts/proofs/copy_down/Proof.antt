@@ -1,4 +1,4 @@
--- `runs::copy_down` meets its contract: k bytes are written, and none that is still to be read, as it stands above.
+-- `shifts::copy_down` meets its contract: k bytes are written, and none that is still to be read, as it stands above.
 -- Assumes nothing.
 use Prim.Native.Nat.{ℕ, _+_, _≤_, _-_}
 use native.Mathlib.Omega.{arith}
@@ -7,9 +7,9 @@ use mathlib.Core.Path.{_≡_, refl, ap, _∙_}
 use lib.ListN.{length, getD, set, drop, length-set}
 use lib.Seq.{paste, paste-zero}
 use borrow.Author.Needs.{needs}
-use Rattle.runs.proofs.Copied.{copied-more-down, copied-all-within}
-use Rattle.runs.proofs.copy_down.Statement.{statement}
-use Rattle.runs.proofs.copy_down.Tie as tie
+use Rattle.copies.proofs.Copied.{copied-more-down, copied-all-within}
+use Rattle.shifts.proofs.copy_down.Statement.{statement}
+use Rattle.shifts.proofs.copy_down.Tie as tie
 
 abbrev Inv-loop : tie.InvT-loop
 Inv-loop s₀ from to n k₀ s k = (s ≡ paste s₀ to (drop from s₀) k) × (k ≤ n) × (length s ≡ length s₀)

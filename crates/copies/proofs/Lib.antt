@@ -1,0 +1,4 @@
+-- Laws of bytes zeroed and copied, one by one and in blocks.
+pub mod Copied
+pub mod Moved
+pub mod Cleared

@@ -1,0 +1,80 @@
+// Bytes copied from one place of a slice to another, from eight bytes on in blocks of eight, the last of which may
+// overlap the one before.
+ghost use mathlib.Core.Path.{_≡_};
+ghost use mathlib.Core.Logic.{_⊎_};
+ghost use lib.ListN.{length};
+ghost use Prim.Native.Nat.{_+_, _≤_};
+ghost use Rattle.bhtf.specs.Bytes.{part, store};
+
+// Copies the n bytes from `from` on to `to`, byte by byte; the two runs do not meet.
+fn move_bytes(s: &mut [u8], from: usize, to: usize, n: usize)
+    requires { ⌜ ((from + n ≤ to) ⊎ (to + n ≤ from)) × (from + n ≤ length (now s)) × (to + n ≤ length (now s)) ⌝ }
+    ensures { λ _. ⌜ now (s .exit) ≡ store (now (s .entry)) to (part (now (s .entry)) from n) ⌝ }
+{
+    let mut i = 0;
+    while i < n {
+        s[to + i] = s[from + i];
+        i += 1;
+    }
+}
+
+// Copies the eight bytes at `from` to `to`, within one run.
+fn move_eight(s: &mut [u8], from: usize, to: usize)
+    requires { ⌜ (from + 8 ≤ length (now s)) × (to + 8 ≤ length (now s)) ⌝ }
+    ensures { λ _. ⌜ now (s .exit) ≡ store (now (s .entry)) to (part (now (s .entry)) from 8) ⌝ }
+{
+    let b0 = s[from];
+    let b1 = s[from + 1];
+    let b2 = s[from + 2];
+    let b3 = s[from + 3];
+    let b4 = s[from + 4];
+    let b5 = s[from + 5];
+    let b6 = s[from + 6];
+    let b7 = s[from + 7];
+    s[to] = b0;
+    s[to + 1] = b1;
+    s[to + 2] = b2;
+    s[to + 3] = b3;
+    s[to + 4] = b4;
+    s[to + 5] = b5;
+    s[to + 6] = b6;
+    s[to + 7] = b7;
+}
+
+// Copies the n bytes from `from` on to `to`; the two runs do not meet.
+pub fn copy_apart(s: &mut [u8], from: usize, to: usize, n: usize)
+    requires { ⌜ ((from + n ≤ to) ⊎ (to + n ≤ from)) × (from + n ≤ length (now s)) × (to + n ≤ length (now s)) ⌝ }
+    ensures { λ _. ⌜ now (s .exit) ≡ store (now (s .entry)) to (part (now (s .entry)) from n) ⌝ }
+{
+    if n < 8 {
+        move_bytes(s, from, to, n);
+        return;
+    }
+    let last = n - 8;
+    let mut i = 0;
+    while i < last {
+        move_eight(s, from + i, to + i);
+        i += 8;
+    }
+    move_eight(s, from + last, to + last);
+}
+
+// Copies the n bytes from `from` on to `to`, above them.
+pub fn copy_up(s: &mut [u8], from: usize, to: usize, n: usize)
+    requires { ⌜ (from + n ≤ to) × (to + n ≤ length (now s)) ⌝ }
+    ensures { λ _. ⌜ now (s .exit) ≡ store (now (s .entry)) to (part (now (s .entry)) from n) ⌝ }
+{
+    copy_apart(s, from, to, n);
+}
+
+// Copies the n bytes from `from` on to `to`, which is not above them; the two runs may meet.
+pub fn copy_down(s: &mut [u8], from: usize, to: usize, n: usize)
+    requires { ⌜ (to ≤ from) × (from + n ≤ length (now s)) ⌝ }
+    ensures { λ _. ⌜ now (s .exit) ≡ store (now (s .entry)) to (part (now (s .entry)) from n) ⌝ }
+{
+    let mut k = 0;
+    while k < n {
+        s[to + k] = s[from + k];
+        k += 1;
+    }
+}
