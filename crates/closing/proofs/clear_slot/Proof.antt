@@ -1,4 +1,4 @@
--- `closing::clear_slot` meets its contract: the slot's part is lent to `zero`, and comes back as a blank.
+-- `closing::clear_slot` meets its contract: the slot's part is lent to `clear`, and comes back as a blank.
 -- Assumes nothing.
 use Prim.Native.Nat.{_+_, _-_}
 use native.Mathlib.Omega.{arith}
@@ -28,21 +28,21 @@ add-e-2 c =
     let s = S .args .shape in
     omega (arith, spot-placed img s (S .args .i .0) (S .pre .0) (S .pre .1), c .at .ensures, c .before .start .ensures)
 
-sub-zero : tie.Need-sub-zero
-sub-zero c = search needs
+sub-clear : tie.Need-sub-clear
+sub-clear c = search needs
 
-part-zero-start : tie.Need-part-zero-start
-part-zero-start c = search needs
+part-clear-start : tie.Need-part-clear-start
+part-clear-start c = search needs
 
-part-zero-end : tie.Need-part-zero-end
-part-zero-end c =
+part-clear-end : tie.Need-part-clear-end
+part-clear-end c =
     let S = c .before .before .before in
     let img = S .args .image .now in
     let s = S .args .shape in
     omega (arith, spot-placed img s (S .args .i .0) (S .pre .0) (S .pre .1), c .at .ensures, c .before .start .ensures)
 
-zero-requires : tie.Need-zero-requires
-zero-requires c κs = search needs
+clear-requires : tie.Need-clear-requires
+clear-requires c κs = search needs
 
 same-length : tie.Need-same-length
 same-length c = search needs
@@ -61,7 +61,7 @@ returns c =
     let m : e - a ≡ s .keylen + 4 = omega arith in
     let size = mid-len a e img (omega arith) ∙ m in
     ap (λ (v : Bytes). putMid a (e - a) img v)
-    (c .before .before .zero .ensures ∙ ap zeros (size ∙ sym (slot-room img s (S .pre .0 .shape))))
+    (c .before .before .clear .ensures ∙ ap zeros (size ∙ sym (slot-room img s (S .pre .0 .shape))))
     ∙ put-slot img s (S .pre .0 .shape) (S .args .i .0) a at e (blank (layoutOf img)) refl
     (length-blank (layoutOf img) ∙ slot-room img s (S .pre .0 .shape))
 
@@ -73,9 +73,9 @@ clear-slot-spec =
     at-requires
     add-e
     add-e-2
-    sub-zero
-    part-zero-start
-    part-zero-end
-    zero-requires
+    sub-clear
+    part-clear-start
+    part-clear-end
+    clear-requires
     same-length
     returns)
