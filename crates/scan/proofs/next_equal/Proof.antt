@@ -2,11 +2,11 @@
 use Prim.Native.Nat.{ℕ, _-_, _≤_, _<_}
 use native.Mathlib.Omega.{arith}
 use mathlib.Core.Path.{_≡_}
-use Rattle.changes.specs.Scans.{Differ}
+use Rattle.windows.specs.Scans.{Differ}
 use borrow.Author.Needs.{needs}
-use Rattle.changes.proofs.Scanning.{so-far}
-use Rattle.changes.proofs.next_equal.Statement.{statement}
-use Rattle.changes.proofs.next_equal.Tie as tie
+use Rattle.windows.proofs.Scanning.{so-far}
+use Rattle.scan.proofs.next_equal.Statement.{statement}
+use Rattle.scan.proofs.next_equal.Tie as tie
 
 abbrev Inv-loop : tie.InvT-loop
 Inv-loop old new from to i₀ i =

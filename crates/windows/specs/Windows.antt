@@ -13,7 +13,7 @@ use mathlib.Core.List.{List, [], _∷_}
 use lib.ListN.{length}
 use Rattle.bhtf.specs.Bytes.{Bytes}
 use Rattle.updates.specs.Changes.{Pair, covered, copied}
-use Rattle.changes.specs.declared.windows.Windows.{Windows}
+use Rattle.windows.specs.declared.Windows.{Windows}
 
 abbrev pub stretch : ℕ → ℕ → Pair
 stretch from end = record { at = from; size = end - from }

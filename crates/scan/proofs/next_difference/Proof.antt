@@ -4,9 +4,9 @@ use native.Mathlib.Omega.{arith}
 use mathlib.Core.Path.{_≡_}
 use lib.ListN.{getD}
 use borrow.Author.Needs.{needs}
-use Rattle.changes.proofs.Scanning.{so-far}
-use Rattle.changes.proofs.next_difference.Statement.{statement}
-use Rattle.changes.proofs.next_difference.Tie as tie
+use Rattle.windows.proofs.Scanning.{so-far}
+use Rattle.scan.proofs.next_difference.Statement.{statement}
+use Rattle.scan.proofs.next_difference.Tie as tie
 
 abbrev Inv-loop : tie.InvT-loop
 Inv-loop old new from to i₀ i =

@@ -2,7 +2,7 @@
 // compared after it.
 ghost use mathlib.Core.Path.{_≡_};
 ghost use Prim.Native.Nat.{_≤_, _<_};
-ghost use Rattle.changes.specs.Windows.{Sorted, Ahead};
+ghost use Rattle.windows.specs.Windows.{Sorted, Ahead};
 
 // Four windows, in their order: from 0 up to end1, from from2 up to end2, and so on. They may touch, and be empty.
 pub struct Windows {

@@ -6,12 +6,12 @@ use lib.ListN.{length}
 use borrow.Author.Needs.{needs}
 use Rattle.bhtf.specs.Bytes.{Bytes}
 use Rattle.laws.proofs.Tests.{by-le}
-use Rattle.changes.specs.Scans.{Differ, RunTo}
-use Rattle.changes.specs.Windows.{before}
-use Rattle.changes.proofs.Scanning.{Stops, run-to, stops-later}
-use Rattle.changes.proofs.Windowed.{length-before, window-differ, gap-stops, window-stops}
-use Rattle.changes.proofs.run_end.Statement.{statement}
-use Rattle.changes.proofs.run_end.Tie as tie
+use Rattle.windows.specs.Scans.{Differ, RunTo}
+use Rattle.windows.specs.Windows.{before}
+use Rattle.windows.proofs.Scanning.{Stops, run-to, stops-later}
+use Rattle.windows.proofs.Windowed.{length-before, window-differ, gap-stops, window-stops}
+use Rattle.scan.proofs.run_end.Statement.{statement}
+use Rattle.scan.proofs.run_end.Tie as tie
 
 abbrev Inv-loop : tie.InvT-loop
 Inv-loop work new w from size i₀ i =

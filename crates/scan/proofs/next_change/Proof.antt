@@ -5,11 +5,11 @@ use native.Mathlib.Omega.{arith}
 use mathlib.Core.Path.{_≡_, refl, _∙_}
 use lib.ListN.{length}
 use borrow.Author.Needs.{needs}
-use Rattle.changes.specs.Scans.{rest}
-use Rattle.changes.specs.Windows.{before}
-use Rattle.changes.proofs.Windowed.{length-before, window-passed, window-differ}
-use Rattle.changes.proofs.next_change.Statement.{statement}
-use Rattle.changes.proofs.next_change.Tie as tie
+use Rattle.windows.specs.Scans.{rest}
+use Rattle.windows.specs.Windows.{before}
+use Rattle.windows.proofs.Windowed.{length-before, window-passed, window-differ}
+use Rattle.scan.proofs.next_change.Statement.{statement}
+use Rattle.scan.proofs.next_change.Tie as tie
 
 abbrev Inv-loop : tie.InvT-loop
 Inv-loop work new w from size i₀ i =

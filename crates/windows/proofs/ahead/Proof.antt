@@ -1,8 +1,8 @@
 -- The windows in turn: the first that ends above i. Assumes nothing.
 use borrow.Author.Needs.{needs}
-use Rattle.changes.proofs.windows.ahead.Statement.{statement}
-use Rattle.changes.proofs.windows.ahead.Tie as tie
-use Rattle.changes.proofs.Windowed.{ahead-1, ahead-2, ahead-3, ahead-4, ahead-none}
+use Rattle.windows.proofs.ahead.Statement.{statement}
+use Rattle.windows.proofs.ahead.Tie as tie
+use Rattle.windows.proofs.Windowed.{ahead-1, ahead-2, ahead-3, ahead-4, ahead-none}
 
 returns : tie.Need-returns
 returns c =

@@ -21,7 +21,7 @@ use Rattle.laws.proofs.Tests.{by-le}
 use Rattle.laws.proofs.Bytes.{length-digits, length-store}
 use Rattle.laws.proofs.Stores.{store-none, store-append}
 use Rattle.updates.proofs.Changes.{joined-next, joined-apart, runs-same, runs-differ, Spread, spread-runs}
-use Rattle.changes.specs.Scans.{rest, Differ, ToChange, RunTo, Measured}
+use Rattle.windows.specs.Scans.{rest, Differ, ToChange, RunTo, Measured}
 
 module _ (old new : Bytes) (l : length old ≡ length new) where
   opened : (i : ℕ) → i < length old

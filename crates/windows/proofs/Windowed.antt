@@ -18,10 +18,10 @@ use Rattle.updates.specs.Changes.{Pair, covered}
 use Rattle.laws.proofs.Tests.{by-le, or-right}
 use Rattle.updates.proofs.Changes.{inside, inside-yes, inside-below, inside-above, covered-cons}
 use Rattle.updates.proofs.Copied.{Within, length-copied, byte-copied, byte-left}
-use Rattle.changes.specs.declared.windows.Windows.{Windows}
-use Rattle.changes.specs.Scans.{rest, Differ, Passed}
-use Rattle.changes.specs.Windows.{stretch, windowsOf, before, Sorted, Kept, Ahead}
-use Rattle.changes.proofs.Scanning.{Stops, rest-to}
+use Rattle.windows.specs.declared.Windows.{Windows}
+use Rattle.windows.specs.Scans.{rest, Differ, Passed}
+use Rattle.windows.specs.Windows.{stretch, windowsOf, before, Sorted, Kept, Ahead}
+use Rattle.windows.proofs.Scanning.{Stops, rest-to}
 
 -- ---- which places they cover
 
