@@ -9,10 +9,10 @@ use borrow.Author.Needs.{needs}
 use Rattle.bhtf.specs.Bytes.{Bytes, store}
 use Rattle.updates.specs.Changes.{runs}
 use Rattle.updates.specs.Journal.{content, markPlace, marked, Disk, allWritten, updates, recoveries, pairCount, journalSound}
 use Rattle.journal.proofs.Settling.{updates-as, updates-same, mark-stored}
-use Rattle.journal.proofs.Carried.{carried-none, carried-content, carried-marked, allowed-room, marked-sound, marked-count}
-use Rattle.journal.proofs.carry_out.Statement.{statement}
-use Rattle.journal.proofs.carry_out.Tie as tie
+use Rattle.commit.proofs.Carried.{carried-none, carried-content, carried-marked, allowed-room, marked-sound, marked-count}
+use Rattle.commit.proofs.carry_out.Statement.{statement}
+use Rattle.commit.proofs.carry_out.Tie as tie
 
 -- the update at hand
 abbrev old : tie.Start → Bytes

@@ -11,9 +11,9 @@ use Rattle.updates.specs.Changes.{runs}
 use Rattle.updates.specs.Journal.{content, journalAllowed, Disk, Write, allWritten, updates}
 use Rattle.laws.proofs.Outcomes.{settled-yes}
 use Rattle.updates.proofs.Recovery.{updates-arrive}
-use Rattle.journal.proofs.Carried.{counted-content, refused-short, refused-mark, allowed-both, taken-all, update-refused}
-use Rattle.journal.proofs.update.Statement.{statement}
-use Rattle.journal.proofs.update.Tie as tie
+use Rattle.commit.proofs.Carried.{counted-content, refused-short, refused-mark, allowed-both, taken-all, update-refused}
+use Rattle.commit.proofs.update.Statement.{statement}
+use Rattle.commit.proofs.update.Tie as tie
 
 abbrev start : tie.After-measure → tie.Start
 start M = M .before .before .before .before .before
