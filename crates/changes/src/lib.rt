@@ -1,13 +1,11 @@
 // What a call changed: the runs of bytes that differ between an image before it and after it, counted, and written into
 // a slice as pairs of offset and length, or their new bytes one behind the other. The image before the call stands in a
 // working slice, at its own places, as far as the windows go; outside of them the call wrote nothing.
-//     windows   the stretches of an image that are kept and compared
-pub mod windows;
-
-use crate::windows::Windows;
-use crate::windows::ahead;
-use crate::windows::whole;
 use copies::copy;
+use scan::next_change;
+use scan::run_end;
+use windows::Windows;
+use windows::whole;
 use words::fields::write_u32;
 ghost use mathlib.Core.Path.{_≡_};
 ghost use mathlib.Core.List.{_++_};
@@ -16,83 +14,13 @@ ghost use lib.ListN.{length};
 ghost use Rattle.bhtf.specs.Bytes.{part, store, digits};
 ghost use Rattle.updates.specs.Changes.{runs, pairBytes, changesIn, copied};
 ghost use Rattle.updates.specs.Journal.{newBytes};
-ghost use Rattle.changes.specs.Scans.{Differ, Passed, Changed, ToChange, RunTo, Measured};
-ghost use Rattle.changes.specs.Windows.{windowsOf, before, Kept};
+ghost use Rattle.windows.specs.Scans.{Measured};
+ghost use Rattle.windows.specs.Windows.{windowsOf, before, Kept};
 
 // How many runs there are, and how many bytes they have together.
 pub struct Tally {
     pub pairs: usize,
     pub bytes: usize,
-}
-
-// The lowest place from `from` up to `to` where the two differ, or `to`.
-fn next_difference(old: &[u8], new: &[u8], from: usize, to: usize) -> usize
-    requires { ⌜ (from ≤ to) × (to ≤ length (now old)) × (to ≤ length (now new)) ⌝ }
-    ensures { λ r. ⌜ Passed (now (old .entry)) (now (new .entry)) from to r ⌝ }
-{
-    let mut i = from;
-    while i < to {
-        if old[i] != new[i] {
-            return i;
-        }
-        i += 1;
-    }
-    i
-}
-
-// The lowest place from `from` up to `to` where the two are equal, or `to`.
-fn next_equal(old: &[u8], new: &[u8], from: usize, to: usize) -> usize
-    requires { ⌜ (from ≤ to) × (to ≤ length (now old)) × (to ≤ length (now new)) ⌝ }
-    ensures { λ r. ⌜ Changed (now (old .entry)) (now (new .entry)) from to r ⌝ }
-{
-    let mut i = from;
-    while i < to {
-        if old[i] == new[i] {
-            return i;
-        }
-        i += 1;
-    }
-    i
-}
-
-// The lowest place at or above `from` where the image before the call and the one after it differ, or their end.
-fn next_change(work: &[u8], new: &[u8], w: Windows, from: usize) -> usize
-    requires { ⌜ Kept w (now work) (now new) × (from ≤ length (now new)) ⌝ }
-    ensures { λ r. ⌜ ToChange (before w (now (work .entry)) (now (new .entry))) (now (new .entry)) from r ⌝ }
-{
-    let size = new.len();
-    let mut i = from;
-    while i < size {
-        let window = ahead(w, i, size);
-        let end = window.end;
-        i = next_difference(work, new, window.from, end);
-        if i < end {
-            return i;
-        }
-    }
-    i
-}
-
-// The end of the run that begins at `from`.
-fn run_end(work: &[u8], new: &[u8], w: Windows, from: usize) -> usize
-    requires { ⌜ Kept w (now work) (now new) × (from < length (now new))
-        × Differ (before w (now work) (now new)) (now new) from ⌝ }
-    ensures { λ r. ⌜ RunTo (before w (now (work .entry)) (now (new .entry))) (now (new .entry)) from r ⌝ }
-{
-    let size = new.len();
-    let mut i = from;
-    while i < size {
-        let window = ahead(w, i, size);
-        let end = window.end;
-        if i < window.from {
-            return i;
-        }
-        i = next_equal(work, new, i, end);
-        if i < end {
-            return i;
-        }
-    }
-    i
 }
 
 // The runs and their bytes, counted.

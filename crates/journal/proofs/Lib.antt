@@ -1,5 +1,4 @@
 -- Laws for the journal's functions. Assumes nothing.
 pub mod Reading  -- a journal's numbers as the code reads them
 pub mod Settling  -- the writes that a marked journal asks for
-pub mod Carried  -- the writes of an update
 pub mod Recovering  -- recovery, case by case

@@ -5,8 +5,8 @@ pub mod packed;
 
 use add::add;
 use changes::put_part;
+use commit::update;
 use delete::delete;
-use journal::update;
 ghost use lib.ListN.{length};
 ghost use Rattle.bhtf.specs.Bytes.{Bytes};
 ghost use Rattle.bhtf.specs.Calls.{add, delete};

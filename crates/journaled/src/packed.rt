@@ -1,6 +1,6 @@
 // Compaction in the form that a cut does not harm.
 use changes::put_part;
-use journal::update;
+use commit::update;
 use packing::compact;
 ghost use lib.ListN.{length};
 ghost use Rattle.compaction.specs.Compact.{compact};

@@ -22,9 +22,9 @@ use Rattle.laws.proofs.Bytes.{part-store-same}
 use Rattle.laws.proofs.Opened.{opened-facts}
 use Rattle.updates.proofs.Changes.{copied-changes}
 use Rattle.updates.proofs.Copied.{copied-back}
-use Rattle.changes.specs.Windows.{windowsOf, before, Sorted}
-use Rattle.changes.specs.declared.windows.Windows.{Windows}
-use Rattle.changes.proofs.Windowed.{windows-within}
+use Rattle.windows.specs.Windows.{windowsOf, before, Sorted}
+use Rattle.windows.specs.declared.Windows.{Windows}
+use Rattle.windows.proofs.Windowed.{windows-within}
 use Rattle.reach.specs.Reaches.{Only}
 use Rattle.laws.proofs.Outcomes.{settled-yes, settled-no, add-closed, add-refused, delete-closed, delete-refused}
 use Rattle.listed.specs.Lists.{Lists}

@@ -17,8 +17,8 @@ use Rattle.laws.proofs.Slots.{Room, slot-end, slot-above}
 use Rattle.laws.proofs.Opened.{Opened, opened-facts, opened-room}
 use Rattle.laws.proofs.Effects.{message-low, message-end}
 use Rattle.laws.proofs.Stretch.{span}
-use Rattle.changes.specs.Windows.{Sorted}
-use Rattle.changes.specs.declared.windows.Windows.{Windows}
+use Rattle.windows.specs.Windows.{Sorted}
+use Rattle.windows.specs.declared.Windows.{Windows}
 use Rattle.layout.specs.Shapes.{Open}
 use Rattle.layout.specs.declared.shape.Shape.{Shape}
 use Rattle.layout.proofs.Shaped.{shape-area, area-field, shape-head}

@@ -23,9 +23,9 @@ use Rattle.laws.proofs.Opened.{opened-facts, opened-room}
 use Rattle.laws.proofs.Sought.{add-stop, delete-stop}
 use Rattle.updates.specs.Changes.{covered}
 use Rattle.laws.proofs.Byte.{byte-part}
-use Rattle.changes.specs.Windows.{windowsOf}
-use Rattle.changes.specs.declared.windows.Windows.{Windows}
-use Rattle.changes.proofs.Windowed.{Off, covered-1, covered-2, covered-3, covered-4}
+use Rattle.windows.specs.Windows.{windowsOf}
+use Rattle.windows.specs.declared.Windows.{Windows}
+use Rattle.windows.proofs.Windowed.{Off, covered-1, covered-2, covered-3, covered-4}
 use Rattle.frames.proofs.Added.{Elsewhere, fresh-takes, add-sound, add-takes, add-met, add-empty, add-exhausted}
 use Rattle.frames.proofs.Deleted.{Walked, delete-sound, delete-met, delete-other}
 use Rattle.table.specs.Slots.{offsetIn}

@@ -14,8 +14,8 @@ use Rattle.bhtf.specs.Search.{Probe, search}
 use Rattle.bhtf.specs.Messages.{headSize, lengthAt, shownLength}
 use Rattle.bhtf.specs.Calls.{Outcome, add, delete}
 use Rattle.updates.specs.Changes.{covered}
-use Rattle.changes.specs.Windows.{windowsOf}
-use Rattle.changes.specs.declared.windows.Windows.{Windows}
+use Rattle.windows.specs.Windows.{windowsOf}
+use Rattle.windows.specs.declared.Windows.{Windows}
 
 abbrev pub Only : (Bytes → Outcome Bytes) → Bytes → Windows → Type 0
 Only call img w =

@@ -1,7 +1,5 @@
 // Where an add or a delete may write, found before the call: the windows of the image to be kept and compared. The
 // header; the slots; the point's message; for add, new space. Of a call that will be refused there is none to find.
-use changes::windows::Window;
-use changes::windows::Windows;
 use layout::places::Offset;
 use layout::places::Slot;
 use layout::shape::Shape;
@@ -14,6 +12,8 @@ use seek::seek;
 use table::Found;
 use table::is_vacant;
 use table::offset_of;
+use windows::Window;
+use windows::Windows;
 use words::fields::read_u32;
 use words::limits::FREE_FIELD;
 ghost use mathlib.Core.Path.{_≡_};
@@ -24,7 +24,7 @@ ghost use Rattle.bhtf.specs.Bytes.{Bytes};
 ghost use Rattle.bhtf.specs.Calls.{add, delete};
 ghost use Rattle.bhtf.specs.Image.{layoutOf};
 ghost use Rattle.bhtf.specs.Questions.{messageSound};
-ghost use Rattle.changes.specs.Windows.{Sorted};
+ghost use Rattle.windows.specs.Windows.{Sorted};
 ghost use Rattle.layout.specs.Shapes.{Open};
 ghost use Rattle.table.specs.Probes.{probeOf, Within};
 ghost use Rattle.table.specs.Slots.{offsetIn, vacantIn};

@@ -5,8 +5,8 @@ use lib.ListN.{length}
 use borrow.Author.Needs.{needs}
 use Rattle.bhtf.specs.Bytes.{Bytes, store}
 use Rattle.updates.specs.Changes.{pairBytes, changesIn}
-use Rattle.changes.specs.Windows.{before}
-use Rattle.changes.proofs.Windowed.{kept-whole, before-whole}
+use Rattle.windows.specs.Windows.{before}
+use Rattle.windows.proofs.Windowed.{kept-whole, before-whole}
 use Rattle.changes.proofs.fill_list.Statement.{statement}
 use Rattle.changes.proofs.fill_list.Tie as tie
 

@@ -8,8 +8,8 @@ use borrow.Author.Needs.{needs}
 use Rattle.bhtf.specs.Bytes.{Bytes, store}
 use Rattle.updates.specs.Changes.{Pair, runs, pairBytes, whole, changesIn}
 use Rattle.updates.proofs.Journal.{length-pairBytes}
-use Rattle.changes.specs.Windows.{before}
-use Rattle.changes.proofs.Scanning.{changes-fit, changes-whole, whole-bytes}
+use Rattle.windows.specs.Windows.{before}
+use Rattle.windows.proofs.Scanning.{changes-fit, changes-whole, whole-bytes}
 use Rattle.changes.proofs.fill_list_within.Statement.{statement}
 use Rattle.changes.proofs.fill_list_within.Tie as tie
 

@@ -4,7 +4,7 @@ use mathlib.Core.Path.{ap, _∙_}
 use borrow.Author.Needs.{needs}
 use Rattle.bhtf.specs.Bytes.{Bytes, part, store}
 use Rattle.updates.specs.Changes.{copied}
-use Rattle.changes.specs.Windows.{windowsOf}
+use Rattle.windows.specs.Windows.{windowsOf}
 use Rattle.changes.proofs.keep.Statement.{statement}
 use Rattle.changes.proofs.keep.Tie as tie
 

@@ -5,8 +5,8 @@ use lib.ListN.{length}
 use borrow.Author.Needs.{needs}
 use Rattle.bhtf.specs.Bytes.{Bytes}
 use Rattle.updates.specs.Changes.{runs}
-use Rattle.changes.specs.Scans.{Measured}
-use Rattle.changes.proofs.Windowed.{kept-whole, before-whole}
+use Rattle.windows.specs.Scans.{Measured}
+use Rattle.windows.proofs.Windowed.{kept-whole, before-whole}
 use Rattle.changes.proofs.measure.Statement.{statement}
 use Rattle.changes.proofs.measure.Tie as tie
 

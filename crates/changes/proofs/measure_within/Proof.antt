@@ -6,10 +6,10 @@ use lib.ListN.{length}
 use borrow.Author.Needs.{needs}
 use Rattle.bhtf.specs.Bytes.{Bytes}
 use Rattle.updates.specs.Changes.{runs}
-use Rattle.changes.specs.Scans.{Measured}
-use Rattle.changes.specs.Windows.{before}
-use Rattle.changes.proofs.Windowed.{length-before}
-use Rattle.changes.proofs.Scanning.{Counting, counting-start, counting-more, counting-end}
+use Rattle.windows.specs.Scans.{Measured}
+use Rattle.windows.specs.Windows.{before}
+use Rattle.windows.proofs.Windowed.{length-before}
+use Rattle.windows.proofs.Scanning.{Counting, counting-start, counting-more, counting-end}
 use Rattle.changes.proofs.measure_within.Statement.{statement}
 use Rattle.changes.proofs.measure_within.Tie as tie
 

@@ -5,7 +5,7 @@ use mathlib.Core.Path.{ap, _∙_}
 use borrow.Author.Needs.{needs}
 use Rattle.bhtf.specs.Bytes.{Bytes}
 use Rattle.bhtf.specs.Image.{setField}
-use Rattle.changes.proofs.Scanning.{two-fields}
+use Rattle.windows.proofs.Scanning.{two-fields}
 use Rattle.changes.proofs.put_pair.Statement.{statement}
 use Rattle.changes.proofs.put_pair.Tie as tie
 

@@ -6,8 +6,8 @@ use borrow.Author.Needs.{needs}
 use Rattle.bhtf.specs.Bytes.{Bytes, store}
 use Rattle.updates.specs.Changes.{runs}
 use Rattle.updates.specs.Journal.{newBytes}
-use Rattle.changes.specs.Windows.{before}
-use Rattle.changes.proofs.Windowed.{kept-whole, before-whole}
+use Rattle.windows.specs.Windows.{before}
+use Rattle.windows.proofs.Windowed.{kept-whole, before-whole}
 use Rattle.changes.proofs.write_bytes.Statement.{statement}
 use Rattle.changes.proofs.write_bytes.Tie as tie
 

@@ -9,9 +9,9 @@ use Rattle.bhtf.specs.Bytes.{Bytes, part, store}
 use Rattle.updates.specs.Changes.{Pair}
 use Rattle.updates.specs.Journal.{newBytes}
 use Rattle.laws.proofs.Bytes.{part-length}
-use Rattle.changes.specs.Windows.{before}
-use Rattle.changes.proofs.Windowed.{length-before}
-use Rattle.changes.proofs.Scanning.{Writing, writing-start, writing-room, writing-more, writing-end, part-piece, part-step, part-is, bytes-nil}
+use Rattle.windows.specs.Windows.{before}
+use Rattle.windows.proofs.Windowed.{length-before}
+use Rattle.windows.proofs.Scanning.{Writing, writing-start, writing-room, writing-more, writing-end, part-piece, part-step, part-is, bytes-nil}
 use Rattle.changes.proofs.write_bytes_within.Statement.{statement}
 use Rattle.changes.proofs.write_bytes_within.Tie as tie
 

@@ -5,8 +5,8 @@ use lib.ListN.{length}
 use borrow.Author.Needs.{needs}
 use Rattle.bhtf.specs.Bytes.{Bytes, store}
 use Rattle.updates.specs.Changes.{runs, pairBytes}
-use Rattle.changes.specs.Windows.{before}
-use Rattle.changes.proofs.Windowed.{kept-whole, before-whole}
+use Rattle.windows.specs.Windows.{before}
+use Rattle.windows.proofs.Windowed.{kept-whole, before-whole}
 use Rattle.changes.proofs.write_pairs.Statement.{statement}
 use Rattle.changes.proofs.write_pairs.Tie as tie
 

@@ -6,9 +6,9 @@ use lib.ListN.{length}
 use borrow.Author.Needs.{needs}
 use Rattle.bhtf.specs.Bytes.{Bytes, store}
 use Rattle.updates.specs.Changes.{pairBytes}
-use Rattle.changes.specs.Windows.{before}
-use Rattle.changes.proofs.Windowed.{length-before}
-use Rattle.changes.proofs.Scanning.{Writing, writing-start, writing-room, writing-more, writing-end, pair-piece, pair-step, length-piece, piece-is, pairs-nil}
+use Rattle.windows.specs.Windows.{before}
+use Rattle.windows.proofs.Windowed.{length-before}
+use Rattle.windows.proofs.Scanning.{Writing, writing-start, writing-room, writing-more, writing-end, pair-piece, pair-step, length-piece, piece-is, pairs-nil}
 use Rattle.changes.proofs.write_pairs_within.Statement.{statement}
 use Rattle.changes.proofs.write_pairs_within.Tie as tie
 

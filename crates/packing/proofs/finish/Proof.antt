@@ -6,7 +6,7 @@ use borrow.Author.Needs.{needs}
 use Rattle.bhtf.specs.Messages.{setFree}
 use Rattle.laws.proofs.Opened.{opened-facts}
 use Rattle.layout.proofs.Shaped.{shape-area}
-use Rattle.packing.proofs.Ends.{finish-same, finish-lower}
+use Rattle.stages.proofs.Ends.{finish-same, finish-lower}
 use Rattle.packing.proofs.finish.Statement.{statement}
 use Rattle.packing.proofs.finish.Tie as tie
 

@@ -8,9 +8,9 @@ use Rattle.bhtf.specs.Limits.{freeField}
 use Rattle.bhtf.specs.Image.{field, layoutOf}
 use Rattle.laws.proofs.Opened.{opened-facts}
 use Rattle.layout.proofs.Shaped.{shape-area}
-use Rattle.packing.specs.Stages.{Stage, Begun}
-use Rattle.packing.proofs.Stages.{front-field}
-use Rattle.packing.proofs.Tight.{bytes-fit, tight-stage}
+use Rattle.stages.specs.Stages.{Stage, Begun}
+use Rattle.stages.proofs.Stages.{front-field}
+use Rattle.stages.proofs.Tight.{bytes-fit, tight-stage}
 use Rattle.packing.proofs.gather.Statement.{statement}
 use Rattle.packing.proofs.gather.Tie as tie
 

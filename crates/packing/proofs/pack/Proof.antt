@@ -1,7 +1,7 @@
 -- `packing::pack` meets its contract: the last stage, finished, is the compacted image. Assumes nothing.
 use mathlib.Core.Path.{_∙_}
 use borrow.Author.Needs.{needs}
-use Rattle.packing.proofs.Ends.{stage-end, stage-place}
+use Rattle.stages.proofs.Ends.{stage-end, stage-place}
 use Rattle.packing.proofs.pack.Statement.{statement}
 use Rattle.packing.proofs.pack.Tie as tie
 

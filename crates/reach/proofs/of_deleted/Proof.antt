@@ -8,7 +8,7 @@ use Rattle.bhtf.specs.Image.{layoutOf}
 use Rattle.bhtf.specs.Questions.{messageSound}
 use Rattle.laws.proofs.Tests.{not-both, was-no, was-yes}
 use Rattle.laws.proofs.Opened.{opened-facts, opened-room}
-use Rattle.changes.specs.declared.windows.Windows.{Windows}
+use Rattle.windows.specs.declared.Windows.{Windows}
 use Rattle.table.specs.Slots.{offsetIn}
 use Rattle.table.specs.Probes.{probeOf}
 use Rattle.table.proofs.Headers.{layout-slots}

@@ -1,0 +1,1 @@
+pub mod Carried  -- the writes of an update
