@@ -7,11 +7,12 @@ use layout::shape::Shape;
 use runs::all_zero;
 use runs::same_bytes;
 use runs::tail;
+use words::arith::lesser;
 use words::fields::read_u32;
 use words::fields::write_u32;
 use words::limits::SCRAMBLE_START;
 ghost use mathlib.Core.Path.{_≡_};
-ghost use Prim.Native.Nat.{_+_, _^_, _<_};
+ghost use Prim.Native.Nat.{_+_, _-_, _^_, _≤_, _<_};
 ghost use lib.ListN.{length};
 ghost use Rattle.bhtf.specs.Image.{layoutOf, home, slotBytes, putSlot};
 ghost use Rattle.bhtf.specs.Search.{search, slotsRead};
@@ -87,7 +88,20 @@ pub struct Turn {
     pub left: usize,
 }
 
-// Passes over slots that hold other keys, as the last four bytes show: most slots that a search reads.
+// Where a search stands at slot i that had `most` slots left at slot `first`.
+fn turn_at(i: usize, first: usize, most: usize) -> Turn
+    requires { ⌜ (first ≤ i) × (i - first ≤ most) ⌝ }
+    ensures { λ r. ⌜ (r .slot .0 ≡ i) × (r .left ≡ most - (i - first)) ⌝ }
+{
+    let slot = Slot::new(i);
+    Turn {
+        slot,
+        left: most - (i - first),
+    }
+}
+
+// Passes over slots that hold other keys, as the last four bytes show: most slots that a search reads. It does not go
+// round the table's end, so that a slot's place is carried along.
 pub fn pass_over(image: &[u8], shape: Shape, key: &[u8], from: Slot, most: usize) -> Turn
     requires { ⌜ Open (now image) shape × (from .0 < shape .slots) ⌝ }
     ensures { λ r. ⌜ (r .slot .0 < shape .slots)
@@ -95,25 +109,30 @@ pub fn pass_over(image: &[u8], shape: Shape, key: &[u8], from: Slot, most: usize
         most (from .0) (r .left) (r .slot .0) ⌝ }
 {
     let size = shape.keylen;
-    let slots = shape.slots;
-    let mut i = from;
-    let mut left = most;
+    let first = from.number();
     if key.len() != size {
-        return Turn { slot: i, left };
+        return Turn {
+            slot: from,
+            left: most,
+        };
     }
     if size < 4 {
-        return Turn { slot: i, left };
+        return Turn {
+            slot: from,
+            left: most,
+        };
     }
     let wanted = tail(key);
-    while 0 < left {
-        let block = tail(key_of(image, shape, i));
+    let stop = first + lesser(most, shape.slots - 1 - first);
+    let mut i = first;
+    while i < stop {
+        let block = tail(key_of(image, shape, Slot::new(i)));
         if (block == wanted) | (block == 0) {
-            return Turn { slot: i, left };
+            return turn_at(i, first, most);
         }
-        i = i.next(slots);
-        left -= 1;
+        i += 1;
     }
-    Turn { slot: i, left }
+    turn_at(i, first, most)
 }
 
 // From home upwards, wrapping, until the key is met, an empty slot is met, or all slots were read.

@@ -1,6 +1,6 @@
-// Arithmetic modulo 2^32.
+// Arithmetic modulo 2^32, and the lesser of two numbers.
 ghost use mathlib.Core.Path.{_≡_};
-ghost use Prim.Native.Nat.{_*_, _%_, _^_};
+ghost use Prim.Native.Nat.{_*_, _%_, _^_, min};
 ghost use Rattle.bhtf.specs.Create.{step};
 
 // The product, cut to 32 bits, by 16-bit halves.
@@ -20,4 +20,11 @@ pub fn step(state: u32) -> u32
     ensures { λ r. ⌜ r ≡ step state ⌝ }
 {
     std::num::wrapping_add_u32(mul_u32(state, 1664525), 1013904223)
+}
+
+// The lesser of two numbers.
+pub fn lesser(a: usize, b: usize) -> usize
+    ensures { λ r. ⌜ r ≡ min a b ⌝ }
+{
+    if a < b { a } else { b }
 }
