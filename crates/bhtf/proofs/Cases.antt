@@ -1,16 +1,16 @@
--- Document 01, "The proved table", line by line, as theorems about the definitions. Each holds by computation.
--- `CasesBase` names the modules with more cases.
--- The book's part of it stands in crates/book/proofs/CasesBook.antt.
+-- Document 01, "The proved table", as theorems about the definitions: the lines that an edit names, and those that need
+-- no image. Each holds by computation. The others stand in crates/cases/proofs/CasesTable.antt, the book's part in
+-- crates/book/proofs/CasesBook.antt. `CasesBase` names the modules with more cases.
 -- Assumes nothing.
 use mathlib.Core.Path.{_≡_, refl}
 use Prim.Native.Nat.{ℕ, _+_}
-use mathlib.Core.List.{List, [], _∷_, _++_}
+use mathlib.Core.List.{[], _∷_, _++_}
 use mathlib.Core.Bool.{false}
-use Rattle.bhtf.specs.Limits.{minusOne, pointsField, freeField}
-use Rattle.bhtf.specs.Bytes.{Bytes, store, zeros, same}
-use Rattle.bhtf.specs.Image.{field, setField, roundUp, dataStart, lastPage, hash, slotBytes}
-use Rattle.bhtf.specs.Lists.{Call, adding, deleting, looking}
-use Rattle.bhtf.proofs.CasesBase.{fresh, after, keys, point, told}
+use Rattle.bhtf.specs.Limits.{minusOne, pointsField}
+use Rattle.bhtf.specs.Bytes.{Bytes, store, same}
+use Rattle.bhtf.specs.Image.{setField, roundUp, dataStart, lastPage, hash, slotBytes}
+use Rattle.bhtf.specs.Lists.{Call, adding, deleting}
+use Rattle.bhtf.proofs.CasesBase.{fresh, after, keys, point}
 
 -- ---- the table
 
@@ -49,18 +49,6 @@ pub hash-1 : hash (fresh 4096 4) (1 ∷ []) ≡ 0x050C5D1F
 unfolding fresh
 hash-1 = refl
 
--- "Seed 0, K = 1, N = 4: adding bytes 1, 2, 3, 32 fills slots 3, 0, 1, 2; byte 33 then gives 10."
-abbrev pub four : List Call
-four = point 1 ∷ point 2 ∷ point 3 ∷ point 32 ∷ []
-
-pub four-slots : keys 4 0 (after four (fresh 4096 4)) ≡ (2 ∷ []) ∷ (3 ∷ []) ∷ (32 ∷ []) ∷ (1 ∷ []) ∷ []
-unfolding keys after fresh
-four-slots = refl
-
-pub four-told : told (point 1 ∷ point 2 ∷ point 3 ∷ point 32 ∷ point 33 ∷ []) (fresh 4096 4) ≡ 0 ∷ 0 ∷ 0 ∷ 0 ∷ 10 ∷ []
-unfolding told fresh
-four-told = refl
-
 -- "Deleting 1 leaves 2, 3, 32 in slots 3, 0, 1 and slot 2 empty."
 pub four-delete : keys 4 0 (after (point 1 ∷ point 2 ∷ point 3 ∷ point 32 ∷ deleting (1 ∷ []) ∷ []) (fresh 4096 4))
     ≡ (3 ∷ []) ∷ (32 ∷ []) ∷ (0 ∷ []) ∷ (2 ∷ []) ∷ []
@@ -79,15 +67,6 @@ pub three-delete : keys 3 0 (after (deleting (33 ∷ []) ∷ []) three) ≡ (32 
 unfolding keys after three
 three-delete = refl
 
--- "R = 4,096: 4,092 bytes fit, 4,093 give 13." K = 1, N = 4 and L = 8,192 give D = 4,096.
-pub room-4092 : told (adding (1 ∷ []) (zeros 4092) 1 ∷ []) (fresh 8192 4) ≡ 0 ∷ []
-unfolding told fresh
-room-4092 = refl
-
-pub room-4093 : told (adding (1 ∷ []) (zeros 4093) 1 ∷ []) (fresh 8192 4) ≡ 13 ∷ []
-unfolding told fresh
-room-4093 = refl
-
 -- "Replacing 5 bytes by 3, then 4: U is 9, 9, 17." X − D of the file.
 abbrev pub five : Call
 five = adding (1 ∷ []) (1 ∷ 2 ∷ 3 ∷ 4 ∷ 5 ∷ []) 1
@@ -97,15 +76,6 @@ by-three = adding (1 ∷ []) (6 ∷ 7 ∷ 8 ∷ []) 2
 
 abbrev pub by-four : Call
 by-four = adding (1 ∷ []) (6 ∷ 7 ∷ 8 ∷ 9 ∷ []) 2
-
-pub free-4 : field (after (five ∷ by-three ∷ by-four ∷ []) (fresh 8192 4)) freeField ≡ 4096 + 17
-unfolding after fresh
-free-4 = refl
-
--- "The key of zeros gives 7."
-pub zeros-7 : told (point 0 ∷ deleting (0 ∷ []) ∷ looking (0 ∷ []) ∷ []) (fresh 4096 4) ≡ 7 ∷ 7 ∷ 7 ∷ []
-unfolding told fresh
-zeros-7 = refl
 
 -- ---- mistakes to expect
 

@@ -1,21 +1,21 @@
--- Cases of the file alone: messages, on bytes fewer than an image has; the table, and images that no create left.
+-- Cases of the file alone: messages, on bytes fewer than an image has; the table, and images that no create left. More
+-- in crates/cases/proofs/CasesImages.antt.
 --     short m       one slot, of byte 1, with the message bytes m at D = 2,053; `asks` puts 9 to 13 there
 --     single        K = 1, N = 4, with byte 1 in slot 3
 -- Assumes nothing.
 use mathlib.Core.Path.{_≡_, refl}
 use Prim.Native.Nat.{ℕ}
 use mathlib.Core.List.{[], _∷_, _++_}
-use mathlib.Core.Bool.{Bool, true, false}
 use mathlib.Core.Option.{none, some}
-use Rattle.bhtf.specs.Limits.{minusOne, slotsField, pointsField, freeField, pageField}
+use Rattle.bhtf.specs.Limits.{slotsField, pointsField, freeField}
 use Rattle.bhtf.specs.Bytes.{Bytes, part, store, zeros}
-use Rattle.bhtf.specs.Image.{Layout, field, setField, layoutOf, slotBytes}
+use Rattle.bhtf.specs.Image.{Layout, setField, layoutOf, slotBytes}
 use Rattle.bhtf.specs.Search.{Probe, met, empty, exhausted, search, slotsRead}
 use Rattle.bhtf.specs.Messages.{shownLength, setFree, retire, overwrite, renewedText}
-use Rattle.bhtf.specs.Questions.{firstNo, messageSound, pointAsks, seekNumber}
+use Rattle.bhtf.specs.Questions.{firstNo, pointAsks}
 use Rattle.bhtf.specs.Calls.{lookupStart}
 use Rattle.bhtf.specs.Lists.{adding, deleting, looking, counting}
-use Rattle.bhtf.proofs.CasesBase.{definitions, headed, after, keys, table, one, two, point, done, refused, shows, counts, answered}
+use Rattle.bhtf.proofs.CasesBase.{definitions, headed, after, table, one, two, point, done, refused, counts, answered}
 
 -- ---- messages
 
@@ -106,36 +106,12 @@ pub bytes-free : part (setFree 4096 (zeros 62) 8193) 52 10 ≡ 0 ∷ 0 ∷ 32 �
 unfolding definitions
 bytes-free = refl
 
--- "11. If the key is present with an offset other than 0: is it at least D, the letter "a" or "d", m at least 1, the
--- message's end at most X?" No offset; active, inactive; another letter; m = 0, which 02 accepts; an end past X.
-abbrev pub Sound : ℕ → Bytes → Bool → Type 0
-Sound o m b = messageSound shortLayout (short m) o ≡ b
-
-pub sound-message : Sound 0 [] true × Sound 2053 (97 ∷ 0 ∷ 0 ∷ 1 ∷ 80 ∷ []) true
-    × Sound 2053 (100 ∷ 0 ∷ 0 ∷ 1 ∷ 80 ∷ []) true × Sound 2053 (98 ∷ 0 ∷ 0 ∷ 1 ∷ 80 ∷ []) false
-    × Sound 2053 (97 ∷ 0 ∷ 0 ∷ 0 ∷ 80 ∷ []) true
-    × Sound 2053 (97 ∷ 0 ∷ 0 ∷ 2 ∷ 80 ∷ 0 ∷ []) false × Sound 2053 (97 ∷ 1 ∷ 0 ∷ 1 ∷ 80 ∷ []) false
-unfolding short
-sound-message = (refl, refl, refl, refl, refl, refl, refl)
-
--- a message all right, but a byte below D
-pub sound-below : messageSound (record { K = 1; N = 1; D = 2054; W = 3; most = 3; hashed = λ key. 0 })
-    (short (97 ∷ 0 ∷ 0 ∷ 1 ∷ 80 ∷ [])) 2053 ≡ false
-unfolding short
-sound-below = refl
-
 -- ---- the table, and header numbers after a call
 
 -- byte 1 at home in slot 3, at 2,063
 unfoldable pub single : Bytes
 unfolding headed
 single = setField (store (headed 1 4 4096) 2063 (slotBytes one 0)) pointsField 1
-
--- "Slot i is K key bytes and a message offset, at 2,048 + i × (K + 4)": K = 2, both points at home in slot 2
-pub table-two : table (after (adding (1 ∷ 2 ∷ []) (80 ∷ []) 1 ∷ adding (1 ∷ 3 ∷ []) [] 3 ∷ []) (headed 2 3 8192))
-    ≡ 1 ∷ 3 ∷ 0 ∷ 0 ∷ 0 ∷ 0 ∷ 0 ∷ 0 ∷ 0 ∷ 0 ∷ 0 ∷ 0 ∷ 1 ∷ 2 ∷ 0 ∷ 0 ∷ 16 ∷ 0 ∷ []
-unfolding table after headed
-table-two = refl
 
 -- K, N, C, .. and D, X, M after an add: "C grows by 1", "X grows by 4 + m", "A call that changes X rewrites M".
 pub header-added : (part (after (adding one (80 ∷ 81 ∷ []) 1 ∷ []) (headed 1 4 8192)) 12 12
@@ -197,12 +173,6 @@ lookup-starts = refl
 
 -- ---- opened images that no create left
 
--- 1, 5 and 6, then 7, then 8, before the table is looked at
-pub sought : seekNumber [] [] false ∷ seekNumber single [] false ∷ seekNumber single one false
-    ∷ seekNumber single one true ∷ [] ≡ 1 ∷ 7 ∷ 8 ∷ 0 ∷ []
-unfolding single
-sought = refl
-
 -- Byte 1 with an offset below D: 9 before 11 in mode 1, 11 before 13, 14 before 11 where the name is absent.
 pub unsound : answered (adding one [] 1 ∷ adding one (80 ∷ []) 3 ∷ looking one ∷ deleting one ∷ deleting two ∷ [])
     (setField single 2064 60)
@@ -210,31 +180,9 @@ pub unsound : answered (adding one [] 1 ∷ adding one (80 ∷ []) 3 ∷ looking
 unfolding answered single
 unsound = refl
 
--- "For delete, with or without an offset: is C at least 1?" C = 0 and a taken slot: 11; 14 for an absent name.
-pub none-counted : answered (deleting one ∷ deleting two ∷ counting ∷ []) (setField single pointsField 0)
-    ≡ refused 11 ∷ refused 14 ∷ counts 0 ∷ []
-unfolding answered single
-none-counted = refl
-
--- C = 1, and the last point goes.
-pub last-one : answered (deleting one ∷ counting ∷ looking one ∷ []) single ≡ done ∷ counts 0 ∷ refused 14 ∷ []
-unfolding answered single
-last-one = refl
-
--- "10. If the key is absent, is a slot empty and C below N?" Slots empty but C = N; no slot empty but C below N.
-pub ten-by-count : answered (point 1 ∷ counting ∷ []) (setField (headed 1 4 4096) pointsField 4)
-    ≡ refused 10 ∷ counts 4 ∷ []
-unfolding answered headed
-ten-by-count = refl
-
+-- "10. If the key is absent, is a slot empty and C below N?" No slot empty but C below N.
 pub ten-by-table : answered (point 2 ∷ counting ∷ [])
     (setField (store (headed 1 4 4096) 2048 (slotBytes one 0)) slotsField 1)
     ≡ refused 10 ∷ counts 0 ∷ []
 unfolding answered headed
 ten-by-table = refl
-
--- "A refused call .. changes no byte": 9, 13 and 14
-pub refused-leave : after (adding one [] 1 ∷ adding one (80 ∷ []) 2 ∷ adding two (80 ∷ []) 1 ∷ deleting two ∷ []) single
-    ≡ single
-unfolding after single
-refused-leave = refl

@@ -1,14 +1,12 @@
--- Images that no call of ours made, and that the check calls them sound.
+-- Images that no call of ours made. The check calls them sound: crates/cases/proofs/CasesInspected.antt.
 --     others     version 1.0.0; another multiplier, start value, F = 0 and E = 3; a full table, no key at home
 --     left       offset bytes in an empty slot, and the image's last slot taken
 -- Assumes nothing.
-use mathlib.Core.Path.{_≡_, refl}
 use mathlib.Core.List.{[], _∷_, _++_}
 use Rattle.bhtf.specs.Limits.{magic, pointsField}
 use Rattle.bhtf.specs.Bytes.{Bytes, store, digits, zeros}
 use Rattle.bhtf.specs.Image.{setField, slotBytes}
-use Rattle.bhtf.specs.Inspect.{check, sound}
-use Rattle.bhtf.proofs.CasesBase.{inspect-definitions, headed}
+use Rattle.bhtf.proofs.CasesBase.{headed}
 use Rattle.bhtf.proofs.CasesInspect.{no, slotOf}
 
 -- ---- a file of another program
@@ -37,17 +35,9 @@ unfoldable pub others : Bytes
 unfolding othersHeader othersTable othersMessages zeros
 others = othersHeader ++ othersTable ++ zeros 2033 ++ othersMessages ++ zeros 4072
 
-pub others-sound : check others ≡ sound
-unfolding inspect-definitions others
-others-sound = refl
-
 -- ---- bytes left in an empty slot
 
 -- offset 9 in slot 0, which is empty; byte 1 in slot 3, the last, without a message; no room for any
 unfoldable pub left : Bytes
 unfolding headed store digits setField
 left = setField (store (headed 1 4 4096) 2048 (slotOf 0 9 ++ no ++ no ++ slotOf 1 0)) pointsField 1
-
-pub left-sound : check left ≡ sound
-unfolding inspect-definitions left
-left-sound = refl

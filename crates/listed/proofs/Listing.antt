@@ -25,7 +25,7 @@ use Rattle.updates.proofs.Copied.{copied-back}
 use Rattle.windows.specs.Windows.{windowsOf, before, Sorted}
 use Rattle.windows.specs.declared.Windows.{Windows}
 use Rattle.windows.proofs.Windowed.{windows-within}
-use Rattle.reach.specs.Reaches.{Only}
+use Rattle.extent.specs.Reaches.{Only}
 use Rattle.laws.proofs.Outcomes.{settled-yes, settled-no, add-closed, add-refused, delete-closed, delete-refused}
 use Rattle.listed.specs.Lists.{Lists}
 

@@ -2,7 +2,7 @@
 use mathlib.Core.Path.{refl, sym, _∙_}
 use lib.ListN.{length}
 use Rattle.seek.proofs.Reaching.{refused-is, reached-is}
-use Rattle.reach.proofs.Reaching.{add-stopped}
+use Rattle.extent.proofs.Reaching.{add-stopped}
 use borrow.Author.Needs.{needs}
 use Rattle.reach.proofs.of_add.Statement.{statement}
 use Rattle.reach.proofs.of_add.Tie as tie

@@ -3,7 +3,7 @@ use mathlib.Core.Path.{sym, _∙_}
 use mathlib.Core.Bool.{true}
 use lib.ListN.{length}
 use Rattle.seek.proofs.Reaching.{refused-is, reached-is}
-use Rattle.reach.proofs.Reaching.{delete-stopped}
+use Rattle.extent.proofs.Reaching.{delete-stopped}
 use borrow.Author.Needs.{needs}
 use Rattle.reach.proofs.of_delete.Statement.{statement}
 use Rattle.reach.proofs.of_delete.Tie as tie

@@ -13,8 +13,8 @@ use Rattle.table.specs.Slots.{offsetIn}
 use Rattle.table.specs.Probes.{probeOf}
 use Rattle.table.proofs.Headers.{layout-slots}
 use Rattle.table.proofs.Taken.{other-met, met-is, met-within}
-use Rattle.reach.specs.Reaches.{Walk, DeleteOnly}
-use Rattle.reach.proofs.Reaching.{delete-present, delete-none}
+use Rattle.extent.specs.Reaches.{Walk, DeleteOnly}
+use Rattle.extent.proofs.Reaching.{delete-present, delete-none}
 use borrow.Author.Needs.{needs}
 use Rattle.reach.proofs.of_deleted.Statement.{statement}
 use Rattle.reach.proofs.of_deleted.Tie as tie

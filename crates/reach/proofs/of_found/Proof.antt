@@ -7,8 +7,8 @@ use Rattle.bhtf.specs.Questions.{messageSound}
 use Rattle.laws.proofs.Stretch.{none-sound}
 use Rattle.table.specs.Probes.{probeOf}
 use Rattle.table.proofs.Taken.{met-is, met-within, empty-is, empty-within}
-use Rattle.reach.specs.Reaches.{Entry}
-use Rattle.reach.proofs.Reaching.{add-present, add-new, add-none}
+use Rattle.extent.specs.Reaches.{Entry}
+use Rattle.extent.proofs.Reaching.{add-present, add-new, add-none}
 use borrow.Author.Needs.{needs}
 use Rattle.reach.proofs.of_found.Statement.{statement}
 use Rattle.reach.proofs.of_found.Tie as tie

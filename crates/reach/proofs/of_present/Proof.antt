@@ -6,7 +6,7 @@ use Rattle.bhtf.specs.Image.{layoutOf}
 use Rattle.bhtf.specs.Questions.{messageSound}
 use Rattle.laws.proofs.Tests.{not-both, was-no, was-yes}
 use Rattle.table.specs.Slots.{offsetIn}
-use Rattle.reach.specs.Reaches.{Entry}
+use Rattle.extent.specs.Reaches.{Entry}
 use borrow.Author.Needs.{needs}
 use Rattle.reach.proofs.of_present.Statement.{statement}
 use Rattle.reach.proofs.of_present.Tie as tie

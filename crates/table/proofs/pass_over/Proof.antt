@@ -125,7 +125,8 @@ returns-3 c =
     let t = c .turn-at in (
       omega (arith, t .ensures, H .loop .inv),
       stands-as (S .args .image .now) (S .args .key .now) (S .args .most) (N .number .result) (H .loop .i)
-          (H .loop .inv .4) (S .args .from .0) (t .result .left) (t .result .slot .0) (N .number .ensures) (t .ensures .1) (t .ensures .0),
+          (H .loop .inv .4) (S .args .from .0) (t .result .left) (t .result .slot .0)
+          (N .number .ensures) (t .ensures .1) (t .ensures .0),
     )
 
 add-i : tie.Need-add-i Inv-loop μ-loop
@@ -183,7 +184,8 @@ returns-4 c =
     let t = c .turn-at2 in (
       omega (arith, t .ensures, H .loop .inv),
       stands-as (S .args .image .now) (S .args .key .now) (S .args .most) (N .number .result) (H .loop .i)
-          (H .loop .inv .4) (S .args .from .0) (t .result .left) (t .result .slot .0) (N .number .ensures) (t .ensures .1) (t .ensures .0),
+          (H .loop .inv .4) (S .args .from .0) (t .result .left) (t .result .slot .0)
+          (N .number .ensures) (t .ensures .1) (t .ensures .0),
     )
 
 pub pass-over-spec : {M : Type 1} → statement M

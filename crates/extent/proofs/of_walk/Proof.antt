@@ -3,10 +3,10 @@ use native.Mathlib.Omega.{arith}
 use mathlib.Core.Path.{_∙_}
 use Rattle.bhtf.specs.Messages.{headSize}
 use Rattle.table.proofs.Headers.{spot}
-use Rattle.reach.proofs.Places.{message-small, of-walk-up, of-walk-round}
+use Rattle.extent.proofs.Places.{message-small, of-walk-up, of-walk-round}
 use borrow.Author.Needs.{needs}
-use Rattle.reach.proofs.of_walk.Statement.{statement}
-use Rattle.reach.proofs.of_walk.Tie as tie
+use Rattle.extent.proofs.of_walk.Statement.{statement}
+use Rattle.extent.proofs.of_walk.Tie as tie
 
 abbrev start : tie.After-walk-end → tie.Start
 start W = W .before .before .before .before .before

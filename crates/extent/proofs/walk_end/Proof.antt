@@ -5,8 +5,8 @@ use mathlib.Core.Path.{_≡_, sym, ap, _∙_}
 use borrow.Author.Needs.{needs}
 use Rattle.bhtf.specs.Search.{dist}
 use Rattle.laws.proofs.Cyclic.{next-lt, dist-from-next}
-use Rattle.reach.proofs.walk_end.Statement.{statement}
-use Rattle.reach.proofs.walk_end.Tie as tie
+use Rattle.extent.proofs.walk_end.Statement.{statement}
+use Rattle.extent.proofs.walk_end.Tie as tie
 
 abbrev Inv-loop : tie.InvT-loop
 Inv-loop image shape i slots j₀ j = j .0 < shape .slots

@@ -11,10 +11,10 @@ use Rattle.laws.proofs.Effects.{message-fits}
 use Rattle.layout.proofs.Shaped.{shape-head, head-width}
 use Rattle.table.proofs.Headers.{header, spot}
 use Rattle.messages.proofs.Sound.{length-bound}
-use Rattle.reach.proofs.Places.{message-small, shown-few, of-entry}
+use Rattle.extent.proofs.Places.{message-small, shown-few, of-entry}
 use borrow.Author.Needs.{needs}
-use Rattle.reach.proofs.of_entry.Statement.{statement}
-use Rattle.reach.proofs.of_entry.Tie as tie
+use Rattle.extent.proofs.of_entry.Statement.{statement}
+use Rattle.extent.proofs.of_entry.Tie as tie
 
 -- the message's header lies in the image
 fits : (S : tie.Start) → S .args .o .0 + S .args .shape .head ≤ length (S .args .image .now)

@@ -29,7 +29,7 @@ use Rattle.windows.proofs.Windowed.{Off, covered-1, covered-2, covered-3, cover
 use Rattle.frames.proofs.Added.{Elsewhere, fresh-takes, add-sound, add-takes, add-met, add-empty, add-exhausted}
 use Rattle.frames.proofs.Deleted.{Walked, delete-sound, delete-met, delete-other}
 use Rattle.table.specs.Slots.{offsetIn}
-use Rattle.reach.specs.Reaches.{Only, Entry, Walk, AddOnly, DeleteOnly}
+use Rattle.extent.specs.Reaches.{Only, Entry, Walk, AddOnly, DeleteOnly}
 
 -- ---- a place outside of the windows
 

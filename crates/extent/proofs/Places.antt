@@ -23,8 +23,8 @@ use Rattle.layout.specs.Shapes.{Open}
 use Rattle.layout.specs.declared.shape.Shape.{Shape}
 use Rattle.layout.proofs.Shaped.{shape-area, area-field, shape-head}
 use Rattle.table.proofs.Headers.{layout-slots, slot-place, slot-room}
-use Rattle.reach.specs.Reaches.{OnMessage, Entry, Walk}
-use Rattle.reach.proofs.Reaching.{slot-low, slot-before}
+use Rattle.extent.specs.Reaches.{OnMessage, Entry, Walk}
+use Rattle.extent.proofs.Reaching.{slot-low, slot-before}
 
 -- no more text is shown than there is
 pub shown-few : (img : Bytes) (at : ℕ) → shownLength (layoutOf img) img at ≤ lengthAt (layoutOf img) img at

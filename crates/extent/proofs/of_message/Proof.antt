@@ -2,8 +2,8 @@
 use native.Mathlib.Omega.{arith}
 use mathlib.Core.Path.{_∙_}
 use borrow.Author.Needs.{needs}
-use Rattle.reach.proofs.of_message.Statement.{statement}
-use Rattle.reach.proofs.of_message.Tie as tie
+use Rattle.extent.proofs.of_message.Statement.{statement}
+use Rattle.extent.proofs.of_message.Tie as tie
 
 at-requires : tie.Need-at-requires
 at-requires c κs = search needs
