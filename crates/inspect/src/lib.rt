@@ -4,8 +4,8 @@
 use layout::places::Slot;
 use layout::shape::Shape;
 use layout::shape::read_shape;
+use meeting::first_meeting;
 use messages::message_sound;
-use overlap::first_meeting;
 use questions::open_number;
 use runs::all_zero;
 use runs::same_bytes;

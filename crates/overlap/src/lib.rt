@@ -1,5 +1,5 @@
 // Two points on one message: the lowest slot whose stretch meets that of a lower-numbered one. The data area is swept
-// window by window, each as wide as a map of marks on the stack. The image is only read.
+// window by window, each as wide as a map of marks that the caller lends. The image is only read.
 //     marks      a map of marks, 64 to a word, claimed stretch by stretch
 //     stretch    a slot's stretch, and what a window shows of it
 //     window     the slots, in rising order, in one window
@@ -19,13 +19,10 @@ ghost use Rattle.bhtf.specs.Image.{layoutOf};
 ghost use Rattle.overlap.specs.Checked.{Checked};
 ghost use Rattle.overlap.specs.Stretches.{firstMeeting};
 
-// The words of the two maps of marks.
-const SMALL_MAP: usize = 512;
-
-const LARGE_MAP: usize = 32768;
-
-// Window by window, from the data area's start to X. No more of the map is used than the window needs.
-fn sweep(image: &[u8], shape: Shape, map: &mut [u64], bound: usize) -> usize
+// The lowest slot below `bound` whose stretch meets that of a lower-numbered taken slot; `bound` where there is none.
+// Below `bound` every taken slot's message passes question 11. Window by window, from the data area's start to X; no
+// more of the map, whatever it holds, is used than the window needs.
+pub fn sweep(image: &[u8], shape: Shape, map: &mut [u64], bound: usize) -> usize
     requires { ⌜ Checked (now image) shape bound × (0 < length (now map)) × (length (now map) < 2 ^ 32) ⌝ }
     ensures { λ r. ⌜ r ≡ firstMeeting (layoutOf (now (image .entry))) (now (image .entry)) bound ⌝ }
 {
@@ -51,35 +48,4 @@ fn sweep(image: &[u8], shape: Shape, map: &mut [u64], bound: usize) -> usize
         lo += span;
     }
     best
-}
-
-// With a map for a data area of at most 32 KiB.
-fn sweep_small(image: &[u8], shape: Shape, bound: usize) -> usize
-    requires { ⌜ Checked (now image) shape bound ⌝ }
-    ensures { λ r. ⌜ r ≡ firstMeeting (layoutOf (now (image .entry))) (now (image .entry)) bound ⌝ }
-{
-    let mut map = [0; SMALL_MAP];
-    sweep(image, shape, &mut map, bound)
-}
-
-// With a map for windows of 2 MiB.
-fn sweep_large(image: &[u8], shape: Shape, bound: usize) -> usize
-    requires { ⌜ Checked (now image) shape bound ⌝ }
-    ensures { λ r. ⌜ r ≡ firstMeeting (layoutOf (now (image .entry))) (now (image .entry)) bound ⌝ }
-{
-    let mut map = [0; LARGE_MAP];
-    sweep(image, shape, &mut map, bound)
-}
-
-// The lowest slot below `bound` whose stretch meets that of a lower-numbered taken slot; `bound` where there is none.
-// Below `bound` every taken slot's message passes question 11. A small data area takes the small map, cheap to clear.
-pub fn first_meeting(image: &[u8], shape: Shape, bound: usize) -> usize
-    requires { ⌜ Checked (now image) shape bound ⌝ }
-    ensures { λ r. ⌜ r ≡ firstMeeting (layoutOf (now (image .entry))) (now (image .entry)) bound ⌝ }
-{
-    let area = shape.area;
-    if (read_u32(image, FREE_FIELD) as usize) - area.at() <= 64 * SMALL_MAP {
-        return sweep_small(image, shape, bound);
-    }
-    sweep_large(image, shape, bound)
 }

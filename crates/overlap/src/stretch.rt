@@ -37,7 +37,7 @@ pub fn start_in(image: &[u8], shape: Shape, i: Slot, lo: usize, hi: usize) -> us
 }
 
 // Where the stretch of slot i ends.
-fn end_of(image: &[u8], shape: Shape, i: Slot) -> usize
+pub fn end_of(image: &[u8], shape: Shape, i: Slot) -> usize
     requires { ⌜ Readable (now image) shape (i .0) × (0 < startIn (now image) (i .0)) ⌝ }
     ensures { λ r. ⌜ r ≡ endIn (now (image .entry)) (i .0) ⌝ }
 {
