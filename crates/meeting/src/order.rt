@@ -2,13 +2,13 @@
 // Then no two meet. Messages are read in the order of the file, each once.
 use layout::places::Slot;
 use layout::shape::Shape;
-use overlap::marks::lesser;
 use overlap::stretch::end_of;
 use starts::heap::sort;
 use starts::list_starts;
 use starts::next_width;
 use starts::slot_in;
 use starts::start_of_key;
+use words::arith::lesser;
 use words::fields::read_u32;
 use words::limits::FREE_FIELD;
 use words::limits::POINTS_FIELD;

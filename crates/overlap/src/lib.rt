@@ -7,9 +7,9 @@ pub mod marks;
 pub mod stretch;
 pub mod window;
 
-use crate::marks::lesser;
 use crate::window::window;
 use layout::shape::Shape;
+use words::arith::lesser;
 use words::fields::read_u32;
 use words::limits::FREE_FIELD;
 ghost use mathlib.Core.Path.{_≡_};

@@ -1,19 +1,13 @@
 // Marks, 64 to a word.
+use words::arith::lesser;
 ghost use mathlib.Core.Path.{_≡_};
-ghost use Prim.Native.Nat.{_-_, _*_, _^_, _≤_, _<_, min};
+ghost use Prim.Native.Nat.{_-_, _*_, _^_, _≤_, _<_};
 ghost use lib.ListN.{length};
 ghost use Rattle.bhtf.specs.Bytes.{zeros};
 ghost use Rattle.overlap.specs.Marks.{Claimed};
 
 // A word with every bit.
 const EVERY_BIT: u64 = 18446744073709551615;
-
-// The lesser of two numbers.
-pub fn lesser(a: usize, b: usize) -> usize
-    ensures { λ r. ⌜ r ≡ min a b ⌝ }
-{
-    if a < b { a } else { b }
-}
 
 // Clears all marks.
 pub fn clear(map: &mut [u64])

@@ -2,11 +2,11 @@
 // mark meets a lower-numbered slot and ends the pass.
 use crate::marks::claim;
 use crate::marks::clear;
-use crate::marks::lesser;
 use crate::stretch::shown_of;
 use layout::places::Slot;
 use layout::shape::Shape;
 use table::offset_of;
+use words::arith::lesser;
 ghost use mathlib.Core.Path.{_≡_};
 ghost use mathlib.Core.Bool.{cond};
 ghost use Prim.Native.Nat.{ℕ, _-_, _*_, _^_, _≤_, _<_};
