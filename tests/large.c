@@ -1,6 +1,7 @@
 /* Images and tables at the limits: 1 GiB, 1,048,576 slots, and messages of
  * 16,777,215 bytes, which only images beyond the old limit can hold; their
- * compaction; what changed in the last bytes, listed and by way of a journal.
+ * compaction; what changed in the last bytes, listed and by way of a journal;
+ * two points on one message among many.
  * Ends with "N passed, M failed". Takes some 2.2 GiB of memory. */
 #define _DEFAULT_SOURCE
 
@@ -453,6 +454,83 @@ static void test_many_messages(void)
     munmap(plain, length);
 }
 
+/* ---- two points on one message among 60,000, beside plain C ---- */
+
+enum { MANY_SLOTS = 80000, MANY_POINTS = 60000, NAME = 5, STRIDE = NAME + 4 };
+
+/* Where the offset of the point's slot stands. */
+static uint32_t offset_place(uint32_t point)
+{
+    uint8_t name[NAME];
+    uint32_t at = TABLE;
+
+    spell(point, name);
+    while (memcmp(image + at, name, NAME) != 0)
+        at += STRIDE;
+    return at + NAME;
+}
+
+/* What both checks say of the image: the same? */
+static int same_verdict(size_t length)
+{
+    uint32_t verdict, slot, plain_verdict, plain_slot;
+
+    return subject.check(image, length, &verdict, &slot) ==
+               plain_check(image, length, &plain_verdict, &plain_slot) &&
+           verdict == plain_verdict && slot == plain_slot;
+}
+
+/* The first point gets an offset, and both checks are asked; then it gets its
+ * own back. */
+static void expect_moved(const char *what, size_t length, uint32_t point,
+                         uint32_t offset, uint32_t wanted)
+{
+    uint32_t place = offset_place(point), before = field(place);
+    uint32_t verdict, slot;
+
+    set_field(place, offset);
+    expect(what, same_verdict(length), 1);
+    subject.check(image, length, &verdict, &slot);
+    expect(what, verdict, wanted);
+    set_field(place, before);
+}
+
+/* Three points in turn: the first is led to the second's message, to one byte
+ * in front of that message's end, where an empty one is forged, and to the
+ * dead message of the third, which no point holds. */
+static void test_meeting(void)
+{
+    const size_t length = MIB64;
+    uint8_t name[NAME];
+    uint32_t done = 0;
+
+    subject.create(image, length, NAME, MANY_SLOTS, 1);
+    for (uint32_t i = 0; i < MANY_POINTS; i++) {
+        spell(i, name);
+        done += subject.add(image, length, name, NAME, texts + i % 251,
+                            500 + i % 211, 1) == 0;
+    }
+    expect("points stored", done, MANY_POINTS);
+    expect_sound("sound", length);
+    for (uint32_t i = 0; i < 8; i++) {
+        uint32_t one = 7 + i * 7001, two = MANY_POINTS - 1 - i * 6007;
+        uint32_t three = 3 + i * 5003, dead = field(offset_place(three));
+        uint32_t other = field(offset_place(two)), end;
+        uint8_t kept[4];
+
+        expect_moved("on one message", length, one, other, 1);
+        end = other + HEAD + 500 + two % 211;
+        memcpy(kept, image + end - 4, 4);
+        memcpy(image + end - 4, "a\0\0\0", 4);
+        expect_moved("in a message's last bytes", length, one, end - 4, 1);
+        memcpy(image + end - 4, kept, 4);
+        spell(three, name);
+        subject.remove(image, length, name, NAME);
+        expect_moved("on a dead message", length, one, dead, 0);
+    }
+    expect_sound("sound", length);
+}
+
 int main(void)
 {
     image = map((size_t)GIB + PAGE);
@@ -464,6 +542,7 @@ int main(void)
     test_full_image();
     test_full_table();
     test_many_messages();
+    test_meeting();
     printf("%u passed, %u failed\n", passed, failed);
     return failed == 0 ? 0 : 1;
 }
