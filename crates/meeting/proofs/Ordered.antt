@@ -16,7 +16,7 @@ use lib.Dec.{ltb}
 use borrow.Author.Tests.{ltb-true}
 use Rattle.bhtf.specs.Bytes.{Bytes}
 use Rattle.bhtf.specs.Image.{field, layoutOf}
-use Rattle.bhtf.specs.Limits.{dataField, freeField}
+use Rattle.bhtf.specs.Limits.{freeField}
 use Rattle.bhtf.specs.Inspect.{meets, meetsLower}
 use Rattle.laws.proofs.Tests.{by-bool, by-le, and-left, and-right}
 use Rattle.laws.proofs.Meeting.{some-all}

@@ -1,9 +1,9 @@
 // Stretches in the order of their starts, window by window: whether each starts behind the end of the one before it.
 // Then no two meet. Messages are read in the order of the file, each once.
+use crate::cells::sort_starts;
 use layout::places::Slot;
 use layout::shape::Shape;
 use overlap::stretch::end_of;
-use starts::heap::sort;
 use starts::list_starts;
 use starts::next_width;
 use starts::slot_in;
@@ -23,8 +23,12 @@ ghost use Rattle.overlap.specs.Stretches.{firstMeeting};
 ghost use Rattle.starts.specs.Starts.{startsIn};
 ghost use Rattle.meeting.specs.Order.{Behind, endBefore, OrderIn};
 
-// In a data area that the sweep passes in fewer windows, it is faster.
-const FEW_SWEEPS: usize = 8;
+// How many passes over the slots are made at most. Of 1,048,576 starts, windows that are at least half full list all in
+// fewer.
+const MOST_PASSES: usize = 96;
+
+// From so many windows of the sweep on, the order of starts that stand closer is seen faster.
+const MANY_SWEEPS: usize = 8;
 
 // Where the last of the keys' stretches ends, if all start from lo up to hi, the first not below `next`, and each other
 // not below the end of the one before it; else 0. It is `next` where there are no keys.
@@ -64,7 +68,7 @@ fn pass_window(
         × (length (now keys) ≡ startsIn (startIn (now image)) lo hi (shape .slots)) ⌝ }
     ensures { λ r. ⌜ (0 < r → OrderIn (now (image .entry)) shape lo next → OrderIn (now (image .entry)) shape hi r) ⌝ }
 {
-    sort(keys);
+    sort_starts(keys, lo, hi);
     end_of_all(image, shape, keys, lo, hi, next)
 }
 
@@ -141,9 +145,16 @@ fn pass_all(
     true
 }
 
-// Whether it is seen, with the keys as room, that no two stretches of taken slots meet. It is not asked where the sweep
-// is faster: where that takes few windows, or where starts stand so close that one here would be narrower. It takes not
-// many more passes than the sweep would.
+// How many places there are to be for each point, where the order of starts is seen faster than so many windows are
+// swept.
+fn places_each(sweeps: usize) -> usize
+    ensures { λ r. ⌜ r ≤ 96 ⌝ }
+{
+    if sweeps < MANY_SWEEPS { 96 } else { 32 }
+}
+
+// Whether it is seen, with the keys as room, that no two stretches of taken slots meet. It is asked where that takes
+// less than the sweep, whose windows have 64 places for each key.
 pub fn none_meet(image: &[u8], shape: Shape, keys: &mut [u64]) -> bool
     requires { ⌜ Checked (now image) shape (shape .slots) × (0 < length (now keys)) × (length (now keys) < 2 ^ 28) ⌝ }
     ensures { λ r. ⌜ (r ≡ true
@@ -154,13 +165,10 @@ pub fn none_meet(image: &[u8], shape: Shape, keys: &mut [u64]) -> bool
     let area = shape.area;
     let span = free - area.at();
     let room = keys.len();
-    let sweeps = span / (64 * room);
-    if sweeps < FEW_SWEEPS {
+    let each = places_each(span / (64 * room));
+    if span < each * points {
         return false;
     }
     let width = first_width(span, points, room);
-    if width < 64 * room {
-        return false;
-    }
-    pass_all(image, shape, keys, free, width, sweeps + 8)
+    pass_all(image, shape, keys, free, width, MOST_PASSES)
 }

@@ -1,7 +1,7 @@
 -- `meeting::seen_apart` meets its contract: the bound is the number of slots. Assumes nothing.
 use Prim.Native.Nat.{ℕ}
 use native.Mathlib.Omega.{arith}
-use mathlib.Core.Path.{_≡_, refl, sym, _∙_, subst}
+use mathlib.Core.Path.{_≡_, refl, sym, subst}
 use mathlib.Core.Bool.{false}
 use Rattle.bhtf.specs.Image.{layoutOf}
 use Rattle.laws.proofs.Tests.{not-both}

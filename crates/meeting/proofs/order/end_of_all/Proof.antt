@@ -1,8 +1,8 @@
 -- `meeting::order::end_of_all` meets its contract: the first k are one behind the other, and end at `end`. Assumes
 -- nothing.
-use Prim.Native.Nat.{ℕ, _+_, _-_, _≤_, _<_}
+use Prim.Native.Nat.{ℕ, _-_, _≤_, _<_}
 use native.Mathlib.Omega.{arith}
-use mathlib.Core.Path.{_≡_, refl, sym, ap, _∙_, subst}
+use mathlib.Core.Path.{_≡_, sym, ap, _∙_, subst}
 use lib.ListN.{length}
 use Rattle.laws.proofs.Tests.{by-eq}
 use Rattle.overlap.specs.Checked.{startIn, endIn}

@@ -1,10 +1,8 @@
 -- `meeting::order::none_meet` meets its contract: X is not below D. Assumes nothing.
-use Prim.Native.Nat.{_-_, _*_}
 use native.Mathlib.Omega.{arith}
-use native.Mathlib.Nat.{div-le-self}
+use native.Mathlib.Nat.{mul-le-mul-right}
 use mathlib.Core.Path.{refl}
 use mathlib.Core.Bool.{false}
-use lib.ListN.{length}
 use Rattle.laws.proofs.Tests.{not-both}
 use Rattle.laws.proofs.Opened.{opened-facts}
 use Rattle.layout.proofs.Shaped.{area-field}
@@ -43,11 +41,19 @@ sub-span c =
       c .before .before .before .read-u32 .ensures,
     )
 
-mul-sweeps : tie.Need-mul-sweeps
-mul-sweeps c = search needs
+mul-places-each : tie.Need-mul-places-each
+mul-places-each c = search needs
 
-div-sweeps : tie.Need-div-sweeps
-div-sweeps c = search needs
+div-places-each : tie.Need-div-places-each
+div-places-each c = search needs
+
+places-each-requires : tie.Need-places-each-requires
+places-each-requires c κs = search needs
+
+mul-if1 : tie.Need-mul-if1
+mul-if1 c =
+    let P = c .before .before .before .read-u322 in
+    omega (arith, mul-le-mul-right (P .result) (c .places-each .ensures), P .ensures)
 
 returns : tie.Need-returns
 returns c e = absurd (not-both false e refl)
@@ -55,27 +61,14 @@ returns c e = absurd (not-both false e refl)
 first-width-requires : tie.Need-first-width-requires
 first-width-requires c κs = search needs
 
-mul-if2 : tie.Need-mul-if2
-mul-if2 c = search needs
-
-returns-2 : tie.Need-returns-2
-returns-2 c e = absurd (not-both false e refl)
-
-add-pass-all : tie.Need-add-pass-all
-add-pass-all c =
-    let F = c .before .before .before .before in
-    let span = F .before .before .before .read-u32 .result - F .at .result in
-    let keys = F .before .before .before .before .before .before .args .keys .now in
-    omega (arith, div-le-self span (64 * length keys))
-
 pass-all-requires : tie.Need-pass-all-requires
 pass-all-requires c κs = search needs
 
 same-length : tie.Need-same-length
 same-length c = search needs
 
-returns-3 : tie.Need-returns-3
-returns-3 c = search needs
+returns-2 : tie.Need-returns-2
+returns-2 c = search needs
 
 pub none-meet-spec : {M : Type 1} → statement M
 none-meet-spec =
@@ -87,13 +80,12 @@ none-meet-spec =
     cast-points
     at-requires
     sub-span
-    mul-sweeps
-    div-sweeps
+    mul-places-each
+    div-places-each
+    places-each-requires
+    mul-if1
     returns
     first-width-requires
-    mul-if2
-    returns-2
-    add-pass-all
     pass-all-requires
     same-length
-    returns-3)
+    returns-2)

@@ -1,7 +1,7 @@
 -- `meeting::order::pass_all` meets its contract: what starts below `lo` is in order. Assumes nothing.
-use Prim.Native.Nat.{ℕ, _+_, _-_, _≤_, _<_}
+use Prim.Native.Nat.{ℕ, _≤_, _<_}
 use native.Mathlib.Omega.{arith}
-use mathlib.Core.Path.{_≡_, refl, sym, ap, _∙_, subst}
+use mathlib.Core.Path.{_≡_, refl, sym, _∙_, subst}
 use mathlib.Core.Bool.{false}
 use lib.ListN.{length}
 use Rattle.bhtf.specs.Image.{field}

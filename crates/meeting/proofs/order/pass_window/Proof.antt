@@ -1,5 +1,4 @@
 -- `meeting::order::pass_window` meets its contract: the keys are as many as before. Assumes nothing.
-use native.Mathlib.Omega.{arith}
 use mathlib.Core.Path.{sym, _∙_}
 use borrow.Author.Needs.{needs}
 use Rattle.overlap.specs.Checked.{startIn, endIn}
@@ -7,8 +6,8 @@ use Rattle.meeting.proofs.Ordered.{stretch-full, ordered-on}
 use Rattle.meeting.proofs.order.pass_window.Statement.{statement}
 use Rattle.meeting.proofs.order.pass_window.Tie as tie
 
-sort-requires : tie.Need-sort-requires
-sort-requires c κs = search needs
+sort-starts-requires : tie.Need-sort-starts-requires
+sort-starts-requires c κs = search needs
 
 end-of-all-requires : tie.Need-end-of-all-requires
 end-of-all-requires c κs = search needs
@@ -24,9 +23,9 @@ returns c z o =
     let img = A .image .now in
     let w = c .end-of-all .ensures z in
     ordered-on (startIn img) (endIn img) (A .shape .slots) (A .lo) (A .hi) (A .next)
-    (stretch-full img (A .shape) (S .pre .0)) (S .pre .1) (S .pre .2) (P .sort .last .0) (w .0)
-    (sym (P .sort .kept .0 ∙ S .pre .4))
+    (stretch-full img (A .shape) (S .pre .0)) (S .pre .1) (S .pre .2) (P .sort-starts .last .0) (w .0)
+    (sym (P .sort-starts .kept .0 ∙ S .pre .4))
     (c .end-of-all .result) (w .1) o
 
 pub pass-window-spec : {M : Type 1} → statement M
-pass-window-spec = tie.close (tie.spec sort-requires end-of-all-requires same-length returns)
+pass-window-spec = tie.close (tie.spec sort-starts-requires end-of-all-requires same-length returns)
