@@ -1,9 +1,7 @@
 // The lowest slot whose stretch meets that of a lower-numbered one: the sweep of crate overlap, with its map on the
 // stack. In a large data area it is first seen whether all stretches lie one behind the other, with the same words as
 // room: mostly they do, and then there is none.
-//     cells      starts sorted
 //     order      stretches in the order of their starts
-pub mod cells;
 pub mod order;
 
 use crate::order::none_meet;

@@ -1,6 +1,6 @@
 // Stretches in the order of their starts, window by window: whether each starts behind the end of the one before it.
 // Then no two meet. Messages are read in the order of the file, each once.
-use crate::cells::sort_starts;
+use cells::sort_starts;
 use layout::places::Slot;
 use layout::shape::Shape;
 use overlap::stretch::end_of;
