@@ -148,9 +148,9 @@ fn pass_all(
 // How many places there are to be for each point, where the order of starts is seen faster than so many windows are
 // swept.
 fn places_each(sweeps: usize) -> usize
-    ensures { λ r. ⌜ r ≤ 96 ⌝ }
+    ensures { λ r. ⌜ r ≤ 160 ⌝ }
 {
-    if sweeps < MANY_SWEEPS { 96 } else { 32 }
+    if sweeps < MANY_SWEEPS { 160 } else { 32 }
 }
 
 // Whether it is seen, with the keys as room, that no two stretches of taken slots meet. It is asked where that takes
