@@ -5,7 +5,7 @@
 --     low-three                               the number of the last three of four bytes
 --     swapped-four                            the same number with its bytes in the other order
 --     store-sets, set-store, store-four, store-three     stores of bytes one after the other
---     digits-four, digits-three               the digits, by shifts and masks
+--     digits-three, digits-swapped            the digits, by shifts and masks, and by a swap
 -- Assumes nothing.
 use Prim.Native.Nat.{ℕ, suc, _+_, _*_, _/_, _%_, _<_, _≤_}
 use native.Mathlib.Nat.{mod-eq-of-lt, div-one}
@@ -134,9 +134,23 @@ digits-three v h =
     let top : v / 65536 % 256 ≡ v / 65536 = omega arith in
     rw (and-mask (v / 256) 8, and-mask v 8, div-one v, top)
 
-pub digits-four : (v : ℕ) → v < 4294967296
-    → digits 4 v ≡ v / 16777216 ∷ bitAnd (v / 65536) 255 ∷ bitAnd (v / 256) 255 ∷ bitAnd v 255 ∷ []
+-- of a number's bytes, least significant first
+bytes-four : (a b c d w : ℕ) → a < 256 → b < 256 → c < 256 → d < 256 → w ≡ d * 16777216 + (c * 65536 + (b * 256 + a))
+    → w % 256 ∷ w / 256 % 256 ∷ w / 65536 % 256 ∷ w / 16777216 ∷ [] ≡ a ∷ b ∷ c ∷ d ∷ []
+bytes-four a b c d w p q r s e =
+    let e₀ : w % 256 ≡ a = omega arith in
+    let e₁ : w / 256 ≡ (d * 256 + c) * 256 + b = omega arith in
+    let e₂ : w / 65536 ≡ d * 256 + c = omega arith in
+    let e₃ : w / 16777216 ≡ d = omega arith in
+    rw (e₀, e₁, e₂, e₃, low-byte (d * 256 + c) b q, low-byte d c r) refl
+
+-- the digits are the bytes of the number with its bytes in the other order
+pub digits-swapped : (v w : ℕ) → v < 4294967296
+    → w ≡ v % 256 * 16777216 + (v / 256 % 256 * 65536 + (v / 65536 % 256 * 256 + v / 16777216))
+    → w % 256 ∷ w / 256 % 256 ∷ w / 65536 % 256 ∷ w / 16777216 ∷ [] ≡ digits 4 v
 unfolding digits
-digits-four v h =
+digits-swapped v w h e =
     let top : v / 16777216 % 256 ≡ v / 16777216 = omega arith in
-    rw (and-mask (v / 65536) 8, and-mask (v / 256) 8, and-mask v 8, div-one v, top)
+    bytes-four (v / 16777216) (v / 65536 % 256) (v / 256 % 256) (v % 256) w
+    (omega arith) (omega arith) (omega arith) (omega arith) e
+    ∙ rw (div-one v, top) refl
