@@ -31,7 +31,8 @@ use Rattle.compaction.proofs.Packed.{activeSpan, packed-weight}
 use Rattle.layout.specs.Shapes.{Open}
 use Rattle.layout.proofs.Shaped.{shape-head}
 use Rattle.layout.specs.declared.shape.Shape.{Shape}
-use Rattle.stages.specs.Stages.{offsetIn, keyIn, spanIn, offsetNow, slotNow, tableEnd, deadIn, activeIn, withOffset, Stage, Forgotten, Sound}
+use Rattle.table.specs.Slots.{withOffset}
+use Rattle.stages.specs.Stages.{offsetIn, keyIn, spanIn, offsetNow, slotNow, tableEnd, deadIn, activeIn, Stage, Forgotten, Sound}
 use Rattle.stages.proofs.Entries.{slot-back, slot-bytes, behind-putSlot}
 use Rattle.stages.proofs.Stages.{front-layout, front-open}
 

@@ -1,15 +1,14 @@
--- `packing::slots::set_offset` meets its contract: the field behind the slot's key is written. Assumes nothing.
+-- `table::set_offset` meets its contract: the field behind the slot's key is written. Assumes nothing.
 use Prim.Native.Nat.{ℕ, _+_, _≤_}
 use native.Mathlib.Omega.{arith}
 use mathlib.Core.Path.{_≡_, sym, ap₂, _∙_}
 use lib.ListN.{length}
 use borrow.Author.Needs.{needs}
 use Rattle.bhtf.specs.Image.{setField, layoutOf, slotSize, slotStart}
-use Rattle.table.proofs.Headers.{layout-key, slot-place, slot-room, spot-placed}
-use Rattle.stages.specs.Stages.{withOffset}
-use Rattle.stages.proofs.Entries.{offset-written}
-use Rattle.offsets.proofs.set_offset.Statement.{statement}
-use Rattle.offsets.proofs.set_offset.Tie as tie
+use Rattle.table.specs.Slots.{withOffset}
+use Rattle.table.proofs.Headers.{layout-key, slot-place, slot-room, spot-placed, offset-written}
+use Rattle.table.proofs.set_offset.Statement.{statement}
+use Rattle.table.proofs.set_offset.Tie as tie
 
 start-requires : tie.Need-start-requires
 start-requires c κs = search needs
