@@ -27,8 +27,11 @@ ghost use Rattle.meeting.specs.Order.{Behind, endBefore, OrderIn};
 // fewer.
 const MOST_PASSES: usize = 96;
 
-// From so many windows of the sweep on, the order of starts that stand closer is seen faster.
+// From so many windows of the sweep on, the order of starts is seen faster, where there are so many places for each
+// point.
 const MANY_SWEEPS: usize = 8;
+
+const PLACES_EACH: usize = 32;
 
 // Where the last of the keys' stretches ends, if all start from lo up to hi, the first not below `next`, and each other
 // not below the end of the one before it; else 0. It is `next` where there are no keys.
@@ -145,14 +148,6 @@ fn pass_all(
     true
 }
 
-// How many places there are to be for each point, where the order of starts is seen faster than so many windows are
-// swept.
-fn places_each(sweeps: usize) -> usize
-    ensures { λ r. ⌜ r ≤ 160 ⌝ }
-{
-    if sweeps < MANY_SWEEPS { 160 } else { 32 }
-}
-
 // Whether it is seen, with the keys as room, that no two stretches of taken slots meet. It is asked where that takes
 // less than the sweep, whose windows have 64 places for each key.
 pub fn none_meet(image: &[u8], shape: Shape, keys: &mut [u64]) -> bool
@@ -165,8 +160,7 @@ pub fn none_meet(image: &[u8], shape: Shape, keys: &mut [u64]) -> bool
     let area = shape.area;
     let span = free - area.at();
     let room = keys.len();
-    let each = places_each(span / (64 * room));
-    if span < each * points {
+    if (span < MANY_SWEEPS * (64 * room)) | (span < PLACES_EACH * points) {
         return false;
     }
     let width = first_width(span, points, room);

@@ -63,12 +63,10 @@ pub fn read_low_u24(s: &[u8], at: usize) -> u32
     read_u32(s, at) & 0xffffff
 }
 
-// Puts v at `at`, in 3 bytes.
-pub fn write_u24(s: &mut [u8], at: usize, v: u32)
-    requires { ⌜ (at + 3 ≤ length (now s)) × (v < 2 ^ 24) ⌝ }
-    ensures { λ _. ⌜ now (s .exit) ≡ store (now (s .entry)) at (digits 3 v) ⌝ }
+// Puts the byte b at `at`, and v behind it in 3 bytes: one store.
+pub fn write_low_u24(s: &mut [u8], at: usize, b: u8, v: u32)
+    requires { ⌜ (at + 4 ≤ length (now s)) × (v < 2 ^ 24) ⌝ }
+    ensures { λ _. ⌜ now (s .exit) ≡ store (now (s .entry)) at (b ∷ digits 3 v) ⌝ }
 {
-    s[at] = (v >> 16) as u8;
-    s[at + 1] = ((v >> 8) & 255) as u8;
-    s[at + 2] = (v & 255) as u8;
+    write_u32(s, at, ((b as u32) << 24) | v);
 }

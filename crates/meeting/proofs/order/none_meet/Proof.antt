@@ -1,6 +1,5 @@
 -- `meeting::order::none_meet` meets its contract: X is not below D. Assumes nothing.
 use native.Mathlib.Omega.{arith}
-use native.Mathlib.Nat.{mul-le-mul-right}
 use mathlib.Core.Path.{refl}
 use mathlib.Core.Bool.{false}
 use Rattle.laws.proofs.Tests.{not-both}
@@ -41,19 +40,14 @@ sub-span c =
       c .before .before .before .read-u32 .ensures,
     )
 
-mul-places-each : tie.Need-mul-places-each
-mul-places-each c = search needs
-
-div-places-each : tie.Need-div-places-each
-div-places-each c = search needs
-
-places-each-requires : tie.Need-places-each-requires
-places-each-requires c κs = search needs
-
 mul-if1 : tie.Need-mul-if1
-mul-if1 c =
-    let P = c .before .before .before .read-u322 in
-    omega (arith, mul-le-mul-right (P .result) (c .places-each .ensures), P .ensures)
+mul-if1 c = search needs
+
+mul-if1-2 : tie.Need-mul-if1-2
+mul-if1-2 c = search needs
+
+mul-if1-3 : tie.Need-mul-if1-3
+mul-if1-3 c = search needs
 
 returns : tie.Need-returns
 returns c e = absurd (not-both false e refl)
@@ -80,10 +74,9 @@ none-meet-spec =
     cast-points
     at-requires
     sub-span
-    mul-places-each
-    div-places-each
-    places-each-requires
     mul-if1
+    mul-if1-2
+    mul-if1-3
     returns
     first-width-requires
     pass-all-requires
