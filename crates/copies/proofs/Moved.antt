@@ -1,16 +1,14 @@
 -- Blocks copied one behind the other are one store.
 --     covers     a block that begins within what was copied, or just behind it, goes on to its own end
---     copied-block, moved-block      one more block, between two lists and within one
---     copied-whole, length-moved     all blocks; lengths stay
+--     moved-block, length-moved      one more block, within one list; lengths stay
 -- Assumes nothing.
 use Prim.Native.Nat.{ℕ, _+_, _-_, _≤_}
-use native.Mathlib.Nat.{zero-add}
 use native.Mathlib.Omega.{arith}
-use mathlib.Core.List.{[], _++_, append-assoc, append-nil}
+use mathlib.Core.List.{_++_, append-assoc}
 use mathlib.Core.Logic.{_⊎_, inl, inr}
 use mathlib.Core.Path.{_≡_, sym, ap, ap₂, _∙_}
-use lib.ListN.{length, take, drop, take-append-drop, drop-of-length-le}
-use lib.Seq.{take-append-add, drop-append-add, take-append-le, take-all, take-take, drop-drop, length-take-le}
+use lib.ListN.{length, take, drop, take-append-drop}
+use lib.Seq.{take-append-add, drop-append-add, take-append-le, take-take, drop-drop, length-take-le}
 use Rattle.bhtf.specs.Bytes.{Bytes, part, store}
 use Rattle.laws.proofs.Bytes.{Apart, part-length, length-store, part-store-other}
 use Rattle.runs.proofs.Little.{part-join}
@@ -62,22 +60,6 @@ covers d s to from j i w below reach there room =
 pub none-yet : (d s : Bytes) (to from : ℕ) → d ≡ store d to (part s from 0)
 unfolding store part
 none-yet d s to from = sym (take-append-drop to d)
-
--- ---- from one list to another, from the front of both
-pub copied-block : (d s x r : Bytes) (j i w : ℕ) → x ≡ store d 0 (part s 0 i)
-    → j ≤ i → i ≤ j + w → j + w ≤ length s → j + w ≤ length d
-    → r ≡ store x j (part s j w) → r ≡ store d 0 (part s 0 (j + w))
-copied-block d s x r j i w e below reach there room f =
-    f
-    ∙ ap (λ (t : Bytes). store t j (part s j w)) e
-    ∙ rw (zero-add j) at (covers d s 0 0 j i w below reach (omega arith) (omega arith))
-
-pub copied-whole : (d s : Bytes) (n : ℕ) → n ≡ length s → n ≡ length d → store d 0 (part s 0 n) ≡ s
-unfolding store part
-copied-whole d s n p q =
-    let all : take n s ≡ s = take-all n s (omega arith) in
-    let none : drop (length s) d ≡ [] = drop-of-length-le d {i = length s} (omega arith) in
-    rw (all, none) (append-nil s)
 
 -- ---- within one list
 on : {A B C : Type 0} → A ⊎ B → (A → C) → (B → C) → C
