@@ -1,5 +1,5 @@
-// Runs of bytes zeroed, and copied from one slice to another; from eight bytes on in blocks of eight, the last of which
-// may overlap the one before.
+// Runs of bytes zeroed, and copied from one slice to another, from eight bytes on in blocks of eight, which may
+// overlap.
 ghost use mathlib.Core.Path.{_≡_};
 ghost use lib.ListN.{length};
 ghost use Prim.Native.Nat.{_+_, _-_, _≤_, _<_};

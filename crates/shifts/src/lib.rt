@@ -1,5 +1,4 @@
-// Bytes copied from one place of a slice to another, from eight bytes on in blocks of eight, the last of which may
-// overlap the one before.
+// Bytes copied from one place of a slice to another, from eight bytes on in blocks of eight, which may overlap.
 ghost use mathlib.Core.Path.{_≡_};
 ghost use mathlib.Core.Logic.{_⊎_};
 ghost use lib.ListN.{length};
@@ -106,27 +105,39 @@ fn move_front(s: &mut [u8], from: usize, to: usize, n: usize)
     }
 }
 
-// Copies the n bytes from `from` on to `to`; the two runs do not meet. Short and long share the last block, as in
-// `copy_eights` of `copies`.
+// Copies eight bytes or more. Short and long share the last block, as in `copy_eights` of `copies`.
+fn move_eights(s: &mut [u8], from: usize, to: usize, n: usize)
+    requires { ⌜ Runs (now s) from to n × (8 ≤ n) ⌝ }
+    ensures { λ _. ⌜ now (s .exit) ≡ store (now (s .entry)) to (part (now (s .entry)) from n) ⌝ }
+{
+    let last = n - 8;
+    move_front(s, from, to, n);
+    move_eight(s, from + last, to + last);
+}
+
+// Copies the n bytes from `from` on to `to`; the two runs do not meet.
 pub fn copy_apart(s: &mut [u8], from: usize, to: usize, n: usize)
     requires { ⌜ ((from + n ≤ to) ⊎ (to + n ≤ from)) × (from + n ≤ length (now s)) × (to + n ≤ length (now s)) ⌝ }
     ensures { λ _. ⌜ now (s .exit) ≡ store (now (s .entry)) to (part (now (s .entry)) from n) ⌝ }
 {
     if n < 8 {
         move_bytes(s, from, to, n);
-        return;
+    } else {
+        move_eights(s, from, to, n);
     }
-    let last = n - 8;
-    move_front(s, from, to, n);
-    move_eight(s, from + last, to + last);
 }
 
-// Copies the n bytes from `from` on to `to`, above them.
+// Copies the n bytes from `from` on to `to`, above them. The test of `copy_apart` is made here too: of two callers the
+// compiler takes into neither the blocks, so that a caller with few bytes, or none, makes no call.
 pub fn copy_up(s: &mut [u8], from: usize, to: usize, n: usize)
     requires { ⌜ (from + n ≤ to) × (to + n ≤ length (now s)) ⌝ }
     ensures { λ _. ⌜ now (s .exit) ≡ store (now (s .entry)) to (part (now (s .entry)) from n) ⌝ }
 {
-    copy_apart(s, from, to, n);
+    if n < 8 {
+        move_bytes(s, from, to, n);
+    } else {
+        move_eights(s, from, to, n);
+    }
 }
 
 // Copies the n bytes from `from` on to `to`, which is not above them; the two runs may meet.

@@ -3,17 +3,11 @@ use Prim.Native.Nat.{_-_}
 use native.Mathlib.Omega.{arith}
 use borrow.Author.Needs.{needs}
 use Rattle.copies.proofs.Moved.{moved-block, moved-whole}
-use Rattle.shifts.proofs.copy_apart.Statement.{statement}
-use Rattle.shifts.proofs.copy_apart.Tie as tie
+use Rattle.shifts.proofs.move_eights.Statement.{statement}
+use Rattle.shifts.proofs.move_eights.Tie as tie
 
-move-bytes-requires : tie.Need-move-bytes-requires
-move-bytes-requires c κs = search needs
-
-same-length : tie.Need-same-length
-same-length c = search needs
-
-returns : tie.Need-returns
-returns c = search needs
+sub-last : tie.Need-sub-last
+sub-last c = search needs
 
 move-front-requires : tie.Need-move-front-requires
 move-front-requires c κs = search needs
@@ -27,32 +21,30 @@ add-move-eight-2 c = search needs
 move-eight-requires : tie.Need-move-eight-requires
 move-eight-requires c κs = search needs
 
-same-length-2 : tie.Need-same-length-2
-same-length-2 c = search needs
+same-length : tie.Need-same-length
+same-length c = search needs
 
-returns-2 : tie.Need-returns-2
-returns-2 c =
+returns : tie.Need-returns
+returns c =
     let E = c .before .before in
     let F = E .before .before .before .before in
-    let S = F .before .before .before .before in
+    let S = F .before .before .before in
     let A = S .args in
     let s = A .s .now in
     let n = A .n in
     let r = E .move-eight .last .0 in
-    moved-whole s r (A .from) (A .to) n (S .pre)
-    (moved-block s (F .move-front .last .0) r (A .from) (A .to) n (n - 8) (n - 8) n (S .pre) (F .move-front .ensures)
+    moved-whole s r (A .from) (A .to) n (S .pre .0)
+    (moved-block s (F .move-front .last .0) r (A .from) (A .to) n (n - 8) (n - 8) n (S .pre .0) (F .move-front .ensures)
     (omega arith) (omega arith) (omega arith) (E .move-eight .ensures))
 
-pub copy-apart-spec : {M : Type 1} → statement M
-copy-apart-spec =
+pub move-eights-spec : {M : Type 1} → statement M
+move-eights-spec =
     tie.close
     (tie.spec
-    move-bytes-requires
-    same-length
-    returns
+    sub-last
     move-front-requires
     add-move-eight
     add-move-eight-2
     move-eight-requires
-    same-length-2
-    returns-2)
+    same-length
+    returns)
