@@ -1,6 +1,6 @@
 // A message is written: made inactive, in place, or in new space at X.
+use clearing::zero;
 use copies::copy;
-use copies::zero;
 use layout::places::Offset;
 use layout::shape::Shape;
 use messages::is_active;
