@@ -14,7 +14,7 @@ use native.Mathlib.Omega.{arith}
 use mathlib.Core.Logic.{inl, inr}
 use mathlib.Core.Bool.{true, false, not}
 use mathlib.Core.List.{[], _++_}
-use lib.ListN.{length, take, drop, length-append, length-drop, take-append-drop}
+use lib.ListN.{length, take, drop, length-append, length-drop}
 use lib.Seq.{take-all, take-at, drop-at, take-append-le, drop-append-le, drop-append-add}
 use lib.Dec.{eqb}
 use borrow.Author.Tests.{eq-eqb, ne-eqb}
@@ -26,6 +26,7 @@ use Rattle.bhtf.specs.Inspect.{taken}
 use Rattle.compaction.specs.Compact.{beginsAt, packedBelow, packed, packedOffset, packedSlot, packedSlots, packedEnd, packedData, lowerFree, compacted}
 use Rattle.laws.proofs.Tests.{by-bool, by-eq, by-le, by-either, and-right}
 use Rattle.laws.proofs.Bytes.{part-length, part-add, part-part, Apart, length-store, part-store-inside, part-store-below, part-store-above, length-zeros}
+use Rattle.laws.proofs.Stores.{store-part}
 use Rattle.laws.proofs.Slots.{Room, slot-above, length-slot, length-keyOf, length-entry, keyOf-entry, offsetOf-entry, slot-store-data, part-setField-other, field-setField-same, field-setField-other, length-setField}
 use Rattle.laws.proofs.Total.{total-same}
 use Rattle.laws.proofs.Kept.{Kept, kept-trans, kept-store, kept-free, kept-page}
@@ -58,16 +59,6 @@ module _ (g : Layout) (img : Bytes) (o : ℕ) (img′ : Bytes) (o′ : ℕ) (sam
   unfolding textAt
   textAt-moved =
       ap (part img′ (o′ + headSize g)) lengthAt-moved ∙ same .on (headSize g) (lengthAt g img o) (omega arith)
-
--- a store of what stands there
-pub store-part : (b : Bytes) (p n : ℕ) → p + n ≤ length b → store b p (part b p n) ≡ b
-unfolding store
-store-part b p n h =
-    let size : length (part b p n) ≡ n = part-length b p n h in
-    let rest : part b p n ++ drop n (drop p b) ≡ drop p b = unfold part in take-append-drop n (drop p b) in
-    ap (λ (m : ℕ). take p b ++ (part b p n ++ drop m (drop p b))) size
-    ∙ ap (λ (x : Bytes). take p b ++ x) rest
-    ∙ take-append-drop p b
 
 part-none : (b : Bytes) (p n : ℕ) → n ≡ 0 → part b p n ≡ []
 unfolding part
