@@ -1,4 +1,5 @@
 -- Laws of records and columns, with the width as a parameter, and cases.
 pub mod Grid  -- lists by row and place in it
 pub mod Turned  -- columns and records byte by byte, and each after the other
+pub mod Steps  -- one byte more at its place
 pub mod CasesColumns  -- cases, by computation

@@ -8,7 +8,7 @@
 use Prim.Native.Nat.{ℕ, suc, _+_, _-_, _*_, _/_, _%_, _≤_, _<_}
 use native.Mathlib.Nat.{div-add-mod', mul-comm, mul-div-cancel, mul-mod-left}
 use native.Mathlib.Omega.{arith}
-use mathlib.Core.Bool.{true, _&&_}
+use mathlib.Core.Bool.{true, false, _&&_}
 use mathlib.Core.List.{[], _∷_, _++_}
 use mathlib.Core.Path.{_≡_, refl, sym, ap, ap₂, _∙_}
 use lib.ListN.{length, getD, drop, length-drop}
@@ -38,6 +38,11 @@ whole-count W m h =
     omega
     (arith, eqb-true (m % W) 0 (and-right (leb 1 W && leb W mostWidth) (eqb (m % W) 0) h), div-add-mod' m W)
 
+pub nothing-stored : (stored : Bytes) → length stored ≡ 0 → wholeColumns stored ≡ false
+unfolding wholeColumns wholeRecords widthOf
+nothing-stored [] l = refl
+nothing-stored (b ∷ stored) l = absurd (omega arith)
+
 -- bytes that have a width are that byte and the columns
 some-stored : (stored : Bytes) → 0 < widthOf stored → 0 < length stored
 unfolding widthOf
@@ -53,6 +58,14 @@ whole-stored stored h =
       some-stored stored (whole-width (widthOf stored) (length stored - 1) h .0),
       whole-count (widthOf stored) (length stored - 1) h,
     )
+
+-- the test of what is stored, as one of the m bytes that are read
+pub whole-read : (W m : ℕ) (stored : Bytes) → W ≡ widthOf stored → length stored ≡ 1 + m → wholeColumns stored ≡ true
+    → wholeRecords W m ≡ true
+unfolding wholeColumns
+whole-read W m stored w l h =
+    let n : m ≡ length stored - 1 = omega arith in
+    ap₂ wholeRecords w n ∙ h
 
 count-of : (W n m : ℕ) → 0 < W → m ≡ n * W → m / W ≡ n
 count-of W n m pos l = ap (λ (k : ℕ). k / W) l ∙ mul-div-cancel n pos

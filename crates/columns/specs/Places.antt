@@ -1,10 +1,12 @@
 -- Records and stored bytes that agree on some of the places: what holds in the middle of rearranging them.
 --     Placed W n recs stored r j      byte j of record r, of n, stands at its place of the columns
 --     Agree W n recs stored k w       so do the first w bytes of each of the first k records
+--     Block W n recs stored a e       the block of records from a to e is next: those before it are placed
+--     Begun W n recs stored a e j     and so are the first j bytes of each of its records
 -- Assumes nothing.
-use Prim.Native.Nat.{ℕ, _+_, _*_, _<_}
+use Prim.Native.Nat.{ℕ, _+_, _*_, _≤_, _<_}
 use mathlib.Core.Path.{_≡_}
-use lib.ListN.{getD}
+use lib.ListN.{length, getD}
 use Rattle.bhtf.specs.Bytes.{Bytes}
 
 abbrev pub Placed : ℕ → ℕ → Bytes → Bytes → ℕ → ℕ → Type 0
@@ -12,3 +14,13 @@ Placed W n recs stored r j = getD recs (r * W + j) 0 ≡ getD stored (1 + j * n 
 
 abbrev pub Agree : ℕ → ℕ → Bytes → Bytes → ℕ → ℕ → Type 0
 Agree W n recs stored k w = (r j : ℕ) → r < k → j < w → Placed W n recs stored r j
+
+pub record Block (W n : ℕ) (recs stored : Bytes) (a e : ℕ) : Type 0 where
+  pub records-length : length recs ≡ n * W
+  pub stored-length : length stored ≡ 1 + n * W
+  pub begin : a ≤ e
+  pub end : e ≤ n
+  pub placed : Agree W n recs stored a W
+
+abbrev pub Begun : ℕ → ℕ → Bytes → Bytes → ℕ → ℕ → ℕ → Type 0
+Begun W n recs stored a e j = Block W n recs stored a e × Agree W n recs stored e j
