@@ -46,6 +46,10 @@ pub two-read : records twoStored ≡ two
 unfolding column-definitions
 two-read = refl
 
+pub width-one-read : records (1 ∷ 10 ∷ 11 ∷ 12 ∷ []) ≡ 10 ∷ 11 ∷ 12 ∷ []
+unfolding column-definitions
+width-one-read = refl
+
 pub none-read : records (5 ∷ []) ≡ []
 unfolding column-definitions
 none-read = refl

@@ -10,8 +10,8 @@ ghost use Rattle.columns.specs.Places.{Block, Begun};
 
 const MOST_WIDTH: usize = 64;
 
-// Records in a block.
-const BLOCK: usize = 64;
+// Records in a block, of the widest 16 KiB.
+const BLOCK: usize = 256;
 
 // The width of the records that are stored, 0 where nothing is.
 pub fn width_of(stored: &[u8]) -> usize
