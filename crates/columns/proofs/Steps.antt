@@ -16,9 +16,19 @@ use lib.Seq.{getD-set-same, getD-set-other}
 use Rattle.bhtf.specs.Bytes.{Bytes}
 use Rattle.laws.proofs.Tests.{by-le}
 use Rattle.columns.specs.Columns.{widthOf, columns, records}
-use Rattle.columns.specs.Places.{Placed, Agree, Block, Begun}
+use Rattle.columns.specs.Places.{Placed, Agree, Sized, Block, Begun, Reached}
 use Rattle.columns.proofs.Grid.{place-below, same-row, same-byte}
 use Rattle.columns.proofs.Turned.{columns-only, records-only}
+
+-- ---- places
+
+pub record-place : {W n : ℕ} {recs stored : Bytes} (r j : ℕ) → Sized W n recs stored → r < n → j < W
+    → r * W + j < length recs
+record-place {W} {n} r j s p q = omega (arith, place-below n W r j p q)
+
+pub column-place : {W n : ℕ} {recs stored : Bytes} (r j : ℕ) → Sized W n recs stored → r < n → j < W
+    → 1 + j * n + r < length stored
+column-place {W} {n} r j s p q = omega (arith, place-below W n j r q p, mul-comm W n)
 
 -- ---- blocks
 
@@ -26,8 +36,7 @@ pub block-first : (W n : ℕ) (recs stored : Bytes) → length recs ≡ n * W �
     → Block W n recs stored 0 0
 block-first W n recs stored l m =
     record {
-      records-length = l;
-      stored-length = m;
+      sized = record { records-length = l; stored-length = m };
       begin = omega arith;
       end = omega arith;
       placed = λ r j p q. absurd (omega arith);
@@ -37,8 +46,7 @@ pub block-next : {W n : ℕ} {recs stored : Bytes} {a : ℕ} (e : ℕ) → Block
     → Block W n recs stored a e
 block-next e b p q =
     record {
-      records-length = b .records-length;
-      stored-length = b .stored-length;
+      sized = b .sized;
       begin = p;
       end = q;
       placed = b .placed;
@@ -48,8 +56,7 @@ pub block-done : {W n : ℕ} {recs stored : Bytes} {a e : ℕ} (j : ℕ) → Beg
     → Block W n recs stored e e
 block-done j (b, all) h =
     record {
-      records-length = b .records-length;
-      stored-length = b .stored-length;
+      sized = b .sized;
       begin = omega arith;
       end = b .end;
       placed = λ r k p q. all r k p (omega arith);
@@ -57,92 +64,135 @@ block-done j (b, all) h =
 
 -- ---- within a block
 
-pub record Reached (W n : ℕ) (recs stored : Bytes) (a e j r : ℕ) : Type 0 where
-  pub block : Block W n recs stored a e
-  pub wide : j < W
-  pub from : a ≤ r
-  pub upto : r ≤ e
-  pub left : Agree W n recs stored e j
-  pub this : Agree W n recs stored r (j + 1)
-
-pub reached-first : (W n : ℕ) (recs stored : Bytes) (a e j : ℕ) → Begun W n recs stored a e j → j < W
-    → Reached W n recs stored a e j a
-reached-first W n recs stored a e j (b, left) wide =
+pub reached-first : (W n : ℕ) (recs stored : Bytes) (a e j w : ℕ) → Begun W n recs stored a e j → j + w ≤ W
+    → Reached W n recs stored a e j w a
+reached-first W n recs stored a e j w b wide =
     record {
-      block = b;
+      begun = b;
       wide = wide;
       from = omega arith;
-      upto = b .begin;
-      left = left;
-      this = λ r k p q. b .placed r k p (omega arith);
+      upto = b .0 .begin;
+      this = λ r k p q. b .0 .placed r k p (omega arith);
     }
 
-pub reached-all : {W n : ℕ} {recs stored : Bytes} {a e j r : ℕ} → Reached W n recs stored a e j r → e ≤ r
-    → Begun W n recs stored a e (j + 1)
-reached-all s h = (s .block, λ i k p q. s .this i k (omega arith) q)
+pub reached-all : {W n : ℕ} {recs stored : Bytes} {a e j w r : ℕ} → Reached W n recs stored a e j w r → e ≤ r
+    → Begun W n recs stored a e (j + w)
+reached-all s h = (s .begun .0, λ i k p q. s .this i k (omega arith) q)
 
--- byte j of record r comes to its place, and what is placed stays so
-reached-more : (W n : ℕ) (recs stored recs′ stored′ : Bytes) (a e j r : ℕ) → Reached W n recs stored a e j r → r < e
-    → length recs′ ≡ length recs → length stored′ ≡ length stored → Placed W n recs′ stored′ r j
-    → ((i k : ℕ) → i < n → k < W → (i ≡ r → k ≡ j → ⊥) → Placed W n recs stored i k → Placed W n recs′ stored′ i k)
-    → Reached W n recs′ stored′ a e j (r + 1)
-reached-more W n recs stored recs′ stored′ a e j r s h lr ls here kept =
+-- of record r the bytes before byte c
+pub record Turn (W n : ℕ) (recs stored : Bytes) (a e j w r c : ℕ) : Type 0 where
+  pub reached : Reached W n recs stored a e j w r
+  pub within : r < e
+  pub row : Agree W n recs stored (r + 1) c
+
+pub turn-first : {W n : ℕ} {recs stored : Bytes} {a e j w r : ℕ} → Reached W n recs stored a e j w r → r < e
+    → Turn W n recs stored a e j w r j
+turn-first s h = record { reached = s; within = h; row = λ i k p q. s .begun .1 i k (omega arith) q }
+
+pub turn-last : {W n : ℕ} {recs stored : Bytes} {a e j w r c : ℕ} (r′ : ℕ) → Turn W n recs stored a e j w r c
+    → j + w ≤ c → r′ ≡ r + 1 → Reached W n recs stored a e j w r′
+turn-last r′ t l x =
     record {
-      block =
-          record {
-            records-length = lr ∙ s .block .records-length;
-            stored-length = ls ∙ s .block .stored-length;
-            begin = s .block .begin;
-            end = s .block .end;
-            placed = λ i k p q. kept i k (omega arith) q (λ x y. omega arith) (s .block .placed i k p q);
-          };
-      wide = s .wide;
+      begun = t .reached .begun;
+      wide = t .reached .wide;
       from = omega arith;
       upto = omega arith;
-      left = λ i k p q. kept i k (omega arith) (omega arith) (λ x y. omega arith) (s .left i k p q);
-      this =
-          λ i k p q.
-          by-le r i
-          (λ x.
-          by-le j k
-          (λ y.
-          let row : r ≡ i = omega arith in
-          let byte : j ≡ k = omega arith in
-          rw (← row, ← byte) here)
-          (λ y. kept i k (omega arith) (omega arith) (λ u v. omega arith) (s .left i k (omega arith) y)))
-          (λ x. kept i k (omega arith) (omega arith) (λ u v. omega arith) (s .this i k x q));
+      this = λ i k p q. t .row i k (omega arith) (omega arith);
     }
 
-module _ (W n : ℕ) (recs stored : Bytes) (a e j r : ℕ) (s : Reached W n recs stored a e j r) (h : r < e) where
-  pub record-at : r * W + j < length recs
-  record-at = omega (arith, place-below n W r j (omega arith) (s .wide))
+-- byte c of record r comes to its place, and what is placed stays so
+turn-more : (W n : ℕ) (recs stored recs′ stored′ : Bytes) (a e j w r c : ℕ) → Turn W n recs stored a e j w r c
+    → j ≤ c → c < j + w → length recs′ ≡ length recs → length stored′ ≡ length stored → Placed W n recs′ stored′ r c
+    → ((i k : ℕ) → i < n → k < W → (i ≡ r → k ≡ c → ⊥) → Placed W n recs stored i k → Placed W n recs′ stored′ i k)
+    → Turn W n recs′ stored′ a e j w r (c + 1)
+turn-more W n recs stored recs′ stored′ a e j w r c t lo hi lr ls here kept =
+    let s = t .reached in
+    let b = s .begun .0 in
+    let next : Block W n recs′ stored′ a e =
+    record {
+      sized =
+          record {
+            records-length = lr ∙ b .sized .records-length;
+            stored-length = ls ∙ b .sized .stored-length;
+          };
+      begin = b .begin;
+      end = b .end;
+      placed = λ i k p q. kept i k (omega arith) q (λ x y. omega arith) (b .placed i k p q);
+    }
+    in
+    record {
+      reached =
+          record {
+            begun = (next, λ i k p q. kept i k (omega arith) (omega arith) (λ x y. omega arith) (s .begun .1 i k p q));
+            wide = s .wide;
+            from = s .from;
+            upto = s .upto;
+            this = λ i k p q. kept i k (omega arith) (omega arith) (λ x y. omega arith) (s .this i k p q);
+          };
+      within = t .within;
+      row =
+          λ i k p q.
+          by-le c k
+          (λ x.
+          by-le r i
+          (λ y.
+          let record′ : r ≡ i = omega arith in
+          let byte : c ≡ k = omega arith in
+          rw (← record′, ← byte) here)
+          (λ y. kept i k (omega arith) (omega arith) (λ u v. omega arith) (s .this i k y (omega arith))))
+          (λ x. kept i k (omega arith) (omega arith) (λ u v. omega arith) (t .row i k p x));
+    }
 
-  pub column-at : 1 + j * n + r < length stored
-  column-at = omega (arith, place-below W n j r (s .wide) (omega arith), mul-comm W n)
-
-  pub written-more : Reached W n recs (set stored (1 + j * n + r) (getD recs (r * W + j) 0)) a e j (r + 1)
+module _ (W n : ℕ) (recs stored : Bytes) (a e j w r c : ℕ) (t : Turn W n recs stored a e j w r c) (lo : j ≤ c)
+    (hi : c < j + w) where
+  -- the byte written to the columns
+  pub written-more : Turn W n recs (set stored (1 + c * n + r) (getD recs (r * W + c) 0)) a e j w r (c + 1)
   written-more =
-      let b : ℕ = getD recs (r * W + j) 0 in
-      reached-more W n recs stored recs (set stored (1 + j * n + r) b) a e j r s h
-      refl (length-set stored (1 + j * n + r) b)
-      (sym (getD-set-same stored (1 + j * n + r) b 0 column-at))
+      let at : ℕ = 1 + c * n + r in
+      let b : ℕ = getD recs (r * W + c) 0 in
+      let z : r < n = omega arith in
+      turn-more W n recs stored recs (set stored at b) a e j w r c t lo hi refl (length-set stored at b)
+      (sym (getD-set-same stored at b 0 (column-place r c (t .reached .begun .0 .sized) z (omega arith))))
       (λ i k p q other placed.
       placed ∙ sym
-      (getD-set-other stored (1 + j * n + r) (1 + k * n + i) b 0
+      (getD-set-other stored at (1 + k * n + i) b 0
       (λ x.
-      let y : k * n + i ≡ j * n + r = omega arith in
-      let z : r < n = omega arith in
-      other (same-byte n k i j r p z y) (same-row n k i j r p z y))))
+      let y : k * n + i ≡ c * n + r = omega arith in
+      other (same-byte n k i c r p z y) (same-row n k i c r p z y))))
 
-  pub read-more : Reached W n (set recs (r * W + j) (getD stored (1 + j * n + r) 0)) stored a e j (r + 1)
+  -- the byte read from them
+  pub read-more : Turn W n (set recs (r * W + c) (getD stored (1 + c * n + r) 0)) stored a e j w r (c + 1)
   read-more =
-      let b : ℕ = getD stored (1 + j * n + r) 0 in
-      reached-more W n recs stored (set recs (r * W + j) b) stored a e j r s h
-      (length-set recs (r * W + j) b) refl
-      (getD-set-same recs (r * W + j) b 0 record-at)
+      let at : ℕ = r * W + c in
+      let b : ℕ = getD stored (1 + c * n + r) 0 in
+      let z : c < W = omega arith in
+      turn-more W n recs stored (set recs at b) stored a e j w r c t lo hi (length-set recs at b) refl
+      (getD-set-same recs at b 0 (record-place r c (t .reached .begun .0 .sized) (omega arith) z))
       (λ i k p q other placed.
-      getD-set-other recs (r * W + j) (i * W + k) b 0
-      (λ x. other (same-row W i k r j q (s .wide) x) (same-byte W i k r j q (s .wide) x)) ∙ placed)
+      getD-set-other recs at (i * W + k) b 0
+      (λ x. other (same-row W i k r c q z x) (same-byte W i k r c q z x)) ∙ placed)
+
+-- one more byte of record r, as the code leaves it
+pub read-next : {W n : ℕ} {recs stored : Bytes} {a e j w r c : ℕ} (c′ : ℕ) → Turn W n recs stored a e j w r c → j ≤ c
+    → c < j + w → c′ ≡ c + 1 → (recs′ : Bytes) → recs′ ≡ set recs (r * W + c) (getD stored (1 + c * n + r) 0)
+    → Turn W n recs′ stored a e j w r c′
+read-next c′ t lo hi x recs′ y = rw (y, x) (read-more _ _ _ _ _ _ _ _ _ _ t lo hi)
+
+-- ---- a turn of one byte
+
+module _ {W n : ℕ} {recs stored : Bytes} {a e j r : ℕ} (r′ : ℕ) (s : Reached W n recs stored a e j 1 r) (h : r < e)
+    (x : r′ ≡ r + 1) where
+  pub written-one : (stored′ : Bytes) → stored′ ≡ set stored (1 + j * n + r) (getD recs (r * W + j) 0)
+      → Reached W n recs stored′ a e j 1 r′
+  written-one stored′ y =
+      rw y
+      (turn-last r′ (written-more W n recs stored a e j 1 r j (turn-first s h) (omega arith) (omega arith)) (omega arith) x)
+
+  pub read-one : (recs′ : Bytes) → recs′ ≡ set recs (r * W + j) (getD stored (1 + j * n + r) 0)
+      → Reached W n recs′ stored a e j 1 r′
+  read-one recs′ y =
+      rw y
+      (turn-last r′ (read-more W n recs stored a e j 1 r j (turn-first s h) (omega arith) (omega arith)) (omega arith) x)
 
 -- ---- all records placed
 
@@ -151,8 +201,8 @@ pub written-all : (W n : ℕ) (recs stored : Bytes) (a : ℕ) → Block W n recs
 unfolding widthOf
 written-all W n recs stored a b h pos =
     sym
-    (columns-only W n recs (set stored 0 W) (getD-set-same stored 0 W 0 (omega (arith, b .stored-length))) pos
-    (b .records-length) (length-set stored 0 W ∙ b .stored-length)
+    (columns-only W n recs (set stored 0 W) (getD-set-same stored 0 W 0 (omega (arith, b .sized .stored-length))) pos
+    (b .sized .records-length) (length-set stored 0 W ∙ b .sized .stored-length)
     (λ r j p q.
     b .placed r j (omega arith) q ∙ sym (getD-set-other stored 0 (1 + j * n + r) W 0 (λ x. omega arith))))
 
@@ -160,5 +210,5 @@ pub read-all : (W n : ℕ) (recs stored : Bytes) (a : ℕ) → Block W n recs st
     → 0 < W → recs ≡ records stored
 read-all W n recs stored a b h first pos =
     sym
-    (records-only W n recs stored first pos (b .records-length) (b .stored-length)
+    (records-only W n recs stored first pos (b .sized .records-length) (b .sized .stored-length)
     (λ r j p q. b .placed r j (omega arith) q))

@@ -3,10 +3,10 @@
 // too far apart for the cache, and so do the columns that one record's bytes go to.
 ghost use mathlib.Core.Bool.{true};
 ghost use mathlib.Core.Path.{_≡_};
-ghost use lib.ListN.{length};
+ghost use lib.ListN.{length, getD, set};
 ghost use Prim.Native.Nat.{_+_, _*_, _≤_, _<_};
 ghost use Rattle.columns.specs.Columns.{mostWidth, widthOf, wholeRecords, wholeColumns, columns, records};
-ghost use Rattle.columns.specs.Places.{Block, Begun};
+ghost use Rattle.columns.specs.Places.{Sized, Block, Begun, Reached};
 
 const MOST_WIDTH: usize = 64;
 
@@ -55,14 +55,48 @@ fn block_end(a: usize, n: usize) -> usize
     a + BLOCK
 }
 
+// Puts byte j of record r at its place of the columns.
+fn write_byte(space: &mut [u8], records: &[u8], width: usize, n: usize, r: usize, j: usize)
+    requires { ⌜ Sized width n (now records) (now space) × (r < n) × (j < width) ⌝ }
+    ensures { λ _.
+        let byte = getD (now (records .entry)) (r * width + j) 0 in
+        ⌜ now (space .exit) ≡ set (now (space .entry)) (1 + j * n + r) byte ⌝ }
+{
+    space[1 + j * n + r] = records[r * width + j];
+}
+
+// Puts byte j of records from a on, four by four, at its places of the columns; answers the record behind them.
+fn write_fours(
+    space: &mut [u8],
+    records: &[u8],
+    width: usize,
+    n: usize,
+    a: usize,
+    e: usize,
+    j: usize,
+) -> usize
+    requires { ⌜ (j < width) × Begun width n (now records) (now space) a e j ⌝ }
+    ensures { λ r. ⌜ Reached width n (now (records .entry)) (now (space .exit)) a e j 1 r ⌝ }
+{
+    let mut r = a;
+    while 4 <= e - r {
+        write_byte(space, records, width, n, r, j);
+        write_byte(space, records, width, n, r + 1, j);
+        write_byte(space, records, width, n, r + 2, j);
+        write_byte(space, records, width, n, r + 3, j);
+        r += 4;
+    }
+    r
+}
+
 // Puts byte j of the records from a to e at its places of the columns, where the bytes before it are.
 fn write_run(space: &mut [u8], records: &[u8], width: usize, n: usize, a: usize, e: usize, j: usize)
     requires { ⌜ (j < width) × Begun width n (now records) (now space) a e j ⌝ }
     ensures { λ _. ⌜ Begun width n (now (records .entry)) (now (space .exit)) a e (j + 1) ⌝ }
 {
-    let mut r = a;
+    let mut r = write_fours(space, records, width, n, a, e, j);
     while r < e {
-        space[1 + j * n + r] = records[r * width + j];
+        write_byte(space, records, width, n, r, j);
         r += 1;
     }
 }
@@ -94,16 +128,54 @@ pub fn write_columns(space: &mut [u8], records: &[u8], width: usize)
     space[0] = width as u8;
 }
 
-// Puts byte j of the records from a to e at its places of the records, where the bytes before it are.
-fn read_run(out: &mut [u8], stored: &[u8], width: usize, n: usize, a: usize, e: usize, j: usize)
+// Puts byte j of record r at its place of the records.
+fn read_byte(out: &mut [u8], stored: &[u8], width: usize, n: usize, r: usize, j: usize)
+    requires { ⌜ Sized width n (now out) (now stored) × (r < n) × (j < width) ⌝ }
+    ensures { λ _.
+        let byte = getD (now (stored .entry)) (1 + j * n + r) 0 in
+        ⌜ now (out .exit) ≡ set (now (out .entry)) (r * width + j) byte ⌝ }
+{
+    out[r * width + j] = stored[1 + j * n + r];
+}
+
+// Puts four bytes, from byte j on, of the records from a to e at their places, where the bytes before them are.
+fn read_four(out: &mut [u8], stored: &[u8], width: usize, n: usize, a: usize, e: usize, j: usize)
+    requires { ⌜ (j + 4 ≤ width) × Begun width n (now out) (now stored) a e j ⌝ }
+    ensures { λ _. ⌜ Begun width n (now (out .exit)) (now (stored .entry)) a e (j + 4) ⌝ }
+{
+    let mut r = a;
+    while r < e {
+        read_byte(out, stored, width, n, r, j);
+        read_byte(out, stored, width, n, r, j + 1);
+        read_byte(out, stored, width, n, r, j + 2);
+        read_byte(out, stored, width, n, r, j + 3);
+        r += 1;
+    }
+}
+
+// Puts byte j of the records from a to e at its places, where the bytes before it are.
+fn read_one(out: &mut [u8], stored: &[u8], width: usize, n: usize, a: usize, e: usize, j: usize)
     requires { ⌜ (j < width) × Begun width n (now out) (now stored) a e j ⌝ }
     ensures { λ _. ⌜ Begun width n (now (out .exit)) (now (stored .entry)) a e (j + 1) ⌝ }
 {
     let mut r = a;
     while r < e {
-        out[r * width + j] = stored[1 + j * n + r];
+        read_byte(out, stored, width, n, r, j);
         r += 1;
     }
+}
+
+// Puts bytes of the records from a to e, four by four, at their places; answers the byte behind them.
+fn read_fours(out: &mut [u8], stored: &[u8], width: usize, n: usize, a: usize, e: usize) -> usize
+    requires { ⌜ Block width n (now out) (now stored) a e ⌝ }
+    ensures { λ j. ⌜ (j ≤ width) × Begun width n (now (out .exit)) (now (stored .entry)) a e j ⌝ }
+{
+    let mut j = 0;
+    while 4 <= width - j {
+        read_four(out, stored, width, n, a, e, j);
+        j += 4;
+    }
+    j
 }
 
 // Puts the records from a to e at their places, where those before them are.
@@ -111,9 +183,9 @@ fn read_block(out: &mut [u8], stored: &[u8], width: usize, n: usize, a: usize, e
     requires { ⌜ Block width n (now out) (now stored) a e ⌝ }
     ensures { λ _. ⌜ Block width n (now (out .exit)) (now (stored .entry)) e e ⌝ }
 {
-    let mut j = 0;
+    let mut j = read_fours(out, stored, width, n, a, e);
     while j < width {
-        read_run(out, stored, width, n, a, e, j);
+        read_one(out, stored, width, n, a, e, j);
         j += 1;
     }
 }

@@ -7,17 +7,19 @@ use Rattle.columns.proofs.read_block.Statement.{statement}
 use Rattle.columns.proofs.read_block.Tie as tie
 
 abbrev Inv-loop : tie.InvT-loop
-Inv-loop out₀ stored width n a e j₀ out j =
-    Begun width n out stored a e j × (j ≤ width)
+Inv-loop out₀ stored width n a e j₀ out j = (j ≤ width) × Begun width n out stored a e j
 
 abbrev μ-loop : tie.MeasureT-loop
 μ-loop out₀ stored width n a e j₀ out j = width - j
 
-loop-holds : tie.Need-loop-holds Inv-loop μ-loop
-loop-holds c = ((c .before .before .pre, λ r j p q. absurd (omega arith)), omega arith)
+read-fours-requires : tie.Need-read-fours-requires Inv-loop μ-loop
+read-fours-requires c κs = c .before .before .before .pre
 
-read-run-requires : tie.Need-read-run-requires Inv-loop μ-loop
-read-run-requires c κs = (omega arith, c .before .before .loop .inv .0)
+loop-holds : tie.Need-loop-holds Inv-loop μ-loop
+loop-holds c = c .before .before .read-fours .ensures
+
+read-one-requires : tie.Need-read-one-requires Inv-loop μ-loop
+read-one-requires c κs = (omega arith, c .before .before .loop .inv .1)
 
 add-j : tie.Need-add-j Inv-loop μ-loop
 add-j c = omega arith
@@ -26,15 +28,25 @@ loop-less : tie.Need-loop-less Inv-loop μ-loop
 loop-less c = omega arith
 
 loop-again : tie.Need-loop-again Inv-loop μ-loop
-loop-again c = (c .before .before .read-run .ensures, omega arith)
+loop-again c = (omega arith, c .before .before .read-one .ensures)
 
 same-length : tie.Need-same-length Inv-loop μ-loop
-same-length c = omega (arith, c .before .loop .inv .0 .0 .stored-length)
+same-length c = omega (arith, c .before .loop .inv .1 .0 .sized .records-length)
 
 returns : tie.Need-returns Inv-loop μ-loop
-returns c = block-done _ (c .before .loop .inv .0) (omega arith)
+returns c = block-done _ (c .before .loop .inv .1) (omega arith)
 
 pub read-block-spec : {M : Type 1} → statement M
 read-block-spec =
     tie.close
-    (tie.spec Inv-loop μ-loop loop-holds read-run-requires add-j loop-less loop-again same-length returns)
+    (tie.spec
+    Inv-loop
+    μ-loop
+    read-fours-requires
+    loop-holds
+    read-one-requires
+    add-j
+    loop-less
+    loop-again
+    same-length
+    returns)

@@ -51,7 +51,7 @@ loop-again c = c .before .before .read-block .ensures
 same-length : tie.Need-same-length Inv-loop μ-loop
 same-length c =
     let l = whole-count _ _ (whole (c .before .before)) in
-    omega (arith, c .before .loop .inv .records-length)
+    omega (arith, c .before .loop .inv .sized .records-length)
 
 returns : tie.Need-returns Inv-loop μ-loop
 returns c =

@@ -29,7 +29,7 @@ loop-again : tie.Need-loop-again Inv-loop μ-loop
 loop-again c = (c .before .before .write-run .ensures, omega arith)
 
 same-length : tie.Need-same-length Inv-loop μ-loop
-same-length c = omega (arith, c .before .loop .inv .0 .0 .stored-length)
+same-length c = omega (arith, c .before .loop .inv .0 .0 .sized .stored-length)
 
 returns : tie.Need-returns Inv-loop μ-loop
 returns c = block-done _ (c .before .loop .inv .0) (omega arith)

@@ -40,13 +40,13 @@ cast-space : tie.Need-cast-space Inv-loop μ-loop
 cast-space c = omega (arith, whole-width _ _ (c .before .before .before .before .pre .0) .1)
 
 slice-write-space : tie.Need-slice-write-space Inv-loop μ-loop
-slice-write-space c = omega (arith, c .before .loop .inv .stored-length)
+slice-write-space c = omega (arith, c .before .loop .inv .sized .stored-length)
 
 same-length : tie.Need-same-length Inv-loop μ-loop
 same-length c =
     let S = c .before .before .before .before in
     let l = whole-count _ _ (S .pre .0) in
-    length-set (c .before .loop .space) 0 _ ∙ omega (arith, c .before .loop .inv .stored-length)
+    length-set (c .before .loop .space) 0 _ ∙ omega (arith, c .before .loop .inv .sized .stored-length)
 
 returns : tie.Need-returns Inv-loop μ-loop
 returns c =

@@ -1,54 +1,27 @@
 -- After each turn byte j of the records from a up to r stands at its places, and so does all that did before.
 -- Assumes nothing.
-use Prim.Native.Nat.{ℕ, _+_, _-_, _*_, _≤_, _<_}
+use Prim.Native.Nat.{_-_}
 use native.Mathlib.Omega.{arith}
-use mathlib.Core.Path.{_≡_, refl, _∙_}
-use lib.ListN.{length, getD, length-set}
-use borrow.Author.Needs.{needs}
-use Rattle.columns.proofs.Steps as steps
+use mathlib.Core.Path.{refl}
+use Rattle.columns.specs.Places.{Reached}
+use Rattle.columns.proofs.Steps.{reached-all, written-one}
 use Rattle.columns.proofs.write_run.Statement.{statement}
 use Rattle.columns.proofs.write_run.Tie as tie
 
 abbrev Inv-loop : tie.InvT-loop
-Inv-loop space₀ records width n a e j r₀ space r =
-    steps.Reached width n records space a e j r
+Inv-loop space₀ records width n a e j r₀ space r = Reached width n records space a e j 1 r
 
 abbrev μ-loop : tie.MeasureT-loop
 μ-loop space₀ records width n a e j r₀ space r = e - r
 
+write-fours-requires : tie.Need-write-fours-requires Inv-loop μ-loop
+write-fours-requires c κs = c .before .before .before .pre
+
 loop-holds : tie.Need-loop-holds Inv-loop μ-loop
-loop-holds c = steps.reached-first _ _ _ _ _ _ _ (c .pre .1) (c .pre .0)
+loop-holds c = c .before .before .write-fours .ensures
 
--- the places of byte j of record r
-module _ (c : tie.In-loop Inv-loop μ-loop) where
-  record-at : let S = c .before .before in
-      c .before .loop .r * S .args .width + S .args .j < length (S .args .records .now)
-  record-at = steps.record-at _ _ _ _ _ _ _ _ (c .before .loop .inv) (omega arith)
-
-  column-at : let S = c .before .before in
-      1 + S .args .j * S .args .n + c .before .loop .r < length (c .before .loop .space)
-  column-at = steps.column-at _ _ _ _ _ _ _ _ (c .before .loop .inv) (omega arith)
-
-mul-space : tie.Need-mul-space Inv-loop μ-loop
-mul-space c = omega (arith, record-at c)
-
-add-space : tie.Need-add-space Inv-loop μ-loop
-add-space c = omega (arith, record-at c)
-
-shared-slice-read-space : tie.Need-shared-slice-read-space Inv-loop μ-loop
-shared-slice-read-space c = record-at (c .before)
-
-mul-space-2 : tie.Need-mul-space-2 Inv-loop μ-loop
-mul-space-2 c = omega (arith, column-at (c .before))
-
-add-space-2 : tie.Need-add-space-2 Inv-loop μ-loop
-add-space-2 c = omega (arith, column-at (c .before))
-
-add-space-3 : tie.Need-add-space-3 Inv-loop μ-loop
-add-space-3 c = omega (arith, column-at (c .before))
-
-slice-write-space : tie.Need-slice-write-space Inv-loop μ-loop
-slice-write-space c = column-at (c .before)
+write-byte-requires : tie.Need-write-byte-requires Inv-loop μ-loop
+write-byte-requires c κs = (c .before .before .loop .inv .begun .0 .sized, omega arith, omega arith)
 
 add-r : tie.Need-add-r Inv-loop μ-loop
 add-r c = omega arith
@@ -57,13 +30,15 @@ loop-less : tie.Need-loop-less Inv-loop μ-loop
 loop-less c = omega arith
 
 loop-again : tie.Need-loop-again Inv-loop μ-loop
-loop-again c = steps.written-more _ _ _ _ _ _ _ _ (c .before .before .loop .inv) (omega arith)
+loop-again c =
+    let B = c .before .before in
+    written-one _ (B .before .before .before .loop .inv) (omega arith) refl _ (B .write-byte .ensures)
 
 same-length : tie.Need-same-length Inv-loop μ-loop
-same-length c = omega arith
+same-length c = omega (arith, c .before .loop .inv .begun .0 .sized .stored-length)
 
 returns : tie.Need-returns Inv-loop μ-loop
-returns c = steps.reached-all (c .before .loop .inv) (omega arith)
+returns c = reached-all (c .before .loop .inv) (omega arith)
 
 pub write-run-spec : {M : Type 1} → statement M
 write-run-spec =
@@ -71,14 +46,9 @@ write-run-spec =
     (tie.spec
     Inv-loop
     μ-loop
+    write-fours-requires
     loop-holds
-    mul-space
-    add-space
-    shared-slice-read-space
-    mul-space-2
-    add-space-2
-    add-space-3
-    slice-write-space
+    write-byte-requires
     add-r
     loop-less
     loop-again
