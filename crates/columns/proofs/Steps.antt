@@ -1,11 +1,11 @@
--- One byte more at its place. The bytes of a block of records, from a to e, are placed column by column; each place is
--- written once, and the bytes that are placed stay so.
---     block-first, block-next, block-done  no record placed; the next block; all its records placed
---     Reached W n recs stored a e j r      byte j is placed of the block's records before r, and all before it
---     reached-first, reached-all           where r is a, and where it is e
---     record-at, column-at                 the places of byte j of record r are within the bytes
---     written-more, read-more              that byte written to the columns, or read from them
---     written-all, read-all                all records placed
+-- One byte more at its place. Each place is written once, and the bytes that are placed stay so.
+--     record-place, column-place             the places of a byte are within the bytes
+--     block-first, block-next, block-done    no record placed; the next block; all its records placed
+--     reached-first, reached-all             of a block's records none; all
+--     Turn, turn-first, turn-last            of the w bytes of one record those before byte c: none of them; all
+--     written-more, read-more, read-next     byte c written to the columns, or read from them
+--     written-one, read-one                  the same where w is 1
+--     written-all, read-all                  all records placed
 -- Assumes nothing.
 use Prim.Native.Nat.{ℕ, _+_, _*_, _≤_, _<_}
 use native.Mathlib.Nat.{mul-comm}
@@ -185,14 +185,14 @@ module _ {W n : ℕ} {recs stored : Bytes} {a e j r : ℕ} (r′ : ℕ) (s : Rea
   pub written-one : (stored′ : Bytes) → stored′ ≡ set stored (1 + j * n + r) (getD recs (r * W + j) 0)
       → Reached W n recs stored′ a e j 1 r′
   written-one stored′ y =
-      rw y
-      (turn-last r′ (written-more W n recs stored a e j 1 r j (turn-first s h) (omega arith) (omega arith)) (omega arith) x)
+      let t = written-more W n recs stored a e j 1 r j (turn-first s h) (omega arith) (omega arith) in
+      rw y (turn-last r′ t (omega arith) x)
 
   pub read-one : (recs′ : Bytes) → recs′ ≡ set recs (r * W + j) (getD stored (1 + j * n + r) 0)
       → Reached W n recs′ stored a e j 1 r′
   read-one recs′ y =
-      rw y
-      (turn-last r′ (read-more W n recs stored a e j 1 r j (turn-first s h) (omega arith) (omega arith)) (omega arith) x)
+      let t = read-more W n recs stored a e j 1 r j (turn-first s h) (omega arith) (omega arith) in
+      rw y (turn-last r′ t (omega arith) x)
 
 -- ---- all records placed
 

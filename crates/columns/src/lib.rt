@@ -1,11 +1,12 @@
 // Records by column: the bytes that are stored of records of W bytes, and the records read from them. Both go by blocks
 // of records, column by column within a block: over all records at once, the bytes of one column of wide records lie
-// too far apart for the cache, and so do the columns that one record's bytes go to.
+// too far apart for the cache, and so do the columns that one record's bytes go to. A turn moves four bytes to adjacent
+// places: in writing those of four records, in reading those of one.
 ghost use mathlib.Core.Bool.{true};
 ghost use mathlib.Core.Path.{_≡_};
 ghost use lib.ListN.{length, getD, set};
 ghost use Prim.Native.Nat.{_+_, _*_, _≤_, _<_};
-ghost use Rattle.columns.specs.Columns.{mostWidth, widthOf, wholeRecords, wholeColumns, columns, records};
+ghost use Rattle.columns.specs.Columns.{widthOf, wholeRecords, wholeColumns, columns, records};
 ghost use Rattle.columns.specs.Places.{Sized, Block, Begun, Reached};
 
 const MOST_WIDTH: usize = 64;
@@ -94,10 +95,10 @@ fn write_run(space: &mut [u8], records: &[u8], width: usize, n: usize, a: usize,
     requires { ⌜ (j < width) × Begun width n (now records) (now space) a e j ⌝ }
     ensures { λ _. ⌜ Begun width n (now (records .entry)) (now (space .exit)) a e (j + 1) ⌝ }
 {
-    let mut r = write_fours(space, records, width, n, a, e, j);
-    while r < e {
-        write_byte(space, records, width, n, r, j);
-        r += 1;
+    let mut rest = write_fours(space, records, width, n, a, e, j);
+    while rest < e {
+        write_byte(space, records, width, n, rest, j);
+        rest += 1;
     }
 }
 
@@ -183,10 +184,10 @@ fn read_block(out: &mut [u8], stored: &[u8], width: usize, n: usize, a: usize, e
     requires { ⌜ Block width n (now out) (now stored) a e ⌝ }
     ensures { λ _. ⌜ Block width n (now (out .exit)) (now (stored .entry)) e e ⌝ }
 {
-    let mut j = read_fours(out, stored, width, n, a, e);
-    while j < width {
-        read_one(out, stored, width, n, a, e, j);
-        j += 1;
+    let mut rest = read_fours(out, stored, width, n, a, e);
+    while rest < width {
+        read_one(out, stored, width, n, a, e, rest);
+        rest += 1;
     }
 }
 

@@ -1,4 +1,4 @@
--- After each turn the first j bytes of the block's records are placed. Assumes nothing.
+-- After each turn the bytes before the rest are placed, of each of the block's records. Assumes nothing.
 use Prim.Native.Nat.{_-_, _≤_}
 use native.Mathlib.Omega.{arith}
 use Rattle.columns.specs.Places.{Begun}
@@ -7,10 +7,10 @@ use Rattle.columns.proofs.read_block.Statement.{statement}
 use Rattle.columns.proofs.read_block.Tie as tie
 
 abbrev Inv-loop : tie.InvT-loop
-Inv-loop out₀ stored width n a e j₀ out j = (j ≤ width) × Begun width n out stored a e j
+Inv-loop out₀ stored width n a e rest₀ out rest = (rest ≤ width) × Begun width n out stored a e rest
 
 abbrev μ-loop : tie.MeasureT-loop
-μ-loop out₀ stored width n a e j₀ out j = width - j
+μ-loop out₀ stored width n a e rest₀ out rest = width - rest
 
 read-fours-requires : tie.Need-read-fours-requires Inv-loop μ-loop
 read-fours-requires c κs = c .before .before .before .pre
@@ -21,8 +21,8 @@ loop-holds c = c .before .before .read-fours .ensures
 read-one-requires : tie.Need-read-one-requires Inv-loop μ-loop
 read-one-requires c κs = (omega arith, c .before .before .loop .inv .1)
 
-add-j : tie.Need-add-j Inv-loop μ-loop
-add-j c = omega arith
+add-rest : tie.Need-add-rest Inv-loop μ-loop
+add-rest c = omega arith
 
 loop-less : tie.Need-loop-less Inv-loop μ-loop
 loop-less c = omega arith
@@ -45,7 +45,7 @@ read-block-spec =
     read-fours-requires
     loop-holds
     read-one-requires
-    add-j
+    add-rest
     loop-less
     loop-again
     same-length

@@ -1,4 +1,4 @@
--- After each turn byte j of the records from a up to r stands at its places, and so does all that did before.
+-- After each turn byte j of the records from a up to the rest stands at its places, and so does all that did before.
 -- Assumes nothing.
 use Prim.Native.Nat.{_-_}
 use native.Mathlib.Omega.{arith}
@@ -9,10 +9,10 @@ use Rattle.columns.proofs.write_run.Statement.{statement}
 use Rattle.columns.proofs.write_run.Tie as tie
 
 abbrev Inv-loop : tie.InvT-loop
-Inv-loop space₀ records width n a e j r₀ space r = Reached width n records space a e j 1 r
+Inv-loop space₀ records width n a e j rest₀ space rest = Reached width n records space a e j 1 rest
 
 abbrev μ-loop : tie.MeasureT-loop
-μ-loop space₀ records width n a e j r₀ space r = e - r
+μ-loop space₀ records width n a e j rest₀ space rest = e - rest
 
 write-fours-requires : tie.Need-write-fours-requires Inv-loop μ-loop
 write-fours-requires c κs = c .before .before .before .pre
@@ -23,8 +23,8 @@ loop-holds c = c .before .before .write-fours .ensures
 write-byte-requires : tie.Need-write-byte-requires Inv-loop μ-loop
 write-byte-requires c κs = (c .before .before .loop .inv .begun .0 .sized, omega arith, omega arith)
 
-add-r : tie.Need-add-r Inv-loop μ-loop
-add-r c = omega arith
+add-rest : tie.Need-add-rest Inv-loop μ-loop
+add-rest c = omega arith
 
 loop-less : tie.Need-loop-less Inv-loop μ-loop
 loop-less c = omega arith
@@ -49,7 +49,7 @@ write-run-spec =
     write-fours-requires
     loop-holds
     write-byte-requires
-    add-r
+    add-rest
     loop-less
     loop-again
     same-length
