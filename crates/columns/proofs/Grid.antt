@@ -1,12 +1,14 @@
 -- Lists of m rows of n bytes: byte k of row i stands at i * n + k.
---     place-below, place-apart      such a place is within the list; no two bytes share one
---     byte-rows, length-rows        of rows that are written out one behind the other
---     rows-equal                    two lists are equal where each byte of each row is
+--     place-below                      such a place is within the list
+--     same-row, same-byte              no two bytes share a place
+--     length-tabulate, byte-tabulate   of a row, by its places
+--     length-rows, byte-rows           of rows that are written out one behind the other
+--     rows-equal                       two lists are equal where each byte of each row is
 -- Assumes nothing.
 use Prim.Native.Nat.{ℕ, zero, suc, _+_, _*_, _/_, _%_, _≤_, _<_}
 use native.Mathlib.Nat.{zero-mul, mul-zero, suc-mul, mul-le-mul-right, div-add-mod', div-lt-iff-lt-mul, mod-lt}
 use native.Mathlib.Omega.{arith}
-use mathlib.Core.List.{[], _∷_, _++_}
+use mathlib.Core.List.{_++_}
 use mathlib.Core.Path.{_≡_, refl, sym, ap, _∙_}
 use lib.ListN.{length, getD, length-append, List·getD-append}
 use lib.Seq.{ext-getD, getD-append-add}

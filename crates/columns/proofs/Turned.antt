@@ -1,15 +1,17 @@
 -- Columns and records byte by byte, and each after the other: "reading after storing gives the records, and
 -- rearranging what was read gives the stored bytes".
---     whole-width, whole-count      what the test of 19 says
---     length-columns, byte-columns, columns-only      what is stored: its length, its bytes, and that nothing else
---     length-records, byte-records, records-only      has these; the same of what is read
---     records-columns, columns-records     each after the other, for every W from 1 on
+--     whole-width, whole-count, whole-stored, whole-read     what the test of 19 says; nothing-stored
+--     length-columns, width-columns, byte-columns      what is stored: its length, its first byte, the others
+--     length-records, byte-records                     the same of what is read
+--     columns-only, records-only      nothing else has these bytes
+--     records-columns, columns-records      each after the other, for every W from 1 on
+--     read-stored, stored-read        the same of what passes the test, which then passes it too
 -- Assumes nothing.
 use Prim.Native.Nat.{ℕ, suc, _+_, _-_, _*_, _/_, _%_, _≤_, _<_}
-use native.Mathlib.Nat.{div-add-mod', mul-comm, mul-div-cancel, mul-mod-left}
+use native.Mathlib.Nat.{div-add-mod', mul-comm, mul-div-cancel}
 use native.Mathlib.Omega.{arith}
 use mathlib.Core.Bool.{true, false, _&&_}
-use mathlib.Core.List.{[], _∷_, _++_}
+use mathlib.Core.List.{[], _∷_}
 use mathlib.Core.Path.{_≡_, refl, sym, ap, ap₂, _∙_}
 use lib.ListN.{length, getD, drop, length-drop}
 use lib.Seq.{drop-cons, getD-drop}

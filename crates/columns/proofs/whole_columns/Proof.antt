@@ -1,10 +1,10 @@
 -- Where nothing is stored, the width is 0. Assumes nothing.
 use Prim.Native.Nat.{ℕ, _-_}
 use native.Mathlib.Omega.{arith}
-use mathlib.Core.Path.{_≡_, sym, ap, _∙_}
+use mathlib.Core.Path.{sym, ap, _∙_}
 use lib.ListN.{length}
 use borrow.Author.Needs.{needs}
-use Rattle.columns.specs.Columns.{widthOf, wholeRecords, wholeColumns}
+use Rattle.columns.specs.Columns.{wholeRecords, wholeColumns}
 use Rattle.columns.proofs.Turned.{nothing-stored}
 use Rattle.columns.proofs.whole_columns.Statement.{statement}
 use Rattle.columns.proofs.whole_columns.Tie as tie

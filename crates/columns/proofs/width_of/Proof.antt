@@ -1,8 +1,7 @@
 -- Where nothing is stored, no byte stands at 0. Assumes nothing.
 use native.Mathlib.Omega.{arith}
-use mathlib.Core.List.{[]}
-use mathlib.Core.Path.{_≡_, refl, sym}
-use lib.ListN.{length, List·getD-eq-default}
+use mathlib.Core.Path.{refl, sym}
+use lib.ListN.{List·getD-eq-default}
 use borrow.Author.Needs.{needs}
 use Rattle.columns.specs.Columns.{widthOf}
 use Rattle.columns.proofs.width_of.Statement.{statement}

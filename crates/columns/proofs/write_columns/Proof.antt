@@ -2,7 +2,7 @@
 use Prim.Native.Nat.{_-_}
 use native.Mathlib.Omega.{arith}
 use mathlib.Core.Path.{_∙_}
-use lib.ListN.{length, length-set}
+use lib.ListN.{length-set}
 use Rattle.columns.specs.Places.{Block}
 use Rattle.columns.proofs.Turned.{whole-width, whole-count}
 use Rattle.columns.proofs.Steps.{block-first, block-next, written-all}
