@@ -27,11 +27,15 @@ ghost use Rattle.order.specs.Order.{Behind, endBefore, OrderIn};
 // fewer.
 const MOST_PASSES: usize = 96;
 
-// From so many windows of the sweep on, the order of starts is seen faster, where there are so many places for each
-// point.
+// The sweep's windows: below so many it is always faster than to see the order of starts, and from so many on slower,
+// unless a point has fewer places than PLACES_EACH. Between them messages are to be long: a point has FAR_PLACES.
+const SOME_SWEEPS: usize = 4;
+
 const MANY_SWEEPS: usize = 8;
 
 const PLACES_EACH: usize = 32;
+
+const FAR_PLACES: usize = 160;
 
 // Where the last of the keys' stretches ends, if all start from lo up to hi, the first not below `next`, and each other
 // not below the end of the one before it; else 0. It is `next` where there are no keys.
@@ -148,6 +152,19 @@ fn pass_all(
     true
 }
 
+// Whether the order of so many points in so many places is seen faster than so many windows are swept.
+fn order_pays(span: usize, points: usize, sweeps: usize) -> bool
+    requires { ⌜ points < 2 ^ 32 ⌝ }
+{
+    if sweeps < SOME_SWEEPS {
+        return false;
+    }
+    if sweeps < MANY_SWEEPS {
+        return FAR_PLACES * points <= span;
+    }
+    PLACES_EACH * points <= span
+}
+
 // Whether it is seen, with the keys as room, that no two stretches of taken slots meet. It is asked where that takes
 // less than the sweep, whose windows have 64 places for each key.
 pub fn none_meet(image: &[u8], shape: Shape, keys: &mut [u64]) -> bool
@@ -160,7 +177,7 @@ pub fn none_meet(image: &[u8], shape: Shape, keys: &mut [u64]) -> bool
     let area = shape.area;
     let span = free - area.at();
     let room = keys.len();
-    if (span < MANY_SWEEPS * (64 * room)) | (span < PLACES_EACH * points) {
+    if !order_pays(span, points, span / (64 * room)) {
         return false;
     }
     let width = first_width(span, points, room);

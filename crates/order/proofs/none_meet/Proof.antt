@@ -40,14 +40,14 @@ sub-span c =
       c .before .before .before .read-u32 .ensures,
     )
 
-mul-if1 : tie.Need-mul-if1
-mul-if1 c = search needs
+mul-order-pays : tie.Need-mul-order-pays
+mul-order-pays c = search needs
 
-mul-if1-2 : tie.Need-mul-if1-2
-mul-if1-2 c = search needs
+div-order-pays : tie.Need-div-order-pays
+div-order-pays c = search needs
 
-mul-if1-3 : tie.Need-mul-if1-3
-mul-if1-3 c = search needs
+order-pays-requires : tie.Need-order-pays-requires
+order-pays-requires c κs = search needs
 
 returns : tie.Need-returns
 returns c e = absurd (not-both false e refl)
@@ -74,9 +74,9 @@ none-meet-spec =
     cast-points
     at-requires
     sub-span
-    mul-if1
-    mul-if1-2
-    mul-if1-3
+    mul-order-pays
+    div-order-pays
+    order-pays-requires
     returns
     first-width-requires
     pass-all-requires
