@@ -5,7 +5,8 @@
 #                            and docs/slots-read.svg
 #   bench/run.sh --quick     a small run as a test; writes to target/bench only
 #     --seed S               of names, messages and orders (default 1)
-#     --rounds R             of three samples each
+#     --rounds R             of three samples each; other engines take part
+#                            in the first three
 #     --no-counts            no instructions and branches, which need valgrind
 #     --large                instead, every call at 1,048,576 slots and some
 #                            500 MB of messages beside the two C programs, in
@@ -22,7 +23,7 @@
 set -u
 
 usage() {
-  sed -n '2,20s/^# \{0,1\}//p' "$0"
+  sed -n '2,22s/^# \{0,1\}//p' "$0"
   exit 2
 }
 
@@ -154,7 +155,15 @@ compare_images() {
   done
 }
 
-# run GROUP ROUND K N SUBJECTS PLAN
+# turned BY WORD..: the words, beginning with another one
+turned() {
+  local by=$1
+  shift
+  by=$((by % $#))
+  echo "${@:by+1}" "${@:1:by}"
+}
+
+# run GROUP ROUND K N SUBJECTS PLAN. Who is the first to work in a sample changes from round to round.
 run() {
   local what="$1, round $2, K = $3, N = $4" subject images=()
   [ "$1" = images ] && images=(--images)
@@ -162,7 +171,7 @@ run() {
   mkdir "$work/out"
   # The words of subjects and plan are meant to be split.
   # shellcheck disable=SC2086
-  timeout "$limit" "${pin[@]}" "$bin/turns" "$bin" "$files" "$work/out" $5 -- "${images[@]}" --seed "$seed" --fewer "$fewer" --key "$3" --slots "$4" $6
+  timeout "$limit" "${pin[@]}" "$bin/turns" "$bin" "$files" "$work/out" $(turned "$2" $5) -- "${images[@]}" --seed "$seed" --fewer "$fewer" --key "$3" --slots "$4" $6
   case $? in
   0) ;;
   124) fail "$what: not done in $limit s"; finish ;;
@@ -190,9 +199,10 @@ run_round() {
   for n in 5507 65521; do
     for k in 4 8 16 32; do
       run images "$1" $k $n "plain tuned library again" "$image_plan"
-      run engines "$1" $k $n "$engines" "$engine_plan"
+      [ "$1" -gt 3 ] || run engines "$1" $k $n "$engines" "$engine_plan"
     done
   done
+  [ "$1" -gt 3 ] && return
   run by-load "$1" 16 65521 "tuned library" "$load_plan"
   for n in 1000 2000 4000 8000 16000 32000 65536; do
     run by-slots "$1" 16 $n "tuned library" "fill:50 hit miss"

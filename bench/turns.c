@@ -6,8 +6,8 @@
  * turns BIN FILES OUT SUBJECT.. -- ARGUMENT..
  * Each runs BIN/SUBJECT on the file FILES/SUBJECT and writes to OUT/SUBJECT;
  * "again" is the program tuned. With --images as the first argument, images go
- * to the directories OUT/SUBJECT.images, but for "again". Ends with 1 if one
- * has failed. */
+ * to the directories OUT/SUBJECT.images, those of "again" too, so that it meets
+ * the same caches. Ends with 1 if one has failed. */
 #define _POSIX_C_SOURCE 200809L
 #include <fcntl.h>
 #include <signal.h>
@@ -64,12 +64,9 @@ static void become(const struct places *p, const char *name, char **arguments)
     argv[count++] = "--turns";
     argv[count++] = "1";
     if (*arguments && strcmp(*arguments, "--images") == 0) {
-        if (!is_again) {
-            argv[count++] = *arguments;
-            argv[count] = join(p->out, name, ".images");
-            mkdir(argv[count++], 0700);
-        }
-        arguments++;
+        argv[count++] = *arguments++;
+        argv[count] = join(p->out, name, ".images");
+        mkdir(argv[count++], 0700);
     }
     while (*arguments && count < ARGUMENTS_MAX)
         argv[count++] = *arguments++;

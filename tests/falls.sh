@@ -3,7 +3,8 @@
 #     # a lookup that always answers 14
 #     # falls at: proofs/lookup/Proof.antt returns
 # Held to the log that `rt ci` or `rt must-fail` left of it: that fact must be among those that the prover refused in themselves,
-# and none of those may be refused because the edit changed the code's shape. The last line is 'N passed, M failed'.
+# none of those may be refused because the edit changed the code's shape, and the edited file itself must be well formed.
+# The last line is 'N passed, M failed'.
 #   tests/falls.sh --list      the edits with their words and facts, as they are written
 #   tests/falls.sh EDIT..      these edits alone, and all that the prover refused in them
 set -u
@@ -17,6 +18,9 @@ refused() {
     -e 's|^fn [^ ]*: no proof: .*/(proofs/[^ ;]*); `search` does not close `([^`]*)`.*|\1 \2 no proof is found|p' "$1" |
     grep -v 'was not admitted (it has holes'
 }
+
+# The prover's words where the edited definition or code is none: a name that is not in scope, a type that does not fit.
+ill='^[^ ]*/(specs|src)/[^ :]*:[0-9]+:[0-9]+: error: '
 
 # The prover's words where a proof names a step that the code no longer has.
 shape='^[^ ]+ [^ ]+ (`[^`]*`: module `[^`]*` has no `|record `|`[^`]*` is not in scope)'
@@ -34,6 +38,10 @@ fall() {
     return 1
   fi
   [ -f "$log" ] || { echo "$edit left no log"; return 1; }
+  if grep -qE "$ill" "$log"; then
+    echo "$edit is not well formed: $(grep -m 1 -E "$ill" "$log" | sed -E 's|^[^ ]*/(specs\|src)/|\1/|' | cut -c1-200)"
+    return 1
+  fi
   own=$(refused "$log")
   [ -z "$shown" ] || cut -c1-300 <<<"$own"
   if ! cut -d' ' -f1,2 <<<"$own" | grep -qxF -- "$fact"; then

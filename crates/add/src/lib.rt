@@ -21,7 +21,7 @@ ghost use Rattle.bhtf.specs.Messages.{addedAt, noted};
 ghost use Rattle.bhtf.specs.Questions.{firstNo, pointAsks, modeKnown};
 ghost use Rattle.layout.specs.Shapes.{Open};
 ghost use Rattle.seek.specs.Seeks.{SoughtIs};
-ghost use Rattle.table.specs.Probes.{probeOf, Within};
+ghost use Rattle.table.specs.Probes.{probeOf, Within, MetKey};
 
 // Writes the version bytes 1, 0, 2.
 fn write_version(part: &mut [u8])
@@ -53,6 +53,7 @@ fn put_found(
     mode: u32,
 ) -> u32
     requires { ⌜ Open (now image) shape × Within (shape .slots) (probeOf found)
+        × MetKey (now image) (now key) (probeOf found)
         × (length (now key) ≡ shape .keylen) × (modeKnown mode ≡ true) ⌝ }
     ensures { λ r. ⌜ (r ≡ firstNo (pointAsks (layoutOf (now (image .entry))) (now (image .entry)) (probeOf found)
         (now (bytes .entry)) mode))
@@ -64,7 +65,7 @@ fn put_found(
     let Found::Met(slot) = found else {
         return add_absent(image, shape, found, key, bytes, mode);
     };
-    add_present(image, shape, slot, key, bytes, mode)
+    add_present(image, shape, slot, bytes, mode)
 }
 
 // The same, and the version where the message that is stored is empty.
@@ -77,6 +78,7 @@ fn add_found(
     mode: u32,
 ) -> u32
     requires { ⌜ Open (now image) shape × Within (shape .slots) (probeOf found)
+        × MetKey (now image) (now key) (probeOf found)
         × (length (now key) ≡ shape .keylen) × (modeKnown mode ≡ true) ⌝ }
     ensures { λ r. ⌜ (r ≡ firstNo (pointAsks (layoutOf (now (image .entry))) (now (image .entry)) (probeOf found)
         (now (bytes .entry)) mode))

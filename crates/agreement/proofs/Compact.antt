@@ -36,9 +36,9 @@ use Rattle.laws.proofs.Probe.{by-search, search-keys}
 use Rattle.laws.proofs.Insert.{entry-taken, findable-keys}
 use Rattle.laws.proofs.Stretch.{span, Lies, sound-lies, lies-sound, Stored, none-stored}
 use Rattle.laws.proofs.Effects.{active-some}
-use Rattle.compaction.proofs.Packing.{startAt, Live, Stretches, sound-stretches, live-begins}
-use Rattle.compaction.proofs.Packed.{live-apart, packed-end, activeSpan, packed-weight}
-use Rattle.compaction.proofs.Compacted.{Moved, letterAt-moved, lengthAt-moved, compacted-length, compacted-kept, compacted-points, compacted-free, compacted-key, compacted-vacant, compacted-taken, compacted-entry, compacted-offset, compacted-moved, moved-inactive, moved-low, active-again, span-again, compacted-stretches, compacted-twice}
+use Rattle.compacted.proofs.Packing.{startAt, Live, Stretches, sound-stretches, live-begins}
+use Rattle.compacted.proofs.Packed.{live-apart, packed-end, activeSpan, packed-weight}
+use Rattle.compacted.proofs.Compacted.{Moved, letterAt-moved, lengthAt-moved, compacted-length, compacted-kept, compacted-points, compacted-free, compacted-key, compacted-vacant, compacted-taken, compacted-entry, compacted-offset, compacted-moved, moved-inactive, moved-low, active-again, span-again, compacted-stretches, compacted-twice}
 use Rattle.agreement.proofs.File.{Allowed, File, file-some, file-data}
 use Rattle.agreement.proofs.Checked.{taken-allowed, entry-slot, file-check}
 

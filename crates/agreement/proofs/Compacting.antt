@@ -27,9 +27,9 @@ use Rattle.laws.proofs.Table.{entryOf, weigh, weight}
 use Rattle.laws.proofs.Insert.{weigh-vacant}
 use Rattle.laws.proofs.Stretch.{span, held-some}
 use Rattle.laws.proofs.Effects.{active-some}
-use Rattle.compaction.proofs.Packing.{startAt, Live}
-use Rattle.compaction.proofs.Packed.{activeSpan}
-use Rattle.compaction.proofs.Compacted.{textAt-moved, lengthAt-moved}
+use Rattle.compacted.proofs.Packing.{startAt, Live}
+use Rattle.compacted.proofs.Packed.{activeSpan}
+use Rattle.compacted.proofs.Compacted.{textAt-moved, lengthAt-moved}
 use Rattle.agreement.proofs.File.{Allowed, File, pointOf, pointOf-some, pointOf-none, valueOf, by-entry}
 use Rattle.agreement.proofs.Reflect.{Reflects}
 use Rattle.agreement.proofs.Simple.{Same}

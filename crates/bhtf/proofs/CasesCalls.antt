@@ -1,5 +1,6 @@
 -- Lists of calls on a new file: their answers, and then the bytes of the data area. The book's answers to the same
--- lists stand in crates/book/proofs/CasesBook.antt; more such lists in crates/cases.
+-- lists stand in crates/book/proofs/CasesBook.antt; the file's to the first of them, and more such lists, in
+-- crates/cases.
 -- Assumes nothing.
 use mathlib.Core.Path.{_≡_, refl}
 use mathlib.Core.List.{List, [], _∷_, _++_}
@@ -19,11 +20,6 @@ lifeCalls =
 abbrev pub lifeAnswers : List Answer
 lifeAnswers =
     done ∷ counts 1 ∷ done ∷ shows-none ∷ done ∷ done ∷ shows 4 (83 ∷ 84 ∷ 85 ∷ 86 ∷ []) ∷ done ∷ counts 0 ∷ []
-
-pub life : Files 8192 4 lifeCalls lifeAnswers 15
-    (100 ∷ 0 ∷ 0 ∷ 3 ∷ 83 ∷ 84 ∷ 85 ∷ 100 ∷ 0 ∷ 0 ∷ 4 ∷ 83 ∷ 84 ∷ 85 ∷ 86 ∷ [])
-unfolding filed headed
-life = refl
 
 -- Points without a text, and no room for any: 13 for data, in every mode; append of no data changes nothing. Absent:
 -- 14.

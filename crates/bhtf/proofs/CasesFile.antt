@@ -13,7 +13,7 @@ use Rattle.bhtf.specs.Image.{Layout, setField, layoutOf, slotBytes}
 use Rattle.bhtf.specs.Search.{Probe, met, empty, exhausted, search, slotsRead}
 use Rattle.bhtf.specs.Messages.{shownLength, setFree, retire, overwrite, renewedText}
 use Rattle.bhtf.specs.Questions.{firstNo, pointAsks}
-use Rattle.bhtf.specs.Calls.{lookupStart}
+use Rattle.bhtf.specs.Calls.{lookupStart, lookupText}
 use Rattle.bhtf.specs.Lists.{adding, deleting, looking, counting}
 use Rattle.bhtf.proofs.CasesBase.{definitions, headed, after, table, one, two, point, done, refused, counts, answered}
 
@@ -27,7 +27,7 @@ unfoldable pub short : Bytes → Bytes
 unfolding definitions
 short m = setField (zeros 2048) freeField 2058 ++ slotBytes one 2053 ++ m ++ zeros 6
 
--- 9 to 13 of data in a mode, where the search ended so and the message is "P" behind that letter: X = 2,058, L = 2,064
+-- 9 to 14 of data in a mode, where the search ended so and the message is "P" behind that letter: X = 2,058, L = 2,064
 unfoldable pub asks : ℕ → Probe → ℕ → Bytes → ℕ
 unfolding short
 asks letter s mode t = firstNo (pointAsks shortLayout (short (letter ∷ 0 ∷ 0 ∷ 1 ∷ 80 ∷ [])) s t mode)
@@ -51,6 +51,12 @@ pub asks-absent : (asks 97 exhausted 1 (81 ∷ 82 ∷ 83 ∷ 84 ∷ []) ≡ 10)
     × (asks 97 (empty 0) 3 (81 ∷ 82 ∷ []) ≡ 0) × (asks 97 (empty 0) 3 [] ≡ 0)
 unfolding asks
 asks-absent = (refl, refl, refl, refl, refl)
+
+-- withdrawal of an absent name: 14, before 10 where no slot is empty, whatever its data; of a point it asks for no room
+pub asks-withdrawn : (asks 97 exhausted 4 [] ≡ 14) × (asks 97 (empty 0) 4 (81 ∷ 82 ∷ 83 ∷ 84 ∷ []) ≡ 14)
+    × (asks 97 (met 0) 4 (81 ∷ 82 ∷ 83 ∷ 84 ∷ []) ≡ 0)
+unfolding asks
+asks-withdrawn = (refl, refl, refl)
 
 -- the largest length of a file
 pub most-length : layoutOf [] .most ≡ 16777215
@@ -159,17 +165,21 @@ read-empty = refl
 
 -- ---- lookup
 
--- Byte 1 with "P", byte 2 with an inactive "Q", byte 3 without a message: the first message byte, and 0 for the others;
--- byte 4 is absent, and the name of zeros is refused.
-unfoldable pub three-kinds : Bytes
-unfolding after headed
-three-kinds =
-    store (after (adding one (80 ∷ []) 1 ∷ adding two (81 ∷ []) 1 ∷ point 3 ∷ []) (headed 1 4 8192)) 4101 (100 ∷ [])
+-- Byte 1 with "P", byte 2 with an empty message; byte 3 is absent: the first message byte and the text, 0 and none.
+unfoldable pub two-texts : Bytes
+unfolding headed
+two-texts =
+    setField
+    (store (store (store (headed 1 4 8192) 2048 (slotBytes two 4101)) 2063 (slotBytes one 4096)) 4096
+    (97 ∷ 0 ∷ 0 ∷ 1 ∷ 80 ∷ 97 ∷ 0 ∷ 0 ∷ 0 ∷ []))
+    freeField 4105
 
-pub lookup-starts : lookupStart three-kinds one ∷ lookupStart three-kinds two ∷ lookupStart three-kinds (3 ∷ [])
-    ∷ lookupStart three-kinds (4 ∷ []) ∷ lookupStart three-kinds (0 ∷ []) ∷ [] ≡ 4100 ∷ 0 ∷ 0 ∷ 0 ∷ 0 ∷ []
-unfolding three-kinds
-lookup-starts = refl
+pub lookup-parts : (lookupStart two-texts one ∷ lookupStart two-texts two ∷ lookupStart two-texts (3 ∷ []) ∷ []
+    ≡ 4100 ∷ 4105 ∷ 0 ∷ [])
+    × (lookupText two-texts one ∷ lookupText two-texts two ∷ lookupText two-texts (3 ∷ []) ∷ []
+    ≡ some (80 ∷ []) ∷ some [] ∷ none ∷ [])
+unfolding two-texts
+lookup-parts = (refl, refl)
 
 -- ---- opened images that no create left
 

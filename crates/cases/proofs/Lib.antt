@@ -5,4 +5,5 @@ pub mod CasesHeaders
 pub mod CasesImages
 pub mod CasesInspected
 pub mod CasesRead
+pub mod CasesLists
 pub mod CasesMore

@@ -1,76 +1,22 @@
-// What a call changed: the runs of bytes that differ between an image before it and after it, counted, and written into
-// a slice as pairs of offset and length, or their new bytes one behind the other. The image before the call stands in a
-// working slice, at its own places, as far as the windows go; outside of them the call wrote nothing.
+// What a call changed, further: the image's bytes kept before it, where it may write; the new bytes of the runs, one
+// behind the other; and runs, pairs and bytes of two whole images.
 use copies::copy;
+use pairs::Tally;
+use pairs::fill_list_within;
+use pairs::measure_within;
+use pairs::write_pairs_within;
 use scan::next_change;
 use scan::run_end;
 use windows::Windows;
 use windows::whole;
-use words::fields::write_u32;
 ghost use mathlib.Core.Path.{_≡_};
-ghost use mathlib.Core.List.{_++_};
 ghost use Prim.Native.Nat.{_+_, _-_, _^_, _≤_, _<_};
 ghost use lib.ListN.{length};
-ghost use Rattle.bhtf.specs.Bytes.{part, store, digits};
+ghost use Rattle.bhtf.specs.Bytes.{part, store};
 ghost use Rattle.updates.specs.Changes.{runs, pairBytes, changesIn, copied};
 ghost use Rattle.updates.specs.Journal.{newBytes};
 ghost use Rattle.windows.specs.Scans.{Measured};
 ghost use Rattle.windows.specs.Windows.{windowsOf, before, Kept};
-
-// How many runs there are, and how many bytes they have together.
-pub struct Tally {
-    pub pairs: usize,
-    pub bytes: usize,
-}
-
-// The runs and their bytes, counted.
-fn measure_within(work: &[u8], new: &[u8], w: Windows) -> Tally
-    requires { ⌜ Kept w (now work) (now new) ⌝ }
-    ensures { λ r. ⌜ Measured (runs 0 (before w (now (work .entry)) (now (new .entry))) (now (new .entry)))
-        (length (now (new .entry))) (r .pairs) (r .bytes) ⌝ }
-{
-    let mut pairs = 0;
-    let mut bytes = 0;
-    let mut at = next_change(work, new, w, 0);
-    while at < new.len() {
-        let end = run_end(work, new, w, at);
-        pairs += 1;
-        bytes += end - at;
-        at = next_change(work, new, w, end);
-    }
-    Tally {
-        pairs: pairs,
-        bytes: bytes,
-    }
-}
-
-// Puts one pair at `to`.
-fn put_pair(list: &mut [u8], to: usize, at: usize, size: usize)
-    requires { ⌜ (to + 8 ≤ length (now list)) × (at < 2 ^ 32) × (size < 2 ^ 32) ⌝ }
-    ensures { λ _. ⌜ now (list .exit) ≡ store (now (list .entry)) to (digits 4 at ++ digits 4 size) ⌝ }
-{
-    write_u32(list, to, at as u32);
-    write_u32(list, to + 4, size as u32);
-}
-
-// Writes the pairs of all runs from `place` on.
-fn write_pairs_within(list: &mut [u8], place: usize, work: &[u8], new: &[u8], w: Windows)
-    requires { ⌜ Kept w (now work) (now new)
-        × (length (now new) < 2 ^ 32)
-        × (place + length (pairBytes (runs 0 (before w (now work) (now new)) (now new))) ≤ length (now list)) ⌝ }
-    ensures { λ _. ⌜ now (list .exit)
-        ≡ store (now (list .entry)) place
-        (pairBytes (runs 0 (before w (now (work .entry)) (now (new .entry))) (now (new .entry)))) ⌝ }
-{
-    let mut to = place;
-    let mut at = next_change(work, new, w, 0);
-    while at < new.len() {
-        let end = run_end(work, new, w, at);
-        put_pair(list, to, at, end - at);
-        to += 8;
-        at = next_change(work, new, w, end);
-    }
-}
 
 // Copies the bytes of new from `at` up to `end` to `to`; answers the place behind them.
 pub fn put_part(out: &mut [u8], to: usize, new: &[u8], at: usize, end: usize) -> usize
@@ -110,29 +56,6 @@ fn write_bytes_within(out: &mut [u8], place: usize, work: &[u8], new: &[u8], w: 
         to = put_part(out, to, new, at, end);
         at = next_change(work, new, w, end);
     }
-}
-
-// Fills the list with the pairs, or, where they don't fit, with the single pair 0, L; answers how many it wrote.
-// Whether they fit is known before the first is written.
-pub fn fill_list_within(list: &mut [u8], work: &[u8], new: &[u8], w: Windows) -> u32
-    requires { ⌜ Kept w (now work) (now new)
-        × (length (now new) < 2 ^ 32)
-        × (8 ≤ length (now list)) ⌝ }
-    ensures { λ r. ⌜ (r ≡ length (changesIn (length (now (list .entry)))
-        (before w (now (work .entry)) (now (new .entry))) (now (new .entry))))
-        × (now (list .exit)
-        ≡ store (now (list .entry)) 0
-        (pairBytes (changesIn (length (now (list .entry)))
-        (before w (now (work .entry)) (now (new .entry))) (now (new .entry))))) ⌝ }
-{
-    let tally = measure_within(work, new, w);
-    let pairs = tally.pairs;
-    if 8 * pairs <= list.len() {
-        write_pairs_within(list, 0, work, new, w);
-        return pairs as u32;
-    }
-    put_pair(list, 0, 0, new.len());
-    1
 }
 
 // The same of two whole images.

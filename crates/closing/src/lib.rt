@@ -1,6 +1,6 @@
 // Delete's walk: the gap that an entry leaves is closed by entries that a search would no longer find (Knuth's
 // Algorithm R, run upwards).
-use copies::clear;
+use clearing::clear;
 use layout::places::Slot;
 use layout::shape::Shape;
 use shifts::copy_apart;

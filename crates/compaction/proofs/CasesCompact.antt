@@ -21,7 +21,7 @@ unfolding inspect-definitions
     compacted isSound compactNumber compact
 compact-definitions = 0
 
--- ---- calls, a compaction, and calls
+-- ---- lists of calls before and after a compaction; the file's answers stand in crates/cases/proofs/CasesLists.antt
 
 -- "in the order of their offsets": "P" of slot 3, "S" of slot 1 and "TUV" of slot 0, which was "QR" before. The freed
 -- space "is used again": "W" goes behind them.
@@ -35,12 +35,6 @@ orderAfter = looking one ∷ looking two ∷ looking (3 ∷ []) ∷ adding (4 �
 
 abbrev pub orderAnswers : List Answer
 orderAnswers = shows 1 (80 ∷ []) ∷ shows 3 (84 ∷ 85 ∷ 86 ∷ []) ∷ shows 1 (83 ∷ []) ∷ done ∷ []
-
-pub order : filed orderAfter (compact (after orderBefore (headed 1 4 8192)) .after)
-    ≡ orderAnswers ++ (shows 22
-    (97 ∷ 0 ∷ 0 ∷ 1 ∷ 80 ∷ 97 ∷ 0 ∷ 0 ∷ 1 ∷ 83 ∷ 97 ∷ 0 ∷ 0 ∷ 3 ∷ 84 ∷ 85 ∷ 86 ∷ 97 ∷ 0 ∷ 0 ∷ 1 ∷ 87 ∷ []) ∷ [])
-unfolding compact-definitions filed after headed
-order = refl
 
 -- Withdrawn "PQ", "RS" emptied in place, a deleted "T", a note, and a point without a message. "after compaction an
 -- entry has an offset exactly when its text is not none": the two notes stay, of 4 bytes each. "makes held the text's
@@ -59,12 +53,6 @@ mixedAfter =
 abbrev pub mixedAnswers : List Answer
 mixedAnswers =
     shows-none ∷ shows 0 [] ∷ shows 0 [] ∷ shows-none ∷ refused 14 ∷ done ∷ done ∷ done ∷ []
-
-pub mixed : filed mixedAfter (compact (after mixedBefore (headed 1 4 8192)) .after)
-    ≡ mixedAnswers ++ (shows 17
-    (100 ∷ 0 ∷ 0 ∷ 0 ∷ 97 ∷ 0 ∷ 0 ∷ 0 ∷ 97 ∷ 0 ∷ 0 ∷ 0 ∷ 97 ∷ 0 ∷ 0 ∷ 1 ∷ 86 ∷ []) ∷ [])
-unfolding compact-definitions filed after headed
-mixed = refl
 
 -- ---- every byte of the file
 

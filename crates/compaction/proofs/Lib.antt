@@ -1,5 +1,2 @@
--- Laws of compaction, of any image bytes, and its cases.
-pub mod Packing  -- what is packed, and how far it reaches
-pub mod Packed  -- what stands in the image that a compaction leaves
-pub mod Compacted  -- that image, byte by byte, and compacting twice
-pub mod CasesCompact  -- cases, by computation
+-- Cases of compaction, by computation; its laws are in crates/compacted.
+pub mod CasesCompact

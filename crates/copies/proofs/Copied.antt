@@ -1,6 +1,6 @@
--- What a loop that copies or zeroes byte by byte leaves, as one list.
+-- What a loop that copies byte by byte leaves, as one list.
 --     copied-more      one more byte of s, copied over d from the front
---     copied-all, zeroed-all     all of them
+--     copied-all       all of them
 --     copied-more-apart, copied-more-down     one more byte of a run copied within one list, to a place that it does
 --                      not meet, or that is not above it
 --     copied-all-within      all of them
@@ -12,9 +12,9 @@ use native.Mathlib.Omega.{arith}
 use mathlib.Core.List.{[], _∷_, _++_, append-assoc, append-nil}
 use mathlib.Core.Logic.{inl, inr}
 use mathlib.Core.Path.{_≡_, refl, sym, ap, _∙_}
-use lib.ListN.{length, getD, set, take, drop, replicate, length-append, length-drop, List·getD-append}
+use lib.ListN.{length, getD, set, take, drop, length-append, length-drop, List·getD-append}
 use lib.Seq.{take-length, drop-length, length-take-le, drop-drop, getD-take, getD-drop, getD-append-add, paste, paste-suc, length-paste-head}
-use Rattle.bhtf.specs.Bytes.{Bytes, part, store, zeros}
+use Rattle.bhtf.specs.Bytes.{Bytes, part, store}
 use Rattle.laws.proofs.Bytes.{Apart}
 
 copied-suc : (s d : Bytes) (i : ℕ) → i < length s → i < length d
@@ -32,10 +32,6 @@ copied-more s d i p q = rw add-one (copied-suc s d i p q)
 pub copied-all : (s d : Bytes) (i : ℕ) → i ≡ length s → i ≡ length d → take i s ++ drop i d ≡ s
 copied-all s d i p q =
     ap (λ (t : Bytes). take i s ++ t) (rw (q, drop-length d)) ∙ append-nil (take i s) ∙ rw (p, take-length s)
-
-pub zeroed-all : (d : Bytes) (i : ℕ) → i ≡ length d → replicate i 0 ++ drop i d ≡ zeros (length d)
-unfolding zeros
-zeroed-all d i p = rw (p, drop-length d) (append-nil (replicate (length d) 0))
 
 -- ---- within one list: what is read, below what has been written
 getD-paste-below : (d : Bytes) (at : ℕ) (s : Bytes) (n k : ℕ) → k < at → at ≤ length d

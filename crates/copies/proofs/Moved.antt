@@ -1,106 +1,110 @@
--- Blocks copied one behind the other are one store.
---     covers     a block that begins within what was copied, or just behind it, goes on to its own end
---     copied-block, moved-block      one more block, between two lists and within one
---     copied-whole, length-moved     all blocks; lengths stay
+-- Blocks copied within one list from the front, each beginning within what is copied, or just behind it.
+--     begun-none, begun-less      nothing copied; fewer bytes
+--     begun-here, begun-then      a list in which bytes are copied, taken for the first one; then more copied in it
+--     moved-block, moved-first, moved-whole      a block more; the first block; all bytes
 -- Assumes nothing.
-use Prim.Native.Nat.{ℕ, _+_, _-_, _≤_}
-use native.Mathlib.Nat.{zero-add}
+use Prim.Native.Nat.{ℕ, _+_, _-_, _≤_, _<_}
+use native.Mathlib.Numerals.{unary-clauses}
 use native.Mathlib.Omega.{arith}
-use mathlib.Core.List.{[], _++_, append-assoc, append-nil}
 use mathlib.Core.Logic.{_⊎_, inl, inr}
-use mathlib.Core.Path.{_≡_, sym, ap, ap₂, _∙_}
-use lib.ListN.{length, take, drop, take-append-drop, drop-of-length-le}
-use lib.Seq.{take-append-add, drop-append-add, take-append-le, take-all, take-take, drop-drop, length-take-le}
+use mathlib.Core.Path.{_≡_, refl, sym, ap, _∙_}
+use lib.ListN.{length, getD}
+use lib.Seq.{ext-getD}
 use Rattle.bhtf.specs.Bytes.{Bytes, part, store}
-use Rattle.laws.proofs.Bytes.{Apart, part-length, length-store, part-store-other}
-use Rattle.runs.proofs.Little.{part-join}
+use Rattle.laws.proofs.Bytes.{part-length, length-store}
+use Rattle.laws.proofs.Byte.{byte-part, byte-store-below, byte-store-above, byte-store-inside}
+use Rattle.laws.proofs.Tests.{by-le}
+use Rattle.copies.specs.Within.{Runs, Begun}
 
--- part of a part from the front
-take-part : (s : Bytes) (from j i : ℕ) → j ≤ i → take j (part s from i) ≡ part s from j
-unfolding part
-take-part s from j i h = take-take j i (drop from s) h
-
-pub covers : (d s : Bytes) (to from j i w : ℕ) → j ≤ i → i ≤ j + w → from + (j + w) ≤ length s → to + (j + w) ≤ length d
-    → store (store d to (part s from i)) (to + j) (part s (from + j) w) ≡ store d to (part s from (j + w))
-unfolding store
-covers d s to from j i w below reach there room =
-    let u = take to d in
-    let p = part s from i in
-    let t = drop to d in
-    let r = drop (length p) t in
-    let lu : length u ≡ to = length-take-le to d (omega arith) in
-    let lp : length p ≡ i = part-length s from i (omega arith) in
-    let lw : length (part s (from + j) w) ≡ w = part-length s (from + j) w (omega arith) in
-    let ljw : length (part s from (j + w)) ≡ j + w = part-length s from (j + w) (omega arith) in
-    -- what stands before the block
-    let front : take (to + j) (u ++ (p ++ r)) ≡ u ++ part s from j =
-    ap (λ (n : ℕ). take (n + j) (u ++ (p ++ r))) (sym lu)
-    ∙ take-append-add u (p ++ r) j
-    ∙ ap (λ (x : Bytes). u ++ x) (take-append-le j p r (omega (arith, lp)) ∙ take-part s from j i below)
-    in
-    -- what stands behind it
-    let split : j + w ≡ length p + (j + w - i) = omega (arith, lp) in
-    let rejoin : length p + (j + w - i) ≡ j + w = sym split in
-    let far : to + j + length (part s (from + j) w) ≡ length u + (length p + (j + w - i)) =
-    omega (arith, lw, lu, split) in
-    let back : drop (length (part s (from + j) w)) (drop (to + j) (u ++ (p ++ r)))
-    ≡ drop (length (part s from (j + w))) t =
-    drop-drop (length (part s (from + j) w)) (to + j) (u ++ (p ++ r))
-    ∙ ap (λ (n : ℕ). drop n (u ++ (p ++ r))) far
-    ∙ drop-append-add u (p ++ r) (length p + (j + w - i))
-    ∙ drop-append-add p r (j + w - i)
-    ∙ drop-drop (j + w - i) (length p) t
-    ∙ ap (λ (n : ℕ). drop n t) (rejoin ∙ sym ljw)
-    in
-    ap₂ (λ (x y : Bytes). x ++ (part s (from + j) w ++ y)) front back
-    ∙ append-assoc u (part s from j) (part s (from + j) w ++ drop (length (part s from (j + w))) t)
-    ∙ ap (λ (x : Bytes). u ++ x)
-    (sym (append-assoc (part s from j) (part s (from + j) w) (drop (length (part s from (j + w))) t))
-    ∙ ap (λ (x : Bytes). x ++ drop (length (part s from (j + w))) t) (part-join s from j w))
-
--- the first block, onto what has not been written yet
-pub none-yet : (d s : Bytes) (to from : ℕ) → d ≡ store d to (part s from 0)
-unfolding store part
-none-yet d s to from = sym (take-append-drop to d)
-
--- ---- from one list to another, from the front of both
-pub copied-block : (d s x r : Bytes) (j i w : ℕ) → x ≡ store d 0 (part s 0 i)
-    → j ≤ i → i ≤ j + w → j + w ≤ length s → j + w ≤ length d
-    → r ≡ store x j (part s j w) → r ≡ store d 0 (part s 0 (j + w))
-copied-block d s x r j i w e below reach there room f =
-    f
-    ∙ ap (λ (t : Bytes). store t j (part s j w)) e
-    ∙ rw (zero-add j) at (covers d s 0 0 j i w below reach (omega arith) (omega arith))
-
-pub copied-whole : (d s : Bytes) (n : ℕ) → n ≡ length s → n ≡ length d → store d 0 (part s 0 n) ≡ s
-unfolding store part
-copied-whole d s n p q =
-    let all : take n s ≡ s = take-all n s (omega arith) in
-    let none : drop (length s) d ≡ [] = drop-of-length-le d {i = length s} (omega arith) in
-    rw (all, none) (append-nil s)
-
--- ---- within one list
 on : {A B C : Type 0} → A ⊎ B → (A → C) → (B → C) → C
 on (inl a) f g = f a
 on (inr b) f g = g b
 
-pub moved-block : (s x r : Bytes) (from to n j i w : ℕ) → Apart from n to n → from + n ≤ length s → to + n ≤ length s
-    → x ≡ store s to (part s from i) → j ≤ i → i ≤ j + w → j + w ≤ n → i ≤ n
-    → r ≡ store x (to + j) (part x (from + j) w) → r ≡ store s to (part s from (j + w))
-moved-block s x r from to n j i w apart there room e below reach end fits f =
-    let l : length (part s from i) ≡ i = part-length s from i (omega arith) in
-    let away : Apart (from + j) w to (length (part s from i)) =
-    on apart (λ h. inl (omega arith)) (λ h. inr (omega (arith, l)))
-    in
-    let unwritten : part x (from + j) w ≡ part s (from + j) w =
-    ap (λ (t : Bytes). part t (from + j) w) e
-    ∙ part-store-other s to (part s from i) (from + j) w (omega (arith, l)) away
-    in
-    f
-    ∙ ap₂ (λ (t v : Bytes). store t (to + j) v) e unwritten
-    ∙ covers s s to from j i w below reach (omega arith) (omega arith)
+pub begun-none : (s : Bytes) (from to n : ℕ) → Begun s s from to n 0
+begun-none s from to n = record { long = refl; front = λ k h. absurd (omega (arith, h)); rest = λ k a. refl }
 
-pub length-moved : (d s r : Bytes) (to from m : ℕ) → from + m ≤ length s → to + m ≤ length d
-    → r ≡ store d to (part s from m) → length r ≡ length d
-length-moved d s r to from m there room e =
-    ap length e ∙ length-store d to (part s from m) (omega (arith, part-length s from m there))
+pub begun-less : (s r : Bytes) (from to n p q : ℕ) → Begun s r from to n p → q ≤ p → Begun s r from to n q
+begun-less s r from to n p q b h =
+    record { long = b .long; front = λ k l. b .front k (omega (arith, l)); rest = b .rest }
+
+-- a byte that is read is none of those that are written
+apart-at : (s : Bytes) (from to n k : ℕ) → Runs s from to n → k < n → (from + k < to) ⊎ (to + n ≤ from + k)
+apart-at s from to n k u h = on (u .0) (λ l. inl (omega (arith, l))) (λ l. inr (omega (arith, l)))
+
+pub begun-here : (s x : Bytes) (from to n p : ℕ) → Runs s from to n → Begun s x from to n p → p ≤ n
+    → Begun x x from to n p
+begun-here s x from to n p u b h =
+    record {
+      long = refl;
+      front = λ k l. b .front k l ∙ sym (b .rest (from + k) (apart-at s from to n k u (omega (arith, l))));
+      rest = λ k a. refl;
+    }
+
+pub begun-then : (s x r : Bytes) (from to n p q : ℕ) → Runs s from to n → Begun s x from to n p
+    → Begun x r from to n q → q ≤ n → Begun s r from to n q
+begun-then s x r from to n p q u b d h =
+    record {
+      long = d .long ∙ b .long;
+      front = λ k l. d .front k l ∙ b .rest (from + k) (apart-at s from to n k u (omega (arith, l)));
+      rest = λ k a. d .rest k a ∙ b .rest k a;
+    }
+
+pub moved-block : (s x r : Bytes) (from to n p j q : ℕ) → Runs s from to n → Begun s x from to n p
+    → j ≤ p → j + 8 ≤ n → q ≤ j + 8 → r ≡ store x (to + j) (part x (from + j) 8) → Begun s r from to n q
+moved-block s x r from to n p j q u b below end h e =
+    let v = part x (from + j) 8 in
+    let y = store x (to + j) v in
+    let lx : length x ≡ length s = b .long in
+    let there : from + n ≤ length s = u .1 in
+    let fits : to + n ≤ length s = u .2 in
+    let lv : length v ≡ 8 = part-length x (from + j) 8 (omega arith) in
+    let room : to + j + length v ≤ length x = omega arith in
+    record {
+      long = ap length e ∙ length-store x (to + j) v room ∙ lx;
+      front = λ k l.
+          ap (λ (t : Bytes). getD t (to + k) 0) e
+          ∙ by-le j k
+          (λ in′.
+          let at : to + j + (k - j) ≡ to + k = omega (arith, in′) in
+          let read : from + j + (k - j) ≡ from + k = omega (arith, in′) in
+          ap (λ (m : ℕ). getD y m 0) (sym at)
+          ∙ byte-store-inside x (to + j) v (k - j) room (omega (arith, l, in′))
+          ∙ byte-part x (from + j) 8 (k - j) (omega (arith, l, in′))
+          ∙ ap (λ (m : ℕ). getD x m 0) read
+          ∙ b .rest (from + k) (apart-at s from to n k u (omega (arith, l))))
+          (λ lt. byte-store-below x (to + j) v (to + k) room (omega (arith, lt)) ∙ b .front k (omega (arith, lt)));
+      rest = λ k a.
+          ap (λ (t : Bytes). getD t k 0) e
+          ∙ on a (λ lo. byte-store-below x (to + j) v k room (omega (arith, lo)))
+          (λ hi. byte-store-above x (to + j) v k room (omega (arith, hi)))
+          ∙ b .rest k a;
+    }
+
+pub moved-first : (s r : Bytes) (from to n : ℕ) → Runs s from to n → 8 ≤ n → r ≡ store s to (part s from 8)
+    → Begun s r from to n 8
+moved-first s r from to n u h e =
+    moved-block s s r from to n 0 0 8 u (begun-none s from to n) (omega arith) (omega arith) (omega arith)
+    (simp unary-clauses e)
+
+pub moved-whole : (s r : Bytes) (from to n : ℕ) → Runs s from to n → Begun s r from to n n
+    → r ≡ store s to (part s from n)
+moved-whole s r from to n u b =
+    let v = part s from n in
+    let there : from + n ≤ length s = u .1 in
+    let fits : to + n ≤ length s = u .2 in
+    let lv : length v ≡ n = part-length s from n there in
+    let room : to + length v ≤ length s = omega arith in
+    ext-getD 0 r (store s to v) (b .long ∙ sym (length-store s to v room))
+    (λ k l.
+    by-le to k
+    (λ above.
+    by-le (to + n) k
+    (λ behind. b .rest k (inr behind) ∙ sym (byte-store-above s to v k room (omega (arith, behind))))
+    (λ inside.
+    let at : to + (k - to) ≡ k = omega (arith, above) in
+    ap (λ (m : ℕ). getD r m 0) (sym at)
+    ∙ b .front (k - to) (omega (arith, above, inside))
+    ∙ sym (byte-part s from n (k - to) (omega (arith, above, inside)))
+    ∙ sym (byte-store-inside s to v (k - to) room (omega (arith, above, inside)))
+    ∙ ap (λ (m : ℕ). getD (store s to v) m 0) at))
+    (λ lo. b .rest k (inl lo) ∙ sym (byte-store-below s to v k room lo)))

@@ -1,69 +1,13 @@
-// Runs of bytes zeroed, and copied from one slice to another; from eight bytes on in blocks of eight, the last of which
-// may overlap the one before.
+// Runs of bytes copied from one slice to another, from eight bytes on in blocks of eight, which may overlap.
 ghost use mathlib.Core.Path.{_≡_};
 ghost use lib.ListN.{length};
-ghost use Prim.Native.Nat.{_+_, _≤_, _<_};
-ghost use Rattle.bhtf.specs.Bytes.{part, store, zeros};
+ghost use Prim.Native.Nat.{_+_, _-_, _≤_};
+ghost use Rattle.bhtf.specs.Bytes.{part, store};
+ghost use Rattle.copies.specs.Front.{Front};
 
 // From so many bytes on a loop over bytes, which the compiler makes one over vectors behind an overlap test, is faster
 // than blocks.
 const LONG: usize = 256;
-
-// Makes every byte zero.
-pub fn zero(s: &mut [u8])
-    ensures { λ _. ⌜ now (s .exit) ≡ zeros (length (now (s .entry))) ⌝ }
-{
-    let mut i = 0;
-    while i < s.len() {
-        s[i] = 0;
-        i += 1;
-    }
-}
-
-// Makes the eight bytes at i zero.
-fn zero_eight(s: &mut [u8], i: usize)
-    requires { ⌜ i + 8 ≤ length (now s) ⌝ }
-    ensures { λ _. ⌜ now (s .exit) ≡ store (now (s .entry)) i (zeros 8) ⌝ }
-{
-    s[i] = 0;
-    s[i + 1] = 0;
-    s[i + 2] = 0;
-    s[i + 3] = 0;
-    s[i + 4] = 0;
-    s[i + 5] = 0;
-    s[i + 6] = 0;
-    s[i + 7] = 0;
-}
-
-// The place of the block behind the one at i, of which the last is at `last`.
-fn next_block(i: usize, last: usize) -> usize
-    requires { ⌜ i < last ⌝ }
-    ensures { λ r. ⌜ (i < r) × (r ≤ i + 8) × (r ≤ last) ⌝ }
-{
-    if last - i < 8 {
-        return last;
-    }
-    i + 8
-}
-
-// Makes every byte zero, of a run as short as a slot. In `zero` the compiler sees one run and calls memset for it,
-// which takes longer than these blocks.
-pub fn clear(s: &mut [u8])
-    ensures { λ _. ⌜ now (s .exit) ≡ zeros (length (now (s .entry))) ⌝ }
-{
-    let n = s.len();
-    if n < 8 {
-        zero(s);
-        return;
-    }
-    let last = n - 8;
-    let mut i = 0;
-    while i < last {
-        zero_eight(s, i);
-        i = next_block(i, last);
-    }
-    zero_eight(s, last);
-}
 
 // Copies src over dst, byte by byte.
 fn copy_bytes(dst: &mut [u8], src: &[u8])
@@ -100,8 +44,84 @@ fn copy_eight(dst: &mut [u8], src: &[u8], i: usize)
     dst[i + 7] = b7;
 }
 
-// Copies src over dst, by blocks of eight bytes.
+// Of at most 64 bytes whose first sixteen are copied, copies the others but for the last sixteen.
+fn copy_inner(dst: &mut [u8], src: &[u8])
+    requires { ⌜ Front (now dst) (now src) 16 × (length (now dst) ≤ 64) ⌝ }
+    ensures { λ _. ⌜ Front (now (dst .exit)) (now (src .entry)) (length (now (src .entry)) - 16) ⌝ }
+{
+    let n = dst.len();
+    if n <= 32 {
+        return;
+    }
+    copy_eight(dst, src, 16);
+    copy_eight(dst, src, 24);
+    copy_eight(dst, src, n - 32);
+    copy_eight(dst, src, n - 24);
+}
+
+// Of at most 64 bytes whose first eight are copied, copies the others but for the last eight.
+fn copy_middle(dst: &mut [u8], src: &[u8])
+    requires { ⌜ Front (now dst) (now src) 8 × (length (now dst) ≤ 64) ⌝ }
+    ensures { λ _. ⌜ Front (now (dst .exit)) (now (src .entry)) (length (now (src .entry)) - 8) ⌝ }
+{
+    let n = dst.len();
+    if n <= 16 {
+        return;
+    }
+    copy_eight(dst, src, 8);
+    copy_inner(dst, src);
+    copy_eight(dst, src, n - 16);
+}
+
+// Copies 8 to 64 bytes but for the last eight, by blocks from both ends that may overlap: two tests say how many, which
+// the processor foresees better than the turns of a loop.
+fn copy_short(dst: &mut [u8], src: &[u8])
+    requires { ⌜ (length (now dst) ≡ length (now src)) × (8 ≤ length (now dst)) × (length (now dst) ≤ 64) ⌝ }
+    ensures { λ _. ⌜ Front (now (dst .exit)) (now (src .entry)) (length (now (src .entry)) - 8) ⌝ }
+{
+    copy_eight(dst, src, 0);
+    copy_middle(dst, src);
+}
+
+// Copies eight bytes or more but for the last eight, block by block.
 fn copy_blocks(dst: &mut [u8], src: &[u8])
+    requires { ⌜ (length (now dst) ≡ length (now src)) × (8 ≤ length (now dst)) ⌝ }
+    ensures { λ _. ⌜ Front (now (dst .exit)) (now (src .entry)) (length (now (src .entry)) - 8) ⌝ }
+{
+    let last = dst.len() - 8;
+    let mut i = 0;
+    while i < last {
+        copy_eight(dst, src, i);
+        i += 8;
+    }
+}
+
+// Copies eight bytes or more but for the last eight.
+fn copy_front(dst: &mut [u8], src: &[u8])
+    requires { ⌜ (length (now dst) ≡ length (now src)) × (8 ≤ length (now dst)) ⌝ }
+    ensures { λ _. ⌜ Front (now (dst .exit)) (now (src .entry)) (length (now (src .entry)) - 8) ⌝ }
+{
+    let n = dst.len();
+    if n <= 64 {
+        copy_short(dst, src);
+    } else {
+        copy_blocks(dst, src);
+    }
+}
+
+// Copies src over dst, of eight bytes or more. Short and long share the last block: of two the compiler would make one,
+// and copy it by bytes.
+fn copy_eights(dst: &mut [u8], src: &[u8])
+    requires { ⌜ (length (now dst) ≡ length (now src)) × (8 ≤ length (now dst)) ⌝ }
+    ensures { λ _. ⌜ now (dst .exit) ≡ now (src .entry) ⌝ }
+{
+    let n = dst.len();
+    copy_front(dst, src);
+    copy_eight(dst, src, n - 8);
+}
+
+// Copies src over dst.
+pub fn copy(dst: &mut [u8], src: &[u8])
     requires { ⌜ length (now dst) ≡ length (now src) ⌝ }
     ensures { λ _. ⌜ now (dst .exit) ≡ now (src .entry) ⌝ }
 {
@@ -110,22 +130,8 @@ fn copy_blocks(dst: &mut [u8], src: &[u8])
         copy_bytes(dst, src);
         return;
     }
-    let last = n - 8;
-    let mut i = 0;
-    while i < last {
-        copy_eight(dst, src, i);
-        i += 8;
-    }
-    copy_eight(dst, src, last);
-}
-
-// Copies src over dst.
-pub fn copy(dst: &mut [u8], src: &[u8])
-    requires { ⌜ length (now dst) ≡ length (now src) ⌝ }
-    ensures { λ _. ⌜ now (dst .exit) ≡ now (src .entry) ⌝ }
-{
-    if dst.len() < LONG {
-        copy_blocks(dst, src);
+    if n < LONG {
+        copy_eights(dst, src);
     } else {
         copy_bytes(dst, src);
     }

@@ -1,8 +1,8 @@
 // Create's questions, 1 to 4.
-use questions::data_start;
-use questions::key_allowed;
-use questions::size_allowed;
-use questions::slots_allowed;
+use sizes::data_start;
+use sizes::key_allowed;
+use sizes::size_allowed;
+use sizes::slots_allowed;
 ghost use mathlib.Core.Path.{_≡_};
 ghost use Rattle.bhtf.specs.Create.{slotsAsked};
 ghost use Rattle.bhtf.specs.Questions.{createNumber};

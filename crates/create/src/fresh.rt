@@ -1,8 +1,8 @@
 // The image that create leaves.
-use copies::zero;
-use questions::data_start;
+use clearing::zero;
 use scramble::numbers::write_numbers;
 use scramble::write_scramble;
+use sizes::data_start;
 use words::limits::MAGIC;
 use words::limits::VERSION;
 ghost use mathlib.Core.Path.{_≡_};

@@ -1,29 +1,17 @@
 // The check: whether each taken slot's key, searched, ends there, its message passes question 11, its stretch meets
-// that of no lower-numbered slot, and C is the number of taken slots. One search for each taken slot, up to the first
-// that fails; stretches are compared below that one only.
+// that of no lower-numbered slot, and C is the number of taken slots. Entries up to the first that fails; stretches are
+// compared below that one only.
+use entries::pass_entries;
 use layout::places::Slot;
 use layout::shape::Shape;
 use layout::shape::read_shape;
 use meeting::first_meeting;
-use messages::message_sound;
 use questions::open_number;
-use runs::all_zero;
-use runs::same_bytes;
-use table::home;
-use table::key_of;
-use table::offset_of;
-use table::pass_over;
-use walk::is_taken;
 use words::fields::read_u32;
 use words::limits::POINTS_FIELD;
 ghost use mathlib.Core.Path.{_≡_};
-ghost use Prim.Native.Nat.{_<_};
-ghost use Rattle.bhtf.specs.Image.{layoutOf};
-ghost use Rattle.bhtf.specs.Search.{search};
-ghost use Rattle.bhtf.specs.Inspect.{endsAt, entrySound, tableVerdict, check};
+ghost use Rattle.bhtf.specs.Inspect.{tableVerdict, check};
 ghost use Rattle.layout.specs.Shapes.{Open};
-ghost use Rattle.table.specs.Slots.{keyIn};
-ghost use Rattle.inspect.specs.Entries.{EntriesPassed};
 ghost use Rattle.inspect.specs.Verdicts.{verdictIn};
 
 // What the check says: refused with a number, sound, the lowest slot that fails, or that C alone fails.
@@ -32,77 +20,6 @@ pub enum Verdict {
     Sound,
     SlotFails(Slot),
     CountFails,
-}
-
-// Whether the search for the key of slot i ends there: the slots from the key's home up to it hold other keys.
-fn ends_here(image: &[u8], shape: Shape, i: Slot) -> bool
-    requires { ⌜ Open (now image) shape × (i .0 < shape .slots) ⌝ }
-    ensures { λ r. ⌜ r ≡ endsAt (search (layoutOf (now (image .entry))) (now (image .entry))
-        (keyIn (now (image .entry)) (i .0))) (i .0) ⌝ }
-{
-    let slots = shape.slots;
-    let key = key_of(image, shape, i);
-    let mut at = home(image, shape, key);
-    let mut left = slots;
-    while 0 < left {
-        let turn = pass_over(image, shape, key, at, left);
-        if turn.left == 0 {
-            return false;
-        }
-        let slot = turn.slot;
-        if slot.number() == i.number() {
-            return true;
-        }
-        let stored = key_of(image, shape, slot);
-        if same_bytes(stored, key) | all_zero(stored) {
-            return false;
-        }
-        at = slot.next(slots);
-        left = turn.left - 1;
-    }
-    false
-}
-
-// Whether the key of slot i, searched, ends there, and its message passes question 11.
-fn entry_sound(image: &[u8], shape: Shape, i: Slot) -> bool
-    requires { ⌜ Open (now image) shape × (i .0 < shape .slots) ⌝ }
-    ensures { λ r. ⌜ r ≡ entrySound (layoutOf (now (image .entry))) (now (image .entry)) (i .0) ⌝ }
-{
-    if !ends_here(image, shape, i) {
-        return false;
-    }
-    message_sound(image, shape, offset_of(image, shape, i))
-}
-
-// The lowest taken slot whose entry fails so, or the number of slots; and how many slots below it are taken.
-struct Entries {
-    bound: usize,
-    count: usize,
-}
-
-// One search for each taken slot; the first that fails ends it.
-fn pass_entries(image: &[u8], shape: Shape) -> Entries
-    requires { ⌜ Open (now image) shape ⌝ }
-    ensures { λ r. ⌜ EntriesPassed (layoutOf (now (image .entry))) (now (image .entry)) (shape .slots)
-        (r .bound) (r .count) ⌝ }
-{
-    let slots = shape.slots;
-    let mut count = 0;
-    let mut i = 0;
-    while i < slots {
-        let at = Slot::new(i);
-        if is_taken(image, shape, at) {
-            if !entry_sound(image, shape, at) {
-                return Entries { bound: i, count };
-            }
-            count += 1;
-        }
-        i += 1;
-    }
-    Entries {
-        bound: slots,
-        count,
-    }
 }
 
 // The check of an accepted header's table: entries up to the first that fails, stretches that meet below it, then C.

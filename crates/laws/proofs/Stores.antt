@@ -1,5 +1,5 @@
 -- Stores one after the other as one store, and a part of an image that was lent and came back.
---     store-none                 a store of nothing
+--     store-none, store-part     a store of nothing; a part stored where it stands
 --     take-store, drop-store     what stands before a store, and behind it
 --     store-inner                a store within the place of a later one leaves nothing
 --     store-append, store-end    a store right behind another; a store up to the end
@@ -13,11 +13,19 @@ use lib.ListN.{length, take, drop, length-append, length-drop, take-append-drop}
 use lib.Seq.{take-all, take-at, drop-at, drop-drop, drop-length, length-take-le}
 use borrow.Rule.Slice.PartMut.{putMid}
 use Rattle.bhtf.specs.Bytes.{Bytes, part, store}
-use Rattle.laws.proofs.Bytes.{length-store, part-store-below, part-store-above}
+use Rattle.laws.proofs.Bytes.{part-length, length-store, part-store-below, part-store-above}
 
 pub store-none : (b : Bytes) (p : ℕ) → store b p [] ≡ b
 unfolding store
 store-none b p = take-append-drop p b
+
+pub store-part : (b : Bytes) (p n : ℕ) → p + n ≤ length b → store b p (part b p n) ≡ b
+unfolding store
+store-part b p n h =
+    let rest : part b p n ++ drop n (drop p b) ≡ drop p b = unfold part in (take-append-drop n (drop p b)) in
+    ap (λ (m : ℕ). take p b ++ (part b p n ++ drop m (drop p b))) (part-length b p n h)
+    ∙ ap (λ (v : Bytes). take p b ++ v) rest
+    ∙ take-append-drop p b
 
 pub take-store : (b : Bytes) (p : ℕ) (v : Bytes) (n : ℕ) → p ≤ length b → n ≤ p → take n (store b p v) ≡ take n b
 unfolding part

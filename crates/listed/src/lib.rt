@@ -4,25 +4,16 @@
 pub mod packed;
 
 use add::add;
-use changes::fill_list_within;
 use changes::keep;
 use delete::delete;
+use pairs::fill_list_within;
 use reach::of_add;
 use reach::of_delete;
-ghost use mathlib.Core.Path.{_≡_};
-ghost use mathlib.Core.Bool.{_&&_};
+use slices::slices_allowed;
 ghost use lib.ListN.{length};
 ghost use Rattle.bhtf.specs.Bytes.{Bytes};
 ghost use Rattle.bhtf.specs.Calls.{add, delete};
-ghost use Rattle.updates.specs.Changes.{listAllowed, workAllowed};
-ghost use Rattle.listed.specs.Lists.{Lists};
-
-// Question 16, of a list and a working slice for an image of so many bytes.
-fn slices_allowed(size: usize, work: usize, list: usize) -> bool
-    ensures { λ r. ⌜ r ≡ (listAllowed list && workAllowed size work) ⌝ }
-{
-    (8 <= list) & (size <= work)
-}
+ghost use Rattle.slices.specs.Lists.{Lists};
 
 // Add, and the list of what it changed; `pairs` is how many pairs the list has now, 0 when refused.
 pub fn add_listed(

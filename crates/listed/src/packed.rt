@@ -1,11 +1,11 @@
 // Compaction in the form that also lists what it changed.
-use crate::slices_allowed;
 use changes::fill_list;
 use changes::put_part;
 use packing::compact;
+use slices::slices_allowed;
 ghost use lib.ListN.{length};
 ghost use Rattle.compaction.specs.Compact.{compact};
-ghost use Rattle.listed.specs.Lists.{Lists};
+ghost use Rattle.slices.specs.Lists.{Lists};
 
 // Compaction, and the list of what it changed; `pairs` is how many pairs the list has now, 0 when refused.
 pub fn compact_listed(image: &mut [u8], work: &mut [u8], list: &mut [u8], pairs: &mut u32) -> u32

@@ -19,7 +19,7 @@ use Rattle.laws.proofs.Slots.{length-slot, length-keyOf}
 use Rattle.laws.proofs.Opened.{opened-facts, opened-room}
 use Rattle.laws.proofs.Effects.{message-end, active-some}
 use Rattle.messages.proofs.Sound.{length-shown-yes, length-shown-no}
-use Rattle.questions.proofs.Headers.{open-0, open-1, open-5, open-6}
+use Rattle.header.proofs.Headers.{open-0, open-1, open-5, open-6}
 use Rattle.listing.specs.Listed.{heading, lengthText, line, row, lines, listed, mostListed, tooLong, printed, mostPrinted}
 use Rattle.text.proofs.Numbers.{decimal-5, length-hexes}
 use Rattle.listing.proofs.Rows.{text-bad, text-sound, row-taken, row-vacant, line-length, refused-length, listed-closed, listed-open}

@@ -1,11 +1,8 @@
 // The lowest slot whose stretch meets that of a lower-numbered one: the sweep of crate overlap, with its map on the
 // stack. In a large data area it is first seen whether all stretches lie one behind the other, with the same words as
 // room: mostly they do, and then there is none.
-//     order      stretches in the order of their starts
-pub mod order;
-
-use crate::order::none_meet;
 use layout::shape::Shape;
+use order::none_meet;
 use overlap::sweep;
 use words::fields::read_u32;
 use words::limits::FREE_FIELD;
@@ -14,8 +11,8 @@ ghost use mathlib.Core.Bool.{true};
 ghost use Prim.Native.Nat.{_^_, _<_};
 ghost use lib.ListN.{length};
 ghost use Rattle.bhtf.specs.Image.{layoutOf};
-ghost use Rattle.overlap.specs.Checked.{Checked};
-ghost use Rattle.overlap.specs.Stretches.{firstMeeting};
+ghost use Rattle.stretches.specs.Checked.{Checked};
+ghost use Rattle.stretches.specs.Stretches.{firstMeeting};
 
 // The words of the three maps of marks.
 const SMALL_MAP: usize = 512;

@@ -1,4 +1,4 @@
-// A slot's message offset rewritten, and the offsets of inactive messages set to 0.
+// The offsets of inactive messages set to 0, and what the active ones take summed up.
 use layout::places::Offset;
 use layout::places::Slot;
 use layout::shape::Shape;
@@ -6,7 +6,7 @@ use messages::is_active;
 use messages::length_at;
 use table::is_vacant;
 use table::offset_of;
-use words::fields::write_u32;
+use table::set_offset;
 ghost use mathlib.Core.Path.{_≡_};
 ghost use mathlib.Core.Bool.{true, cond};
 ghost use Prim.Native.Nat.{_+_, _<_, _≤_, _^_};
@@ -14,18 +14,8 @@ ghost use lib.ListN.{length};
 ghost use Rattle.bhtf.specs.Image.{layoutOf};
 ghost use Rattle.bhtf.specs.Inspect.{taken};
 ghost use Rattle.layout.specs.Shapes.{Open};
-ghost use Rattle.table.specs.Slots.{Placed};
-ghost use Rattle.stages.specs.Stages.{Sound, Forgotten, offsetIn, withOffset, deadIn, activeIn};
-
-// Writes another offset into slot i.
-pub fn set_offset(image: &mut [u8], shape: Shape, i: Slot, o: Offset)
-    requires { ⌜ Placed (now image) shape × (i .0 < shape .slots) × (o .0 < 2 ^ 32) ⌝ }
-    ensures { λ _. ⌜ now (image .exit) ≡ withOffset (now (image .entry)) (i .0) (o .0) ⌝ }
-{
-    let size = shape.keylen;
-    let a = i.start(size).at();
-    write_u32(image, a + size, o.at() as u32);
-}
+ghost use Rattle.table.specs.Slots.{withOffset};
+ghost use Rattle.stages.specs.Stages.{Sound, Forgotten, offsetIn, deadIn, activeIn};
 
 // Whether slot i has an inactive message.
 fn is_dead(image: &[u8], shape: Shape, i: Slot) -> bool

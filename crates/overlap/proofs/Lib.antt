@@ -1,8 +1,1 @@
--- In the order of reading: bits and claims of the map, then what a window shows, a pass, a sweep; what the code reads.
-pub mod First
-pub mod Bits
-pub mod Claims
-pub mod Pieces
-pub mod Reading
-pub mod Passes
-pub mod Sweeps
+pub mod Passes  -- a pass over the slots in one window

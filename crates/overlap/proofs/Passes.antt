@@ -10,8 +10,8 @@ use mathlib.Core.Logic.{_⊎_, inl, inr}
 use lib.Dec.{ltb}
 use borrow.Author.Tests.{lt-ltb, le-ltb}
 use Rattle.laws.proofs.Tests.{by-le, by-eq, by-either}
-use Rattle.overlap.specs.Marks.{Map, marked, Claimed}
-use Rattle.overlap.specs.Windows.{Piece, Unseen, Carried, Clear, Swept}
+use Rattle.marks.specs.Marks.{Map, marked, Claimed}
+use Rattle.stretches.specs.Windows.{Piece, Unseen, Carried, Clear, Swept}
 
 pub record Passing (start stop : ℕ → ℕ) (lo hi best : ℕ) (m : Map) (i next : ℕ) : Type 0 where
   pub low : i ≤ best

@@ -1,10 +1,6 @@
 // Two points on one message: the lowest slot whose stretch meets that of a lower-numbered one. The data area is swept
 // window by window, each as wide as a map of marks that the caller lends. The image is only read.
-//     marks      a map of marks, 64 to a word, claimed stretch by stretch
-//     stretch    a slot's stretch, and what a window shows of it
 //     window     the slots, in rising order, in one window
-pub mod marks;
-pub mod stretch;
 pub mod window;
 
 use crate::window::window;
@@ -16,8 +12,8 @@ ghost use mathlib.Core.Path.{_≡_};
 ghost use Prim.Native.Nat.{_^_, _<_};
 ghost use lib.ListN.{length};
 ghost use Rattle.bhtf.specs.Image.{layoutOf};
-ghost use Rattle.overlap.specs.Checked.{Checked};
-ghost use Rattle.overlap.specs.Stretches.{firstMeeting};
+ghost use Rattle.stretches.specs.Checked.{Checked};
+ghost use Rattle.stretches.specs.Stretches.{firstMeeting};
 
 // The lowest slot below `bound` whose stretch meets that of a lower-numbered taken slot; `bound` where there is none.
 // Below `bound` every taken slot's message passes question 11. Window by window, from the data area's start to X; no

@@ -1,10 +1,10 @@
 // A window of the data area: the slots in rising order, each marking the places of its stretch. The first that meets a
 // mark meets a lower-numbered slot and ends the pass.
-use crate::marks::claim;
-use crate::marks::clear;
-use crate::stretch::shown_of;
 use layout::places::Slot;
 use layout::shape::Shape;
+use marks::claim;
+use marks::clear;
+use stretches::shown_of;
 use table::offset_of;
 use words::arith::lesser;
 ghost use mathlib.Core.Path.{_≡_};
@@ -12,9 +12,9 @@ ghost use mathlib.Core.Bool.{cond};
 ghost use Prim.Native.Nat.{ℕ, _-_, _*_, _^_, _≤_, _<_};
 ghost use lib.Dec.{ltb};
 ghost use lib.ListN.{length};
-ghost use Rattle.overlap.specs.Marks.{marked};
-ghost use Rattle.overlap.specs.Checked.{startIn, endIn};
-ghost use Rattle.overlap.specs.Windows.{Window, Unseen, Swept};
+ghost use Rattle.marks.specs.Marks.{marked};
+ghost use Rattle.stretches.specs.Checked.{startIn, endIn};
+ghost use Rattle.stretches.specs.Windows.{Window, Unseen, Swept};
 
 // best: the lowest slot known to meet a lower-numbered one, or the bound. carried: the slot below it whose stretch goes
 // on across the window's end, or a number that is not below it.

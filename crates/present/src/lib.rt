@@ -11,7 +11,7 @@ use storing::overwrite;
 use storing::retire;
 use storing::take_space;
 use table::offset_of;
-use table::put_entry;
+use table::set_offset;
 use words::fields::read_u32;
 use words::limits::FREE_FIELD;
 ghost use mathlib.Core.Path.{_≡_};
@@ -28,43 +28,37 @@ ghost use Rattle.bhtf.specs.Questions.{firstNo, pointAsks, modeKnown, messageSo
 ghost use Rattle.bhtf.specs.Search.{met};
 ghost use Rattle.layout.specs.Shapes.{Open};
 ghost use Rattle.storing.specs.Fits.{Fits};
+ghost use Rattle.table.specs.Slots.{keyIn};
 
 // The old message, if there is one, becomes inactive; the first `before` bytes of its text, and the bytes, are placed
-// in new space, where the point's entry then points.
-fn relocate(
-    image: &mut [u8],
-    shape: Shape,
-    slot: Slot,
-    o: Offset,
-    before: usize,
-    key: &[u8],
-    bytes: &[u8],
-)
-    requires { ⌜ Open (now image) shape × (slot .0 < shape .slots) × (length (now key) ≡ shape .keylen)
+// in new space, where the point's offset then points.
+fn relocate(image: &mut [u8], shape: Shape, slot: Slot, o: Offset, before: usize, bytes: &[u8])
+    requires { ⌜ Open (now image) shape × (slot .0 < shape .slots)
         × (messageSound (layoutOf (now image)) (now image) (o .0) ≡ true)
         × (o .0 + shape .head + before ≤ field (now image) freeField)
         × Fits (now image) shape (before + length (now bytes)) ⌝ }
     ensures { λ _. ⌜ now (image .exit)
-        ≡ relocated (layoutOf (now (image .entry))) (now (image .entry)) (slot .0) (o .0) (now (key .entry))
+        ≡ relocated (layoutOf (now (image .entry))) (now (image .entry)) (slot .0) (o .0)
+        (keyIn (now (image .entry)) (slot .0))
         (part (now (image .entry)) (o .0 + shape .head) before ++ now (bytes .entry)) ⌝ }
 {
     let free = Offset::new(read_u32(image, FREE_FIELD) as usize);
     retire(image, o);
     take_space(image, shape, text_start(shape, o), before, bytes);
-    put_entry(image, shape, slot, key, free);
+    set_offset(image, shape, slot, free);
 }
 
 // Mode 2: as many bytes as the offset holds are written in place; more, or where there is no offset, are placed in new
 // space.
-fn replace(image: &mut [u8], shape: Shape, slot: Slot, o: Offset, key: &[u8], bytes: &[u8]) -> u32
-    requires { ⌜ Open (now image) shape × (slot .0 < shape .slots) × (length (now key) ≡ shape .keylen)
+fn replace(image: &mut [u8], shape: Shape, slot: Slot, o: Offset, bytes: &[u8]) -> u32
+    requires { ⌜ Open (now image) shape × (slot .0 < shape .slots)
         × (messageSound (layoutOf (now image)) (now image) (o .0) ≡ true) ⌝ }
     ensures { λ r. ⌜ (r ≡ placeNumber (layoutOf (now (image .entry))) (now (image .entry))
         (renewedText (layoutOf (now (image .entry))) (now (image .entry)) (o .0) (now (bytes .entry)) 2))
         × (now (image .exit)
         ≡ settled r (now (image .entry))
-        (renewedAt (layoutOf (now (image .entry))) (now (image .entry)) (slot .0) (o .0) (now (key .entry))
-        (now (bytes .entry)) 2)) ⌝ }
+        (renewedAt (layoutOf (now (image .entry))) (now (image .entry)) (slot .0) (o .0)
+        (keyIn (now (image .entry)) (slot .0)) (now (bytes .entry)) 2)) ⌝ }
 {
     if holds(image, shape, o, bytes.len()) {
         overwrite(image, shape, o, bytes);
@@ -74,20 +68,20 @@ fn replace(image: &mut [u8], shape: Shape, slot: Slot, o: Offset, key: &[u8], by
     if number != 0 {
         return number;
     }
-    relocate(image, shape, slot, o, 0, key, bytes);
+    relocate(image, shape, slot, o, 0, bytes);
     0
 }
 
 // Mode 3: no bytes change nothing; others are placed in new space, behind the text of an active message.
-fn append(image: &mut [u8], shape: Shape, slot: Slot, o: Offset, key: &[u8], bytes: &[u8]) -> u32
-    requires { ⌜ Open (now image) shape × (slot .0 < shape .slots) × (length (now key) ≡ shape .keylen)
+fn append(image: &mut [u8], shape: Shape, slot: Slot, o: Offset, bytes: &[u8]) -> u32
+    requires { ⌜ Open (now image) shape × (slot .0 < shape .slots)
         × (messageSound (layoutOf (now image)) (now image) (o .0) ≡ true) ⌝ }
     ensures { λ r. ⌜ (r ≡ placeNumber (layoutOf (now (image .entry))) (now (image .entry))
         (renewedText (layoutOf (now (image .entry))) (now (image .entry)) (o .0) (now (bytes .entry)) 3))
         × (now (image .exit)
         ≡ settled r (now (image .entry))
-        (renewedAt (layoutOf (now (image .entry))) (now (image .entry)) (slot .0) (o .0) (now (key .entry))
-        (now (bytes .entry)) 3)) ⌝ }
+        (renewedAt (layoutOf (now (image .entry))) (now (image .entry)) (slot .0) (o .0)
+        (keyIn (now (image .entry)) (slot .0)) (now (bytes .entry)) 3)) ⌝ }
 {
     if bytes.len() == 0 {
         return 0;
@@ -97,27 +91,20 @@ fn append(image: &mut [u8], shape: Shape, slot: Slot, o: Offset, key: &[u8], byt
     if number != 0 {
         return number;
     }
-    relocate(image, shape, slot, o, before, key, bytes);
+    relocate(image, shape, slot, o, before, bytes);
     0
 }
 
 // Add of the point in the slot: question 9 before its message is looked at, then 11, then 12 and 13.
-pub fn add_present(
-    image: &mut [u8],
-    shape: Shape,
-    slot: Slot,
-    key: &[u8],
-    bytes: &[u8],
-    mode: u32,
-) -> u32
-    requires { ⌜ Open (now image) shape × (slot .0 < shape .slots) × (length (now key) ≡ shape .keylen)
+pub fn add_present(image: &mut [u8], shape: Shape, slot: Slot, bytes: &[u8], mode: u32) -> u32
+    requires { ⌜ Open (now image) shape × (slot .0 < shape .slots)
         × (modeKnown mode ≡ true) ⌝ }
     ensures { λ r. ⌜ (r ≡ firstNo (pointAsks (layoutOf (now (image .entry))) (now (image .entry)) (met (slot .0))
         (now (bytes .entry)) mode))
         × (now (image .exit)
         ≡ settled r (now (image .entry))
-        (addedAt (layoutOf (now (image .entry))) (now (image .entry)) (met (slot .0)) (now (key .entry))
-        (now (bytes .entry)) mode)) ⌝ }
+        (addedAt (layoutOf (now (image .entry))) (now (image .entry)) (met (slot .0))
+        (keyIn (now (image .entry)) (slot .0)) (now (bytes .entry)) mode)) ⌝ }
 {
     if mode == 1 {
         return 9;
@@ -127,11 +114,11 @@ pub fn add_present(
         return 11;
     }
     if mode == 2 {
-        return replace(image, shape, slot, o, key, bytes);
+        return replace(image, shape, slot, o, bytes);
     }
     if mode == 4 {
         retire(image, o);
         return 0;
     }
-    append(image, shape, slot, o, key, bytes)
+    append(image, shape, slot, o, bytes)
 }

@@ -1,10 +1,10 @@
-// Bytes copied from one place of a slice to another, from eight bytes on in blocks of eight, the last of which may
-// overlap the one before.
+// Bytes copied from one place of a slice to another, from eight bytes on in blocks of eight, which may overlap.
 ghost use mathlib.Core.Path.{_≡_};
 ghost use mathlib.Core.Logic.{_⊎_};
 ghost use lib.ListN.{length};
-ghost use Prim.Native.Nat.{_+_, _≤_};
+ghost use Prim.Native.Nat.{_+_, _-_, _≤_};
 ghost use Rattle.bhtf.specs.Bytes.{part, store};
+ghost use Rattle.copies.specs.Within.{Begun, Runs};
 
 // Copies the n bytes from `from` on to `to`, byte by byte; the two runs do not meet.
 fn move_bytes(s: &mut [u8], from: usize, to: usize, n: usize)
@@ -41,6 +41,80 @@ fn move_eight(s: &mut [u8], from: usize, to: usize)
     s[to + 7] = b7;
 }
 
+// Of at most 64 bytes whose first sixteen are copied, copies the others but for the last sixteen.
+fn move_inner(s: &mut [u8], from: usize, to: usize, n: usize)
+    requires { ⌜ Runs (now s) from to n × (n ≤ 64) × Begun (now s) (now s) from to n 16 ⌝ }
+    ensures { λ _. ⌜ Begun (now (s .entry)) (now (s .exit)) from to n (n - 16) ⌝ }
+{
+    if n <= 32 {
+        return;
+    }
+    let third = n - 32;
+    let fourth = n - 24;
+    move_eight(s, from + 16, to + 16);
+    move_eight(s, from + 24, to + 24);
+    move_eight(s, from + third, to + third);
+    move_eight(s, from + fourth, to + fourth);
+}
+
+// Of at most 64 bytes whose first eight are copied, copies the others but for the last eight.
+fn move_middle(s: &mut [u8], from: usize, to: usize, n: usize)
+    requires { ⌜ Runs (now s) from to n × (n ≤ 64) × Begun (now s) (now s) from to n 8 ⌝ }
+    ensures { λ _. ⌜ Begun (now (s .entry)) (now (s .exit)) from to n (n - 8) ⌝ }
+{
+    if n <= 16 {
+        return;
+    }
+    let end = n - 16;
+    move_eight(s, from + 8, to + 8);
+    move_inner(s, from, to, n);
+    move_eight(s, from + end, to + end);
+}
+
+// Copies 8 to 64 bytes but for the last eight, by blocks from both ends that may overlap, as `copy` of `copies` does.
+fn move_short(s: &mut [u8], from: usize, to: usize, n: usize)
+    requires { ⌜ Runs (now s) from to n × (8 ≤ n) × (n ≤ 64) ⌝ }
+    ensures { λ _. ⌜ Begun (now (s .entry)) (now (s .exit)) from to n (n - 8) ⌝ }
+{
+    move_eight(s, from, to);
+    move_middle(s, from, to, n);
+}
+
+// Copies eight bytes or more but for the last eight, block by block.
+fn move_blocks(s: &mut [u8], from: usize, to: usize, n: usize)
+    requires { ⌜ Runs (now s) from to n × (8 ≤ n) ⌝ }
+    ensures { λ _. ⌜ Begun (now (s .entry)) (now (s .exit)) from to n (n - 8) ⌝ }
+{
+    let end = n - 8;
+    let mut i = 0;
+    while i < end {
+        move_eight(s, from + i, to + i);
+        i += 8;
+    }
+}
+
+// Copies eight bytes or more but for the last eight.
+fn move_front(s: &mut [u8], from: usize, to: usize, n: usize)
+    requires { ⌜ Runs (now s) from to n × (8 ≤ n) ⌝ }
+    ensures { λ _. ⌜ Begun (now (s .entry)) (now (s .exit)) from to n (n - 8) ⌝ }
+{
+    if n <= 64 {
+        move_short(s, from, to, n);
+    } else {
+        move_blocks(s, from, to, n);
+    }
+}
+
+// Copies eight bytes or more. Short and long share the last block, as in `copy_eights` of `copies`.
+fn move_eights(s: &mut [u8], from: usize, to: usize, n: usize)
+    requires { ⌜ Runs (now s) from to n × (8 ≤ n) ⌝ }
+    ensures { λ _. ⌜ now (s .exit) ≡ store (now (s .entry)) to (part (now (s .entry)) from n) ⌝ }
+{
+    let last = n - 8;
+    move_front(s, from, to, n);
+    move_eight(s, from + last, to + last);
+}
+
 // Copies the n bytes from `from` on to `to`; the two runs do not meet.
 pub fn copy_apart(s: &mut [u8], from: usize, to: usize, n: usize)
     requires { ⌜ ((from + n ≤ to) ⊎ (to + n ≤ from)) × (from + n ≤ length (now s)) × (to + n ≤ length (now s)) ⌝ }
@@ -48,23 +122,22 @@ pub fn copy_apart(s: &mut [u8], from: usize, to: usize, n: usize)
 {
     if n < 8 {
         move_bytes(s, from, to, n);
-        return;
+    } else {
+        move_eights(s, from, to, n);
     }
-    let last = n - 8;
-    let mut i = 0;
-    while i < last {
-        move_eight(s, from + i, to + i);
-        i += 8;
-    }
-    move_eight(s, from + last, to + last);
 }
 
-// Copies the n bytes from `from` on to `to`, above them.
+// Copies the n bytes from `from` on to `to`, above them. The test of `copy_apart` is made here too: of two callers the
+// compiler takes into neither the blocks, so that a caller with few bytes, or none, makes no call.
 pub fn copy_up(s: &mut [u8], from: usize, to: usize, n: usize)
     requires { ⌜ (from + n ≤ to) × (to + n ≤ length (now s)) ⌝ }
     ensures { λ _. ⌜ now (s .exit) ≡ store (now (s .entry)) to (part (now (s .entry)) from n) ⌝ }
 {
-    copy_apart(s, from, to, n);
+    if n < 8 {
+        move_bytes(s, from, to, n);
+    } else {
+        move_eights(s, from, to, n);
+    }
 }
 
 // Copies the n bytes from `from` on to `to`, which is not above them; the two runs may meet.

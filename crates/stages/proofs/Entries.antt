@@ -1,8 +1,6 @@
 -- A slot's bytes and their key and offset; a slot's offset written.
 --     four-back, slot-back      digits of a number read from bytes are these bytes; an entry of a slot's own parts
---     store-part, part-join     a part stored where it stands; two parts side by side
 --     table-above               a slot ends at or below the table's end
---     offset-written            the offset's field written is the slot with another offset
 -- Assumes nothing.
 use mathlib.Core.Path.{_≡_, refl, sym, ap, ap₂, _∙_, subst}
 use Prim.Native.Nat.{ℕ, zero, suc, _+_, _-_, _*_, _/_, _%_, _≤_, _<_}
@@ -24,7 +22,7 @@ use Rattle.laws.proofs.Stores.{store-append}
 use Rattle.laws.proofs.Slots.{Room, keyOf-slot}
 use Rattle.runs.proofs.Little.{bytes-part}
 use Rattle.laws.proofs.Tests.{by-bool}
-use Rattle.stages.specs.Stages.{offsetIn, keyIn, spanIn, deadIn, activeIn, withOffset, tableEnd}
+use Rattle.stages.specs.Stages.{offsetIn, keyIn, spanIn, deadIn, activeIn, tableEnd}
 
 -- ---- four bytes
 digit-first : (a b c d : ℕ) → a < 256 → b < 256 → c < 256 → d < 256
@@ -88,14 +86,7 @@ table-above g i h =
     let le : suc i * slotSize g ≤ g .N * slotSize g = mul-le-mul-right (slotSize g) h in
     omega (arith, suc-mul i (slotSize g), le)
 
--- ---- parts
-pub store-part : (b : Bytes) (p n : ℕ) → p + n ≤ length b → store b p (part b p n) ≡ b
-unfolding store
-store-part b p n h =
-    let rest : part b p n ++ drop n (drop p b) ≡ drop p b = unfold part in (take-append-drop n (drop p b)) in
-    ap (λ (m : ℕ). take p b ++ (part b p n ++ drop m (drop p b))) (part-length b p n h)
-    ∙ ap (λ (v : Bytes). take p b ++ v) rest
-    ∙ take-append-drop p b
+-- ---- what stands behind the table
 
 -- a slot's write does not reach what stands between table and data area
 pub behind-putSlot : (g : Layout) (img : Bytes) (i : ℕ) (v : Bytes) → Room g (length img) → i < g .N
@@ -142,20 +133,3 @@ module _ (img : Bytes) (i : ℕ) where
       → activeIn img i ≡ spanIn img i
   unfolding activeIn taken
   active-is v a = rw (v, a) refl
-
--- ---- the offset's field
-pub offset-written : (g : Layout) (img : Bytes) (i o : ℕ) → slotStart g i + slotSize g ≤ length img
-    → setField img (slotStart g i + g .K) o ≡ putSlot g img i (slotBytes (keyOf g (slot g img i)) o)
-unfolding setField putSlot slotBytes
-offset-written g img i o h =
-    let p = slotStart g i in
-    let key = part img p (g .K) in
-    let end : p + g .K + 4 ≤ length img = unfold slotSize in (omega (arith, h)) in
-    let l : length key ≡ g .K = part-length img p (g .K) (omega (arith, end)) in
-    ap₂ (λ (x : Bytes) (n : ℕ). store x n (digits 4 o)) (sym (store-part img p (g .K) (omega (arith, end))))
-    (ap (λ (n : ℕ). p + n) (sym l))
-    ∙ store-append img p key (digits 4 o) (omega (arith, l, end, four))
-    ∙ ap (λ (k : Bytes). store img p (k ++ digits 4 o)) (sym (keyOf-slot g img i))
-  where
-    four : length (digits 4 o) ≡ 4
-    four = unfold digits in refl

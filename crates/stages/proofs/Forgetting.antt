@@ -24,14 +24,15 @@ use Rattle.laws.proofs.Slots.{Room, length-slot, length-keyOf, length-entry, le
 use Rattle.laws.proofs.Opened.{Opened, opened-facts}
 use Rattle.laws.proofs.Stretch.{span, Lies, sound-lies}
 use Rattle.laws.proofs.Verdict.{check-messages}
-use Rattle.compaction.proofs.Packing.{startAt, Live, Stretches, sound-stretches, below-start}
+use Rattle.compacted.proofs.Packing.{startAt, Live, Stretches, sound-stretches, below-start}
 use Rattle.laws.proofs.Total.{total, total-same, total-bound}
 use Rattle.laws.proofs.Table.{weigh, weight}
-use Rattle.compaction.proofs.Packed.{activeSpan, packed-weight}
+use Rattle.compacted.proofs.Packed.{activeSpan, packed-weight}
 use Rattle.layout.specs.Shapes.{Open}
 use Rattle.layout.proofs.Shaped.{shape-head}
 use Rattle.layout.specs.declared.shape.Shape.{Shape}
-use Rattle.stages.specs.Stages.{offsetIn, keyIn, spanIn, offsetNow, slotNow, tableEnd, deadIn, activeIn, withOffset, Stage, Forgotten, Sound}
+use Rattle.table.specs.Slots.{withOffset}
+use Rattle.stages.specs.Stages.{offsetIn, keyIn, spanIn, offsetNow, slotNow, tableEnd, deadIn, activeIn, Stage, Forgotten, Sound}
 use Rattle.stages.proofs.Entries.{slot-back, slot-bytes, behind-putSlot}
 use Rattle.stages.proofs.Stages.{front-layout, front-open}
 

@@ -24,7 +24,7 @@ use Rattle.laws.proofs.Slots.{Room, length-slot, length-keyOf, length-entry, ke
 use Rattle.laws.proofs.Opened.{Opened, opened-facts, facts-opened}
 use Rattle.laws.proofs.Kept.{Kept, kept-layout, opened-kept, kept-multiplier, kept-start, kept-first, kept-last, middleSize, restSize}
 use Rattle.laws.proofs.Stretch.{span}
-use Rattle.compaction.proofs.Packing.{startAt, stopAt, Live, Stretches, packed-below}
+use Rattle.compacted.proofs.Packing.{startAt, stopAt, Live, Stretches, packed-below}
 use Rattle.layout.specs.Shapes.{shapeOf, Open}
 use Rattle.layout.specs.declared.shape.Shape.{Shape}
 use Rattle.stages.specs.Stages.{offsetNow, slotNow, Stage}

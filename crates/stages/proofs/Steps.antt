@@ -22,7 +22,7 @@ use Rattle.laws.proofs.Tests.{by-bool, by-eq, by-le}
 use Rattle.laws.proofs.Bytes.{part-length, length-store, part-store-same, part-store-below, part-store-above, part-store-other}
 use Rattle.laws.proofs.Slots.{Room, length-slot, length-keyOf, length-entry, length-putSlot, slot-putSlot-same, slot-putSlot-other, part-putSlot-outside, slot-store-data}
 use Rattle.laws.proofs.Stretch.{span}
-use Rattle.compaction.proofs.Packing.{startAt, stopAt, Live, Stretches, below-none, below-one, packed-fits, packed-below}
+use Rattle.compacted.proofs.Packing.{startAt, stopAt, Live, Stretches, below-none, below-one, packed-fits, packed-below}
 use Rattle.runs.proofs.Little.{part-join}
 use Rattle.stages.specs.Stages.{offsetNow, slotNow, tableEnd, Stage}
 use Rattle.stages.proofs.Entries.{behind-putSlot}

@@ -14,8 +14,8 @@ use Rattle.bhtf.specs.Messages.{isActive}
 use Rattle.bhtf.specs.Inspect.{taken}
 use Rattle.compaction.specs.Compact.{packedBelow, packed, packedOffset, packedEnd}
 use Rattle.laws.proofs.Tests.{by-bool}
-use Rattle.compaction.proofs.Packing.{startAt, Live, Stretches, sound-stretches, live-begins}
-use Rattle.compaction.proofs.Packed.{end-fits, tight-bytes, tight-at}
+use Rattle.compacted.proofs.Packing.{startAt, Live, Stretches, sound-stretches, live-begins}
+use Rattle.compacted.proofs.Packed.{end-fits, tight-bytes, tight-at}
 use Rattle.layout.specs.declared.shape.Shape.{Shape}
 use Rattle.stages.specs.Stages.{offsetNow, slotNow, Stage, Forgotten, Sound}
 

@@ -33,10 +33,6 @@ keyIn img i = keyOf (layoutOf img) (slot (layoutOf img) img i)
 abbrev pub spanIn : Bytes → ℕ → ℕ
 spanIn img i = headSize (layoutOf img) + lengthAt (layoutOf img) img (offsetIn img i)
 
--- the image with another offset in slot i
-unfoldable pub withOffset : Bytes → ℕ → ℕ → Bytes
-withOffset img i o = putSlot (layoutOf img) img i (slotBytes (keyIn img i) o)
-
 -- slot i has an inactive message
 unfoldable pub deadIn : Bytes → ℕ → Bool
 deadIn img i =

@@ -18,7 +18,7 @@ ghost use Rattle.station.specs.Codes.{verdictCode, verdictSlot};
 ghost use Rattle.bhtf.specs.Calls.{create, add, delete, lookup, lookupStart, lookupLength, count, addRead, deleteRead, lookupRead};
 ghost use Rattle.compaction.specs.Compact.{compact};
 ghost use Rattle.updates.specs.Journal.{Disk, recoverNumber, recovered};
-ghost use Rattle.listed.specs.Lists.{Lists};
+ghost use Rattle.slices.specs.Lists.{Lists};
 ghost use Rattle.journal.specs.Updates.{Updates};
 ghost use Rattle.journaled.specs.Journals.{Journals};
 

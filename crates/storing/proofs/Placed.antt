@@ -43,17 +43,9 @@ pub length-written : (W : ℕ) (t : Bytes) → length (message W t) ≡ W + 1 + 
 unfolding message header
 length-written W t = length-append (header W (length t)) t ∙ ap (λ (n : ℕ). n + length t) (length-header W (length t))
 
--- the letter and the length are one header
-header-steps : (W : ℕ) (s : Bytes) (m : ℕ) → W + 1 ≤ length s
-    → store (set s 0 active) 1 (digits W m) ≡ store s 0 (header W m)
-unfolding header
-header-steps W s m h =
-    ap (λ (t : Bytes). store t 1 (digits W m)) (set-store s 0 active (omega arith))
-    ∙ store-append s 0 (active ∷ []) (digits W m) (rw (length-digits W m) (omega arith))
-
 -- with n bytes of text already behind the header, and the bytes v behind them up to the end
 written-steps : (W : ℕ) (s v : Bytes) (n : ℕ) → length s ≡ W + 1 + n + length v
-    → store (store (set s 0 active) 1 (digits W (n + length v))) (W + 1 + n) v ≡ message W (part s (W + 1) n ++ v)
+    → store (store s 0 (active ∷ digits W (n + length v))) (W + 1 + n) v ≡ message W (part s (W + 1) n ++ v)
 unfolding store message header part digits
 written-steps W s v n h =
     let m = n + length v in
@@ -63,8 +55,7 @@ written-steps W s v n h =
     length-append old v ∙ ap (λ (k : ℕ). k + length v) (part-length s (W + 1) n (omega arith)) in
     let size : W + 1 + n + length v ≡ length (store s 0 top) =
     omega (arith, length-store s 0 top (omega (arith, length-header W m))) in
-    ap (λ (t : Bytes). store t (W + 1 + n) v) (header-steps W s m (omega arith))
-    ∙ store-end (store s 0 top) (W + 1 + n) v size
+    store-end (store s 0 top) (W + 1 + n) v size
     ∙ ap (λ (t : Bytes). t ++ v)
     (ap (λ (k : ℕ). take (k + n) (top ++ drop (length top) s)) (sym (length-header W m))
     ∙ take-append-add top (drop (length top) s) n
@@ -74,11 +65,11 @@ written-steps W s v n h =
 
 -- the same where the header's size is known by its width
 pub written-at : (s v : Bytes) (n head : ℕ) → head ≡ lengthWidth + 1 → length s ≡ head + n + length v
-    → store (store (set s 0 active) (head - lengthWidth) (digits lengthWidth (n + length v))) (head + n) v
+    → store (store s 0 (active ∷ digits lengthWidth (n + length v))) (head + n) v
     ≡ message lengthWidth (part s head n ++ v)
 written-at s v n head e =
     subst (λ (h : ℕ). length s ≡ h + n + length v
-    → store (store (set s 0 active) (h - lengthWidth) (digits lengthWidth (n + length v))) (h + n) v
+    → store (store s 0 (active ∷ digits lengthWidth (n + length v))) (h + n) v
     ≡ message lengthWidth (part s h n ++ v)) (sym e) (written-steps lengthWidth s v n)
 
 -- ---- a message written over an old one, in the image of layout g; its header has `head` bytes

@@ -4,7 +4,7 @@
 --     inserted-steps, relocated-steps      the steps together
 -- Assumes nothing.
 use mathlib.Core.Path.{_≡_, refl, sym, ap, ap₂, _∙_, subst}
-use Prim.Native.Nat.{ℕ, _+_, _≤_}
+use Prim.Native.Nat.{ℕ, _+_, _≤_, _<_}
 use native.Mathlib.Omega.{arith}
 use mathlib.Core.Bool.{true}
 use mathlib.Core.List.{[], _++_}
@@ -14,15 +14,17 @@ use lib.Dec.{leb}
 use borrow.Author.Tests.{leb-true}
 use Rattle.bhtf.specs.Bytes.{Bytes, part}
 use Rattle.bhtf.specs.Limits.{freeField}
-use Rattle.bhtf.specs.Image.{field, layoutOf, putSlot, slotBytes}
+use Rattle.bhtf.specs.Image.{field, Layout, layoutOf, slot, keyOf, putSlot, slotBytes}
 use Rattle.bhtf.specs.Messages.{headSize, takeSpace, retire, enter, inserted, relocated}
 use Rattle.bhtf.specs.Questions.{messageSound, lengthAllowed, spaceLeft, placeNumber}
 use Rattle.laws.proofs.Bytes.{length-part-append}
 use Rattle.laws.proofs.Opened.{firstNo-head, firstNo-tail, opened-facts}
-use Rattle.laws.proofs.Effects.{retire-kept, retire-opened, retire-field, retire-behind, space-kept, space-opened}
+use Rattle.laws.proofs.Effects.{retire-kept, retire-opened, retire-field, retire-slot, retire-behind, spaced, space-kept, space-opened}
 use Rattle.layout.specs.Shapes.{Open}
 use Rattle.layout.specs.declared.shape.Shape.{Shape}
 use Rattle.layout.proofs.Shaped.{shape-head, shape-most, head-width}
+use Rattle.table.specs.Slots.{keyIn, withOffset}
+use Rattle.table.proofs.Headers.{layout-slots}
 use Rattle.table.proofs.Heads.{SameHead, same-open, head-trans, head-opened}
 use Rattle.storing.specs.Fits.{Fits}
 
@@ -107,8 +109,33 @@ module _ {img : Bytes} {s : Shape} (open₀ : Open img s) (img₁ : Bytes) (o : 
         (head-space (same-open first open₀) img₂ text
         (omega (arith, retired-free, first .size, length-text, fits .room)) placed)
 
-    pub relocated-steps : (after key : Bytes) (i x : ℕ) → x ≡ field img freeField
+    steps : (after key : Bytes) (i x : ℕ) → x ≡ field img freeField
         → after ≡ putSlot (layoutOf img₂) img₂ i (slotBytes key x)
         → after ≡ relocated (layoutOf img) img i o key text
     unfolding relocated
-    relocated-steps after key i x ex e = e ∙ rw (head-relocated .layout, placed, first .layout, e₁, ex) refl
+    steps after key i x ex e = e ∙ rw (head-relocated .layout, placed, first .layout, e₁, ex) refl
+
+    -- neither step reaches the table
+    key-same : (i : ℕ) → i < s .slots → keyIn img₂ i ≡ keyIn img i
+    key-same i l =
+        let g = layoutOf img in
+        let f = opened-facts img (open₀ .accepted) in
+        let open₁ = same-open first open₀ in
+        let f₁ = opened-facts img₁ (open₁ .accepted) in
+        let n = layout-slots img s (open₀ .shape) in
+        let room : field img₁ freeField + headSize (layoutOf img₁) + length text ≤ length img₁ =
+        omega (arith, retired-free, first .size, length-text, fits .room, shape-head open₁) in
+        ap (λ (h : Layout). keyOf h (slot h img₂ i)) (head-relocated .layout ∙ sym (first .layout))
+        ∙ ap (λ (b : Bytes). keyOf (layoutOf img₁) (slot (layoutOf img₁) b i)) placed
+        ∙ ap (keyOf (layoutOf img₁))
+        (spaced img₁ f₁ text room .slots i (omega (arith, l, n, ap (λ (h : Layout). h .N) (first .layout))))
+        ∙ ap₂ (λ (h : Layout) (b : Bytes). keyOf h (slot h b i)) (first .layout) e₁
+        ∙ ap (keyOf g) (retire-slot img f o m i (omega (arith, l, n)))
+
+    pub relocated-steps : (after : Bytes) (i x : ℕ) → i < s .slots → x ≡ field img freeField
+        → after ≡ withOffset img₂ i x
+        → after ≡ relocated (layoutOf img) img i o (keyIn img i) text
+    unfolding withOffset
+    relocated-steps after i x l ex e =
+        steps after (keyIn img₂ i) i x ex e
+        ∙ ap (λ (key : Bytes). relocated (layoutOf img) img i o key text) (key-same i l)

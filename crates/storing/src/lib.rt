@@ -1,16 +1,15 @@
 // A message is written: made inactive, in place, or in new space at X.
+use clearing::zero;
 use copies::copy;
-use copies::zero;
 use layout::places::Offset;
 use layout::shape::Shape;
 use messages::is_active;
 use messages::length_at;
 use shifts::copy_up;
 use words::fields::read_u32;
-use words::fields::write_u24;
+use words::fields::write_low_u24;
 use words::fields::write_u32;
 use words::limits::FREE_FIELD;
-use words::limits::LENGTH_WIDTH;
 use words::limits::PAGE;
 use words::limits::PAGE_FIELD;
 ghost use mathlib.Core.Path.{_≡_};
@@ -46,8 +45,7 @@ pub fn write_message(space: &mut [u8], head: usize, before: usize, bytes: &[u8])
         ≡ message lengthWidth (part (now (space .entry)) head before ++ now (bytes .entry)) ⌝ }
 {
     let m = before + bytes.len();
-    space[0] = b'a';
-    write_u24(space, head - LENGTH_WIDTH, m as u32);
+    write_low_u24(space, 0, b'a', m as u32);
     let from = head + before;
     copy(&mut space[from..], bytes);
 }

@@ -4,6 +4,7 @@
 --     Placed, placed-opened, placed-room      the table lies in the image
 --     Spot, spot          what a function that goes to slot i needs
 --     key-part, offset-part, put-slot      the part that code cuts out is the slot's key, offset, bytes
+--     offset-written      the offset's field written is the slot with another offset
 -- Assumes nothing.
 use mathlib.Core.Path.{_≡_, refl, sym, ap, ap₂, _∙_, subst}
 use Prim.Native.Nat.{ℕ, zero, suc, _+_, _-_, _*_, _%_, _≤_, _<_}
@@ -15,9 +16,10 @@ use lib.Seq.{drop-drop, take-at, drop-at, drop-length}
 use borrow.Rule.Slice.PartMut.{putMid}
 use Rattle.bhtf.specs.Bytes.{Bytes, part, store, number, digits}
 use Rattle.bhtf.specs.Limits.{pageSize, mostImage, mostKey, mostSlots, mostCharacter, scrambleStart, tableStart, slotsField, multiplierField, startField, firstField, lastField}
-use Rattle.bhtf.specs.Image.{field, setField, hashFrom, hash, scramble, home, layoutOf, slotSize, slotStart, slot, putSlot, offsetOf, slotBytes}
+use Rattle.bhtf.specs.Image.{field, setField, hashFrom, hash, scramble, home, Layout, layoutOf, slotSize, slotStart, slot, putSlot, keyOf, offsetOf, slotBytes}
 use Rattle.bhtf.specs.Questions.{openNumber}
-use Rattle.laws.proofs.Bytes.{length-digits}
+use Rattle.laws.proofs.Bytes.{part-length, length-digits}
+use Rattle.laws.proofs.Stores.{store-part, store-append}
 use Rattle.laws.proofs.Slots.{Room, keyOf-slot}
 use Rattle.laws.proofs.Opened.{opened-facts, opened-room}
 use Rattle.laws.proofs.Table.{keyAt}
@@ -185,3 +187,20 @@ entry-written key rest o l =
   where
     nothing : drop (length (digits 4 o)) rest ≡ []
     nothing = ap (λ (n : ℕ). drop n rest) (length-digits 4 o ∙ sym l) ∙ drop-length rest
+
+-- ---- the offset's field
+pub offset-written : (g : Layout) (img : Bytes) (i o : ℕ) → slotStart g i + slotSize g ≤ length img
+    → setField img (slotStart g i + g .K) o ≡ putSlot g img i (slotBytes (keyOf g (slot g img i)) o)
+unfolding setField putSlot slotBytes
+offset-written g img i o h =
+    let p = slotStart g i in
+    let key = part img p (g .K) in
+    let end : p + g .K + 4 ≤ length img = unfold slotSize in (omega (arith, h)) in
+    let l : length key ≡ g .K = part-length img p (g .K) (omega (arith, end)) in
+    ap₂ (λ (x : Bytes) (n : ℕ). store x n (digits 4 o)) (sym (store-part img p (g .K) (omega (arith, end))))
+    (ap (λ (n : ℕ). p + n) (sym l))
+    ∙ store-append img p key (digits 4 o) (omega (arith, l, end, four))
+    ∙ ap (λ (k : Bytes). store img p (k ++ digits 4 o)) (sym (keyOf-slot g img i))
+  where
+    four : length (digits 4 o) ≡ 4
+    four = unfold digits in refl

@@ -1,9 +1,9 @@
 -- The search's answer taken apart by `let Found::Met(slot) = found else`, on an image of shape s.
 --     named-yes, named-no      question 7, which comes before
---     met-is, met-within, other-met          in the arm of `Found::Met`, and in the other
+--     met-is, met-within, met-key, other-met      in the arm of `Found::Met`, and in the other
 --     empty-is, empty-within, other-empty    so of `Found::Empty`
 --     met-slot, not-met        the same of a search's answer
---     search-within            the slot where a search ended is one of the table's
+--     search-within, search-key      the slot where a search ended is one of the table's; the key it met is its own
 -- Assumes nothing.
 use mathlib.Core.Path.{_≡_, refl, sym, ap, _∙_, subst}
 use Prim.Native.Nat.{ℕ, _<_}
@@ -24,7 +24,8 @@ use Rattle.layout.specs.declared.places.Slot.{Slot}
 use Rattle.layout.specs.declared.shape.Shape.{Shape}
 use Rattle.table.specs.declared.Found.{Found}
 use Rattle.table.specs.declared.Found.the-variants.{Met, Empty, Exhausted}
-use Rattle.table.specs.Probes.{probeOf, Within}
+use Rattle.table.specs.Probes.{probeOf, Within, MetKey}
+use Rattle.table.specs.Slots.{keyIn}
 use Rattle.table.proofs.Found.{the-type}
 use Rattle.table.proofs.Headers.{header, layout-key, layout-slots}
 
@@ -54,6 +55,11 @@ empty-is e = ap probeOf e
 pub met-within : {n : ℕ} {f : Found} {t : Slot} → f ≡ Met t → Within n (probeOf f) → t .0 < n
 unfolding Within
 met-within {n} e w = subst (Within n) (met-is e) w
+
+pub met-key : (img : Bytes) {key : Bytes} {f : Found} {t : Slot} → f ≡ Met t → MetKey img key (probeOf f)
+    → keyIn img (t .0) ≡ key
+unfolding MetKey
+met-key img {key} e w = subst (MetKey img key) (met-is e) w
 
 pub empty-within : {n : ℕ} {f : Found} {t : Slot} → f ≡ Empty t → Within n (probeOf f) → t .0 < n
 unfolding Within
@@ -86,3 +92,13 @@ search-within img key s o =
     (λ i m. subst (Within (s .slots)) (sym m) (omega (arith, search-met (layoutOf img) img key some′ i m .0)))
     (λ i m. subst (Within (s .slots)) (sym m) (omega (arith, search-empty (layoutOf img) img key some′ i m .0)))
     (λ m. subst (Within (s .slots)) (sym m) tt)
+
+pub search-key : (img key : Bytes) (s : Shape) → Open img s → MetKey img key (search (layoutOf img) img key)
+unfolding MetKey
+search-key img key s o =
+    let n = layout-slots img s (o .shape) in
+    let some′ : 0 < layoutOf img .N = omega (arith, header img s o .slots-low) in
+    by-search (layoutOf img) img key some′
+    (λ i m. subst (MetKey img key) (sym m) (search-met (layoutOf img) img key some′ i m .1))
+    (λ i m. subst (MetKey img key) (sym m) tt)
+    (λ m. subst (MetKey img key) (sym m) tt)

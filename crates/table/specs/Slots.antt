@@ -7,7 +7,7 @@ use lib.ListN.{length}
 use mathlib.Core.Bool.{Bool}
 use Rattle.bhtf.specs.Bytes.{Bytes}
 use Rattle.bhtf.specs.Limits.{mostKey, mostSlots, tableStart}
-use Rattle.bhtf.specs.Image.{layoutOf, slot, keyOf, offsetOf, vacant, home, putSlot, blank}
+use Rattle.bhtf.specs.Image.{layoutOf, slot, keyOf, offsetOf, slotBytes, vacant, home, putSlot, blank}
 use Rattle.layout.specs.Shapes.{shapeOf}
 use Rattle.layout.specs.declared.shape.Shape.{Shape}
 
@@ -29,6 +29,10 @@ offsetIn img i = offsetOf (layoutOf img) (slot (layoutOf img) img i)
 -- the home of its entry
 abbrev pub homeIn : Bytes → ℕ → ℕ
 homeIn img i = home (layoutOf img) (keyIn img i)
+
+-- the image with another offset in slot i
+unfoldable pub withOffset : Bytes → ℕ → ℕ → Bytes
+withOffset img i o = putSlot (layoutOf img) img i (slotBytes (keyIn img i) o)
 
 -- the image with slot i zeroed
 abbrev pub clearedIn : Bytes → ℕ → Bytes

@@ -18,7 +18,7 @@ ghost use Rattle.bhtf.specs.Image.{layoutOf, home, slotBytes, putSlot};
 ghost use Rattle.bhtf.specs.Search.{search, slotsRead};
 ghost use Rattle.layout.specs.Shapes.{Open};
 ghost use Rattle.table.specs.Probes.{probeOf, GoesOn};
-ghost use Rattle.table.specs.Slots.{keyIn, offsetIn, Placed, vacantIn};
+ghost use Rattle.table.specs.Slots.{keyIn, offsetIn, Placed, vacantIn, withOffset};
 
 // How a search ended: the key was met, an empty slot was met, or all slots were read.
 pub enum Found {
@@ -196,4 +196,14 @@ pub fn put_entry(image: &mut [u8], shape: Shape, i: Slot, key: &[u8], offset: Of
     let a = i.start(size).at();
     let e = a + (size + 4);
     write_entry(&mut image[a..e], key, offset);
+}
+
+// Writes another offset into slot i.
+pub fn set_offset(image: &mut [u8], shape: Shape, i: Slot, o: Offset)
+    requires { ⌜ Placed (now image) shape × (i .0 < shape .slots) × (o .0 < 2 ^ 32) ⌝ }
+    ensures { λ _. ⌜ now (image .exit) ≡ withOffset (now (image .entry)) (i .0) (o .0) ⌝ }
+{
+    let size = shape.keylen;
+    let a = i.start(size).at();
+    write_u32(image, a + size, o.at() as u32);
 }

@@ -4,8 +4,8 @@
 --     or-four, or-three                       the same number, by shifts and ors
 --     low-three                               the number of the last three of four bytes
 --     swapped-four                            the same number with its bytes in the other order
---     store-sets, set-store, store-four, store-three     stores of bytes one after the other
---     digits-four, digits-three               the digits, by shifts and masks
+--     store-sets, set-store, store-four      stores of bytes one after the other
+--     digits-swapped, digits-behind           the digits, by a swap; of a byte and three behind it
 -- Assumes nothing.
 use Prim.Native.Nat.{ℕ, suc, _+_, _*_, _/_, _%_, _<_, _≤_}
 use native.Mathlib.Nat.{mod-eq-of-lt, div-one}
@@ -112,13 +112,6 @@ store-sets vs s at h =
 pub set-store : (b : Bytes) (at v : ℕ) → at < length b → set b at v ≡ store b at (v ∷ [])
 set-store b at v h = store-sets (v ∷ []) b at (omega arith)
 
-pub store-three : (s : Bytes) (at a b c : ℕ) → at + 3 ≤ length s
-    → set (set (set s at a) (at + 1) b) (at + 2) c ≡ store s at (a ∷ b ∷ c ∷ [])
-store-three s at a b c h =
-    let e₁ : at + 1 ≡ suc at = omega arith in
-    let e₂ : at + 2 ≡ suc (suc at) = omega arith in
-    rw (e₁, e₂) (store-sets (a ∷ b ∷ c ∷ []) s at h)
-
 pub store-four : (s : Bytes) (at a b c d : ℕ) → at + 4 ≤ length s
     → set (set (set (set s at a) (at + 1) b) (at + 2) c) (at + 3) d ≡ store s at (a ∷ b ∷ c ∷ d ∷ [])
 store-four s at a b c d h =
@@ -128,15 +121,49 @@ store-four s at a b c d h =
     rw (e₁, e₂, e₃) (store-sets (a ∷ b ∷ c ∷ d ∷ []) s at h)
 
 -- ---- digits
-pub digits-three : (v : ℕ) → v < 16777216 → digits 3 v ≡ v / 65536 ∷ bitAnd (v / 256) 255 ∷ bitAnd v 255 ∷ []
-unfolding digits
-digits-three v h =
-    let top : v / 65536 % 256 ≡ v / 65536 = omega arith in
-    rw (and-mask (v / 256) 8, and-mask v 8, div-one v, top)
+-- of a number's bytes, least significant first
+bytes-four : (a b c d w : ℕ) → a < 256 → b < 256 → c < 256 → d < 256 → w ≡ d * 16777216 + (c * 65536 + (b * 256 + a))
+    → w % 256 ∷ w / 256 % 256 ∷ w / 65536 % 256 ∷ w / 16777216 ∷ [] ≡ a ∷ b ∷ c ∷ d ∷ []
+bytes-four a b c d w p q r s e =
+    let e₀ : w % 256 ≡ a = omega arith in
+    let e₁ : w / 256 ≡ (d * 256 + c) * 256 + b = omega arith in
+    let e₂ : w / 65536 ≡ d * 256 + c = omega arith in
+    let e₃ : w / 16777216 ≡ d = omega arith in
+    rw (e₀, e₁, e₂, e₃, low-byte (d * 256 + c) b q, low-byte d c r) refl
 
-pub digits-four : (v : ℕ) → v < 4294967296
-    → digits 4 v ≡ v / 16777216 ∷ bitAnd (v / 65536) 255 ∷ bitAnd (v / 256) 255 ∷ bitAnd v 255 ∷ []
+-- the digits are the bytes of the number with its bytes in the other order
+pub digits-swapped : (v w : ℕ) → v < 4294967296
+    → w ≡ v % 256 * 16777216 + (v / 256 % 256 * 65536 + (v / 65536 % 256 * 256 + v / 16777216))
+    → w % 256 ∷ w / 256 % 256 ∷ w / 65536 % 256 ∷ w / 16777216 ∷ [] ≡ digits 4 v
 unfolding digits
-digits-four v h =
+digits-swapped v w h e =
     let top : v / 16777216 % 256 ≡ v / 16777216 = omega arith in
-    rw (and-mask (v / 65536) 8, and-mask (v / 256) 8, and-mask v 8, div-one v, top)
+    bytes-four (v / 16777216) (v / 65536 % 256) (v / 256 % 256) (v % 256) w
+    (omega arith) (omega arith) (omega arith) (omega arith) e
+    ∙ rw (div-one v, top) refl
+
+-- of a byte, and a number of three behind it
+pub digits-behind : (b v : ℕ) → b < 256 → v < 16777216 → digits 4 (b * 16777216 + v) ≡ b ∷ digits 3 v
+unfolding digits
+digits-behind b v p q =
+    let n = b * 16777216 + v in
+    let top = v / 65536 in
+    let mid = v / 256 % 256 in
+    let e₀ : n / 16777216 ≡ b = omega arith in
+    let e₁ : n / 65536 ≡ b * 256 + top = omega arith in
+    let e₂ : n / 256 ≡ (b * 256 + top) * 256 + mid = omega arith in
+    let e₃ : n % 256 ≡ v % 256 = omega arith in
+    let few : top % 256 ≡ top = omega arith in
+    rw (
+      div-one n,
+      div-one v,
+      e₀,
+      e₁,
+      e₂,
+      e₃,
+      mod-eq-of-lt p,
+      low-byte b top (omega arith),
+      low-byte (b * 256 + top) mid (omega arith),
+      few,
+    )
+    refl

@@ -1,5 +1,6 @@
 // Stored numbers, most significant byte first, by shifts, ors and masks.
 ghost use mathlib.Core.Path.{_≡_};
+ghost use mathlib.Core.List.{[], _∷_};
 ghost use Prim.Native.Nat.{_+_, _*_, _/_, _%_, _≤_, _<_, _^_};
 ghost use lib.ListN.{length, getD};
 ghost use Rattle.bhtf.specs.Bytes.{part, store, number, digits};
@@ -33,15 +34,25 @@ pub fn read_u32(s: &[u8], at: usize) -> u32
     swapped(read_little(s, at))
 }
 
-// Puts v at `at`.
+// Four bytes of a number stored, least significant first: one store.
+fn write_little(s: &mut [u8], at: usize, w: u32)
+    requires { ⌜ at + 4 ≤ length (now s) ⌝ }
+    ensures { λ _. ⌜ now (s .exit)
+        ≡ store (now (s .entry)) at (w % 256 ∷ w / 256 % 256 ∷ w / 65536 % 256 ∷ w / 16777216 ∷ []) ⌝ }
+{
+    s[at] = (w & 255) as u8;
+    s[at + 1] = ((w >> 8) & 255) as u8;
+    s[at + 2] = ((w >> 16) & 255) as u8;
+    s[at + 3] = (w >> 24) as u8;
+}
+
+// Puts v at `at`. By a swap and a store, and not by four bytes: of two fields that are written one behind the other the
+// compiler would store each byte alone, and who reads them next as a word would wait for all of them.
 pub fn write_u32(s: &mut [u8], at: usize, v: u32)
     requires { ⌜ at + 4 ≤ length (now s) ⌝ }
     ensures { λ _. ⌜ now (s .exit) ≡ setField (now (s .entry)) at v ⌝ }
 {
-    s[at] = (v >> 24) as u8;
-    s[at + 1] = ((v >> 16) & 255) as u8;
-    s[at + 2] = ((v >> 8) & 255) as u8;
-    s[at + 3] = (v & 255) as u8;
+    write_little(s, at, swapped(v));
 }
 
 // The number of 3 bytes that stands behind the byte at `at`: one load of four, and a mask.
@@ -52,12 +63,10 @@ pub fn read_low_u24(s: &[u8], at: usize) -> u32
     read_u32(s, at) & 0xffffff
 }
 
-// Puts v at `at`, in 3 bytes.
-pub fn write_u24(s: &mut [u8], at: usize, v: u32)
-    requires { ⌜ (at + 3 ≤ length (now s)) × (v < 2 ^ 24) ⌝ }
-    ensures { λ _. ⌜ now (s .exit) ≡ store (now (s .entry)) at (digits 3 v) ⌝ }
+// Puts the byte b at `at`, and v behind it in 3 bytes: one store.
+pub fn write_low_u24(s: &mut [u8], at: usize, b: u8, v: u32)
+    requires { ⌜ (at + 4 ≤ length (now s)) × (v < 2 ^ 24) ⌝ }
+    ensures { λ _. ⌜ now (s .exit) ≡ store (now (s .entry)) at (b ∷ digits 3 v) ⌝ }
 {
-    s[at] = (v >> 16) as u8;
-    s[at + 1] = ((v >> 8) & 255) as u8;
-    s[at + 2] = (v & 255) as u8;
+    write_u32(s, at, ((b as u32) << 24) | v);
 }

@@ -64,9 +64,7 @@ pub const MOST_SLOTS: u32 = 1048576;
 
 pub const MOST_CHARACTER: u32 = 255;
 
-// A message's header is its letter and so many bytes of length; its size, and the largest length.
-pub const LENGTH_WIDTH: usize = 3;
-
+// The size of a message's header, which is its letter and its length, and the largest length.
 pub const HEAD: usize = 4;
 
 pub const MOST_LENGTH: usize = 16777215;

@@ -1,8 +1,10 @@
 -- A refusal leaves the image, else the search's end tells what is done. Assumes nothing.
-use mathlib.Core.Path.{refl}
+use mathlib.Core.Path.{refl, sym, subst}
 use borrow.Author.Needs.{needs}
 use Rattle.bhtf.specs.Questions.{modeKnown}
 use Rattle.laws.proofs.Sought.{seek-known}
+use Rattle.table.specs.Probes.{MetKey}
+use Rattle.table.proofs.Taken.{search-key}
 use Rattle.seek.proofs.Reaching.{refused-is, reached-is, reached-key}
 use Rattle.add.proofs.Added.{refused-answer, found-answer}
 use Rattle.add.proofs.add_sought.Statement.{statement}
@@ -20,7 +22,9 @@ add-found-requires c κs =
     let A = S .args in
     let known = modeKnown (A .mode) in
     let r = reached-is (A .image .now) (A .key .now) known (S .pre) (c .before .before .sought2 .given .1) in
-    (r .opened, r .within, reached-key r, seek-known (A .image .now) (A .key .now) known (r .asked))
+    let met = search-key (A .image .now) (A .key .now) _ (r .opened) in
+    let met′ = subst (MetKey (A .image .now) (A .key .now)) (sym (r .ended)) met in
+    (r .opened, r .within, met′, reached-key r, seek-known (A .image .now) (A .key .now) known (r .asked))
 
 returns : tie.Need-returns
 returns c =

@@ -1,12 +1,13 @@
 -- A point that was met is present, any other absent. Assumes nothing.
-use mathlib.Core.Path.{_≡_, sym, ap, _∙_}
+use mathlib.Core.Path.{_≡_, sym, ap, ap₂, _∙_}
 use borrow.Author.Needs.{needs}
+use Rattle.bhtf.specs.Bytes.{Bytes}
 use Rattle.bhtf.specs.Image.{layoutOf}
 use Rattle.bhtf.specs.Search.{Probe}
 use Rattle.bhtf.specs.Messages.{addedAt}
 use Rattle.bhtf.specs.Questions.{firstNo, pointAsks}
 use Rattle.bhtf.specs.Calls.{settled}
-use Rattle.table.proofs.Taken.{other-met, met-is, met-within}
+use Rattle.table.proofs.Taken.{other-met, met-is, met-within, met-key}
 use Rattle.add.proofs.put_found.Statement.{statement}
 use Rattle.add.proofs.put_found.Tie as tie
 
@@ -19,7 +20,7 @@ start-at-add-absent-arg c = c .before .before .before .before .before
 add-absent-requires : tie.Need-add-absent-requires
 add-absent-requires c κs =
     let S = (start-at-add-absent-arg c) in
-    (S .pre .0, S .pre .1, S .pre .2, other-met (S .args .found) (c .before .match .keys2))
+    (S .pre .0, S .pre .1, S .pre .3, other-met (S .args .found) (c .before .match .keys2))
 
 same-length : tie.Need-same-length
 same-length c = search needs
@@ -33,7 +34,7 @@ start-at-add-present-arg c = c .before .before .before .before .before .before .
 add-present-requires : tie.Need-add-present-requires
 add-present-requires c κs =
     let S = (start-at-add-present-arg c) in
-    (S .pre .0, met-within (c .before .before .found .given .1) (S .pre .1), S .pre .2, S .pre .3)
+    (S .pre .0, met-within (c .before .before .found .given .1) (S .pre .1), S .pre .4)
 
 same-length-2 : tie.Need-same-length-2
 same-length-2 c = search needs
@@ -49,14 +50,15 @@ found-at-slice-known3 c = c .before .before .before .before .before
 
 returns-2 : tie.Need-returns-2
 returns-2 c =
-    let A = (start-at-slice-known3 c) .args in
+    let S = start-at-slice-known3 c in
+    let A = S .args in
     let img = A .image .now in
     let g = layoutOf img in
     let p = c .before .before .add-present in
-    let is = sym (met-is ((found-at-slice-known3 c) .found .given .1)) in (
-      p .ensures .0 ∙ ap (λ (s : Probe). firstNo (pointAsks g img s (A .bytes .now) (A .mode))) is,
-      p .ensures .1 ∙ ap (λ (s : Probe). settled (p .result) img
-          (addedAt g img s (A .key .now) (A .bytes .now) (A .mode))) is,
+    let found = found-at-slice-known3 c .found .given .1 in (
+      p .ensures .0 ∙ ap (λ (s : Probe). firstNo (pointAsks g img s (A .bytes .now) (A .mode))) (sym (met-is found)),
+      p .ensures .1 ∙ ap₂ (λ (s : Probe) (key : Bytes). settled (p .result) img
+          (addedAt g img s key (A .bytes .now) (A .mode))) (sym (met-is found)) (met-key img found (S .pre .2)),
     )
 
 pub put-found-spec : {M : Type 1} → statement M

@@ -5,7 +5,7 @@ use borrow.Author.Needs.{needs}
 use Rattle.bhtf.specs.Questions.{openNumber}
 use Rattle.laws.proofs.Opened.{opened-facts}
 use Rattle.inspect.specs.Verdicts.{verdictIn}
-use Rattle.inspect.proofs.Turns.{check-closed, check-open}
+use Rattle.entries.proofs.Turns.{check-closed, check-open}
 use Rattle.inspect.proofs.check.Statement.{statement}
 use Rattle.inspect.proofs.check.Tie as tie
 

@@ -5,7 +5,7 @@ use borrow.Author.Needs.{needs}
 use Rattle.laws.proofs.Opened.{opened-facts}
 use Rattle.table.proofs.Headers.{layout-slots}
 use Rattle.inspect.specs.Verdicts.{verdictIn}
-use Rattle.inspect.proofs.Turns.{entries-checked, verdict-slot, verdict-count, verdict-sound}
+use Rattle.entries.proofs.Turns.{entries-checked, verdict-slot, verdict-count, verdict-sound}
 use Rattle.inspect.proofs.check_table.Statement.{statement}
 use Rattle.inspect.proofs.check_table.Tie as tie
 

@@ -10,7 +10,7 @@ use Rattle.bhtf.specs.Calls.{Outcome, add}
 use Rattle.updates.specs.Changes.{pairBytes, changesIn, listAllowed, workAllowed}
 use Rattle.windows.specs.Windows.{before, Sorted}
 use Rattle.laws.proofs.Tests.{was-no, was-yes}
-use Rattle.listed.proofs.Listing.{lists-16, lists-refused, lists-done, allowed-list, allowed-work, windows-hold, add-leaves, add-small}
+use Rattle.slices.proofs.Listing.{lists-16, lists-refused, lists-done, allowed-list, allowed-work, windows-hold, add-leaves, add-small}
 use Rattle.listed.proofs.add_listed.Statement.{statement}
 use Rattle.listed.proofs.add_listed.Tie as tie
 

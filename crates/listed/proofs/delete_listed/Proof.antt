@@ -10,7 +10,7 @@ use Rattle.bhtf.specs.Calls.{Outcome, delete}
 use Rattle.updates.specs.Changes.{pairBytes, changesIn, listAllowed, workAllowed}
 use Rattle.windows.specs.Windows.{before, Sorted}
 use Rattle.laws.proofs.Tests.{was-no, was-yes}
-use Rattle.listed.proofs.Listing.{lists-16, lists-refused, lists-done, allowed-list, allowed-work, windows-hold, delete-leaves, delete-small}
+use Rattle.slices.proofs.Listing.{lists-16, lists-refused, lists-done, allowed-list, allowed-work, windows-hold, delete-leaves, delete-small}
 use Rattle.listed.proofs.delete_listed.Statement.{statement}
 use Rattle.listed.proofs.delete_listed.Tie as tie
 

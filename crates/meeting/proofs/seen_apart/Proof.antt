@@ -5,8 +5,8 @@ use mathlib.Core.Path.{_≡_, refl, sym, subst}
 use mathlib.Core.Bool.{false}
 use Rattle.bhtf.specs.Image.{layoutOf}
 use Rattle.laws.proofs.Tests.{not-both}
-use Rattle.overlap.specs.Checked.{Checked}
-use Rattle.overlap.specs.Stretches.{firstMeeting}
+use Rattle.stretches.specs.Checked.{Checked}
+use Rattle.stretches.specs.Stretches.{firstMeeting}
 use borrow.Author.Needs.{needs}
 use Rattle.meeting.proofs.seen_apart.Statement.{statement}
 use Rattle.meeting.proofs.seen_apart.Tie as tie

@@ -4,7 +4,7 @@ use mathlib.Core.Path.{refl, ap, _∙_}
 use borrow.Author.Needs.{needs}
 use Rattle.laws.proofs.Tests.{was-no, was-yes}
 use Rattle.table.proofs.Headers.{placed-opened}
-use Rattle.stages.specs.Stages.{withOffset}
+use Rattle.table.specs.Slots.{withOffset}
 use Rattle.offsets.proofs.forget.Statement.{statement}
 use Rattle.offsets.proofs.forget.Tie as tie
 

@@ -9,7 +9,8 @@ use Rattle.bhtf.specs.Inspect.{taken}
 use Rattle.laws.proofs.Total.{total}
 use Rattle.layout.specs.Shapes.{Open}
 use Rattle.table.proofs.Headers.{header, layout-slots}
-use Rattle.stages.specs.Stages.{offsetIn, withOffset, deadIn, activeIn}
+use Rattle.table.specs.Slots.{withOffset}
+use Rattle.stages.specs.Stages.{offsetIn, deadIn, activeIn}
 use Rattle.stages.proofs.Forgetting.{Forgetting, forgetting-start, forgetting-open, forgetting-inside, forgetting-on, forgotten-all, active-same, active-one, active-small, active-on, active-none}
 use Rattle.offsets.proofs.forget_dead.Statement.{statement}
 use Rattle.offsets.proofs.forget_dead.Tie as tie

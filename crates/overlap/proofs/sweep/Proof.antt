@@ -8,10 +8,10 @@ use Rattle.bhtf.specs.Image.{field}
 use Rattle.bhtf.specs.Limits.{dataField, freeField}
 use Rattle.laws.proofs.Opened.{opened-facts}
 use Rattle.laws.proofs.Effects.{area-above}
-use Rattle.overlap.specs.Checked.{startIn, endIn}
-use Rattle.overlap.specs.Windows.{Swept}
+use Rattle.stretches.specs.Checked.{startIn, endIn}
+use Rattle.stretches.specs.Windows.{Swept}
 use Rattle.layout.proofs.Shaped.{area-field}
-use Rattle.overlap.proofs.Sweeps.{swept-start, swept-on, swept-first, checked-below, lying}
+use Rattle.stretches.proofs.Sweeps.{swept-start, swept-on, swept-first, checked-below, lying}
 use Rattle.overlap.proofs.sweep.Statement.{statement}
 use Rattle.overlap.proofs.sweep.Tie as tie
 

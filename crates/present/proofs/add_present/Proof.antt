@@ -15,13 +15,14 @@ use Rattle.laws.proofs.Tests.{was-no, was-yes}
 use Rattle.laws.proofs.Outcomes.{settled-no, point-9, point-11, point-renewed}
 use Rattle.laws.proofs.Texts.{mode-three, withdrawn-none, withdrawn-retired}
 use Rattle.layout.proofs.Shaped.{head-width}
+use Rattle.table.specs.Slots.{keyIn}
 use Rattle.room.proofs.Rooms.{place-nothing}
 use Rattle.present.proofs.Shown.{head-fits}
 use Rattle.present.proofs.add_present.Statement.{statement}
 use Rattle.present.proofs.add_present.Tie as tie
 
 abbrev start-at-then1 : tie.Then1 → tie.Start
-start-at-then1 c = c .before .before .before .before
+start-at-then1 c = c .before .before .before
 
 returns : tie.Need-returns
 returns c =
@@ -41,7 +42,7 @@ same-length : tie.Need-same-length
 same-length c = search needs
 
 abbrev shared-slice-known-at-then2 : tie.Then2 → tie.After-shared-slice-known
-shared-slice-known-at-then2 c = c .before .before .before .before .before .before .before
+shared-slice-known-at-then2 c = c .before .before .before .before .before .before
 
 abbrev start-at-then2 : tie.Then2 → tie.Start
 start-at-then2 c = shared-slice-known-at-then2 c .before .before
@@ -62,7 +63,7 @@ returns-2 c =
     )
 
 abbrev shared-slice-known-at-else2 : tie.Else2 → tie.After-shared-slice-known
-shared-slice-known-at-else2 c = c .before .before .before .before .before .before .before
+shared-slice-known-at-else2 c = c .before .before .before .before .before .before
 
 abbrev start-at-else2 : tie.Else2 → tie.Start
 start-at-else2 c = shared-slice-known-at-else2 c .before .before
@@ -80,9 +81,9 @@ else1-at-else2 c = c .before .before .before .before .before
 renewed : (c : tie.Else2) (k r : ℕ) (x : Bytes) → start-at-else2 c .args .mode ≡ k
     → let S : tie.Start = start-at-else2 c in
     let img : Bytes = S .args .image .now in
-    let key : Bytes = S .args .key .now in
     let bytes : Bytes = S .args .bytes .now in
     let i : ℕ = S .args .slot .0 in
+    let key : Bytes = keyIn img i in
     let o : ℕ = c .before .before .before .offset-of .result .0 in
     r ≡ placeNumber (layoutOf img) img (renewedText (layoutOf img) img o bytes k)
     → x ≡ settled r img (renewedAt (layoutOf img) img i o key bytes k)
@@ -99,14 +100,16 @@ renewed c k r x em is h =
           ∙ sym
           (point-renewed g img (A .bytes .now) (A .mode) (A .slot .0) (ne-eqb (A .mode) 1 (else1-at-else2 c .if1 .left))
           (ap (messageSound g img) (sym eo) ∙ sound c)),
-      h ∙ ap₂ (λ (p q : ℕ). settled r img (renewedAt g img (A .slot .0) p (A .key .now) (A .bytes .now) q)) eo (sym em),
+      h
+          ∙ ap₂ (λ (p q : ℕ). settled r img
+          (renewedAt g img (A .slot .0) p (keyIn img (A .slot .0)) (A .bytes .now) q)) eo (sym em),
     )
 
 abbrev else1-at-replace-arg : tie.After-replace-arg → tie.Else1
 else1-at-replace-arg c = c .before .before .before .before .before .before .before
 
 abbrev start-at-else1 : tie.Else1 → tie.Start
-start-at-else1 c = c .before .before .before .before
+start-at-else1 c = c .before .before .before
 
 abbrev start-at-replace-arg : tie.After-replace-arg → tie.Start
 start-at-replace-arg c = start-at-else1 (else1-at-replace-arg c)
@@ -114,7 +117,7 @@ start-at-replace-arg c = start-at-else1 (else1-at-replace-arg c)
 replace-requires : tie.Need-replace-requires
 replace-requires c κs =
     let S = start-at-replace-arg c in
-    (S .pre .0, S .pre .1, S .pre .2, sound (c .before .before))
+    (S .pre .0, S .pre .1, sound (c .before .before))
 
 same-length-2 : tie.Need-same-length-2
 same-length-2 c = search needs
@@ -160,9 +163,9 @@ returns-4 c =
     let old = c .before .before .retire in
     let done′ =
     place-nothing g img (renewedText g img o (A .bytes .now) 4)
-    (renewedAt g img (A .slot .0) o (A .key .now) (A .bytes .now) 4)
-    (withdrawn-none g img (A .slot .0) o (A .key .now) (A .bytes .now)) (old .last .0)
-    (old .ensures ∙ sym (withdrawn-retired g img (A .slot .0) o (A .key .now) (A .bytes .now))) in
+    (renewedAt g img (A .slot .0) o (keyIn img (A .slot .0)) (A .bytes .now) 4)
+    (withdrawn-none g img (A .slot .0) o (keyIn img (A .slot .0)) (A .bytes .now)) (old .last .0)
+    (old .ensures ∙ sym (withdrawn-retired g img (A .slot .0) o (keyIn img (A .slot .0)) (A .bytes .now))) in
     renewed E 4 0 (old .last .0) (T .if4 .taken) (done′ .0) (done′ .1)
 
 -- ---- mode 3
@@ -174,7 +177,7 @@ append-requires : tie.Need-append-requires
 append-requires c κs =
     let E = else2-at-else4 (c .before) in
     let S = start-at-else2 E in
-    (S .pre .0, S .pre .1, S .pre .2, sound E)
+    (S .pre .0, S .pre .1, sound E)
 
 same-length-4 : tie.Need-same-length-4
 same-length-4 c = search needs
@@ -189,7 +192,7 @@ returns-5 c =
     let S = start-at-else2 E in
     let done′ = c .before .before .append in
     renewed E 3 (done′ .result) (done′ .last .0)
-    (mode-three (S .args .mode) (S .pre .3) (else1-at-else2 E .if1 .left) (F .before .if3 .left) (F .if4 .left))
+    (mode-three (S .args .mode) (S .pre .2) (else1-at-else2 E .if1 .left) (F .before .if3 .left) (F .if4 .left))
     (done′ .ensures .0) (done′ .ensures .1)
 
 pub add-present-spec : {M : Type 1} → statement M

@@ -12,13 +12,14 @@ use Rattle.laws.proofs.Opened.{opened-facts}
 use Rattle.laws.proofs.Texts.{appended-none, appended-some, appended-same, renewed-moved}
 use Rattle.room.proofs.Rooms.{place-nothing, place-refused, place-done}
 use Rattle.storing.specs.Fits.{Fits}
+use Rattle.table.specs.Slots.{keyIn}
 use Rattle.storing.proofs.Steps.{place-fits}
 use Rattle.present.proofs.Shown.{head-fits, shown-part, shown-end, length-appended}
 use Rattle.present.proofs.append.Statement.{statement}
 use Rattle.present.proofs.append.Tie as tie
 
 abbrev start-at-then1 : tie.Then1 → tie.Start
-start-at-then1 c = c .before .before .before .before
+start-at-then1 c = c .before .before .before
 
 returns : tie.Need-returns
 returns c =
@@ -27,20 +28,20 @@ returns c =
     let bytes = A .bytes .now in
     let o = A .o .0 in
     let g = layoutOf img in
-    place-nothing g img (renewedText g img o bytes 3) (renewedAt g img (A .slot .0) o (A .key .now) bytes 3)
-    (appended-none g img (A .slot .0) o (A .key .now) bytes (c .if1 .taken)) img
-    (sym (appended-same g img (A .slot .0) o (A .key .now) bytes (c .if1 .taken)))
+    place-nothing g img (renewedText g img o bytes 3) (renewedAt g img (A .slot .0) o (keyIn img (A .slot .0)) bytes 3)
+    (appended-none g img (A .slot .0) o (keyIn img (A .slot .0)) bytes (c .if1 .taken)) img
+    (sym (appended-same g img (A .slot .0) o (keyIn img (A .slot .0)) bytes (c .if1 .taken)))
 
 abbrev start-at-shown-length-arg : tie.After-shown-length-arg → tie.Start
-start-at-shown-length-arg c = c .before .before .before .before .before
+start-at-shown-length-arg c = c .before .before .before .before
 
 shown-length-requires : tie.Need-shown-length-requires
 shown-length-requires c κs =
     let S = start-at-shown-length-arg c in
-    (S .pre .0, head-fits (S .pre .0) (S .args .o .0) (S .pre .3))
+    (S .pre .0, head-fits (S .pre .0) (S .args .o .0) (S .pre .2))
 
 abbrev start-at-room-number-arg : tie.After-room-number-arg → tie.Start
-start-at-room-number-arg c = c .before .before .before .before .before .before .before
+start-at-room-number-arg c = c .before .before .before .before .before .before
 
 add-room-number : tie.Need-add-room-number
 add-room-number c =
@@ -49,7 +50,7 @@ add-room-number c =
     omega (
       arith,
       c .before .shown-length .ensures,
-      shown-end (S .pre .0) (S .args .o .0) (S .pre .3),
+      shown-end (S .pre .0) (S .args .o .0) (S .pre .2),
       f .free-high,
       f .size-high,
     )
@@ -62,7 +63,7 @@ abbrev text : tie.Start → Bytes
 text S = bytesOf (shown (layoutOf (S .args .image .now)) (S .args .image .now) (S .args .o .0)) ++ S .args .bytes .now
 
 abbrev start-at-shown-length : tie.After-shown-length → tie.Start
-start-at-shown-length c = c .before .before .before .before .before .before
+start-at-shown-length c = c .before .before .before .before .before
 
 sized : (c : tie.After-shown-length)
     → let S : tie.Start = start-at-shown-length c in
@@ -70,14 +71,14 @@ sized : (c : tie.After-shown-length)
 sized c =
     let S = start-at-shown-length c in
     let bytes = S .args .bytes .now in
-    length-appended (S .pre .0) (S .args .o .0) (S .pre .3) bytes
+    length-appended (S .pre .0) (S .args .o .0) (S .pre .2) bytes
     ∙ ap (λ (k : ℕ). k + length bytes) (sym (c .shown-length .ensures))
 
 same-length : tie.Need-same-length
 same-length c = search needs
 
 abbrev shared-slice-known-at-then2 : tie.Then2 → tie.After-shared-slice-known
-shared-slice-known-at-then2 c = c .before .before .before .before .before .before .before
+shared-slice-known-at-then2 c = c .before .before .before .before .before .before
 
 abbrev start-at-then2 : tie.Then2 → tie.Start
 start-at-then2 c = shared-slice-known-at-then2 c .before .before
@@ -94,15 +95,15 @@ returns-2 c =
     let o = A .o .0 in
     let g = layoutOf img in
     let room = c .before .room-number in
-    place-refused g img (renewedText g img o bytes 3) (renewedAt g img (A .slot .0) o (A .key .now) bytes 3)
-    (text S) (appended-some g img (A .slot .0) o (A .key .now) bytes (else1-at-then2 c .if1 .left))
+    place-refused g img (renewedText g img o bytes 3) (renewedAt g img (A .slot .0) o (keyIn img (A .slot .0)) bytes 3)
+    (text S) (appended-some g img (A .slot .0) o (keyIn img (A .slot .0)) bytes (else1-at-then2 c .if1 .left))
     (room .result) (room .ensures (text S) (sized (c .before .before .before))) (c .if2 .taken)
 
-abbrev shared-slice-known2-at-relocate-arg : tie.After-relocate-arg → tie.After-shared-slice-known2
-shared-slice-known2-at-relocate-arg c = c .before .before .before .before .before .before .before
+abbrev shared-slice-known-at-relocate-arg : tie.After-relocate-arg → tie.After-shared-slice-known
+shared-slice-known-at-relocate-arg c = c .before .before .before .before .before .before .before
 
 abbrev start-at-relocate-arg : tie.After-relocate-arg → tie.Start
-start-at-relocate-arg c = shared-slice-known2-at-relocate-arg c .before .before .before
+start-at-relocate-arg c = shared-slice-known-at-relocate-arg c .before .before
 
 abbrev shown-length-at-relocate-arg : tie.After-relocate-arg → tie.After-shown-length
 shown-length-at-relocate-arg c = c .before .before .before .before
@@ -116,8 +117,7 @@ relocate-requires c κs =
       S .pre .0,
       S .pre .1,
       S .pre .2,
-      S .pre .3,
-      omega (arith, L .shown-length .ensures, shown-end (S .pre .0) (S .args .o .0) (S .pre .3)),
+      omega (arith, L .shown-length .ensures, shown-end (S .pre .0) (S .args .o .0) (S .pre .2)),
       subst (Fits (S .args .image .now) (S .args .shape)) size (place-fits (S .pre .0) (text S) accepted),
     )
 
@@ -150,14 +150,15 @@ returns-3 c =
     let room = room-number-at-slice-known2 c .room-number in
     let new = c .before .before .relocate in
     let L = shown-length-at-slice-known2 c in
-    let longer = appended-some g img (A .slot .0) o (A .key .now) bytes (else1-at-slice-known2 c .if1 .left) in
-    place-done g img (renewedText g img o bytes 3) (renewedAt g img (A .slot .0) o (A .key .now) bytes 3)
+    let longer =
+    appended-some g img (A .slot .0) o (keyIn img (A .slot .0)) bytes (else1-at-slice-known2 c .if1 .left) in
+    place-done g img (renewedText g img o bytes 3) (renewedAt g img (A .slot .0) o (keyIn img (A .slot .0)) bytes 3)
     (text S) longer (room .result) (room .ensures (text S) (sized L)) (else2-at-slice-known2 c .if2 .left)
     (new .last .0)
     (new .ensures
-    ∙ ap (λ (t : Bytes). relocated g img (A .slot .0) o (A .key .now) (t ++ bytes))
+    ∙ ap (λ (t : Bytes). relocated g img (A .slot .0) o (keyIn img (A .slot .0)) (t ++ bytes))
     (ap (part img (o + A .shape .head)) (L .shown-length .ensures) ∙ shown-part (S .pre .0) o)
-    ∙ sym (renewed-moved g img (A .slot .0) o (A .key .now) bytes 3 (text S) longer))
+    ∙ sym (renewed-moved g img (A .slot .0) o (keyIn img (A .slot .0)) bytes 3 (text S) longer))
 
 pub append-spec : {M : Type 1} → statement M
 append-spec =

@@ -1,4 +1,4 @@
--- The old message is retired, the new text placed, and the entry put over the old one. Assumes nothing.
+-- The old message is retired, the new text placed, and its offset put into the slot. Assumes nothing.
 use native.Mathlib.Omega.{arith}
 use mathlib.Core.Path.{_∙_}
 use borrow.Author.Needs.{needs}
@@ -12,7 +12,7 @@ use Rattle.present.proofs.relocate.Statement.{statement}
 use Rattle.present.proofs.relocate.Tie as tie
 
 abbrev start-at-read-u32-arg : tie.After-read-u32-arg → tie.Start
-start-at-read-u32-arg c = c .before .before .before .before
+start-at-read-u32-arg c = c .before .before .before
 
 read-u32-requires : tie.Need-read-u32-requires
 read-u32-requires c κs = omega (arith, opened-facts _ (start-at-read-u32-arg c .pre .0 .accepted) .size-low)
@@ -24,12 +24,12 @@ new-requires : tie.Need-new-requires
 new-requires c κs = search needs
 
 abbrev start-at-retire-arg : tie.After-retire-arg → tie.Start
-start-at-retire-arg c = c .before .before .before .before .before .before .before
+start-at-retire-arg c = c .before .before .before .before .before .before
 
 retire-requires : tie.Need-retire-requires
 retire-requires c κs =
     let S = start-at-retire-arg c in
-    omega (arith, head-width (S .pre .0), head-fits (S .pre .0) (S .args .o .0) (S .pre .3))
+    omega (arith, head-width (S .pre .0), head-fits (S .pre .0) (S .args .o .0) (S .pre .2))
 
 text-start-requires : tie.Need-text-start-requires
 text-start-requires c κs = search needs
@@ -38,7 +38,7 @@ abbrev read-u32-at-text-start : tie.After-text-start → tie.After-read-u32
 read-u32-at-text-start c = c .before .before .before .before .before .before .before
 
 abbrev start-at-read-u32 : tie.After-read-u32 → tie.Start
-start-at-read-u32 c = c .before .before .before .before .before
+start-at-read-u32 c = c .before .before .before .before
 
 abbrev start-at-text-start : tie.After-text-start → tie.Start
 start-at-text-start c = start-at-read-u32 (read-u32-at-text-start c)
@@ -52,50 +52,49 @@ take-space-requires c κs =
     let old = retire-at-text-start c .retire in
     let open₀ = S .pre .0 in
     let o = S .args .o .0 in
-    let same = head-retire open₀ (old .last .0) o (S .pre .3) (old .ensures) in
-    let free = retired-free open₀ (old .last .0) o (S .pre .3) (old .ensures) in (
+    let same = head-retire open₀ (old .last .0) o (S .pre .2) (old .ensures) in
+    let free = retired-free open₀ (old .last .0) o (S .pre .2) (old .ensures) in (
       same-open same open₀,
-      omega (arith, c .text-start .ensures, free, S .pre .4),
-      record { small = S .pre .5 .small; room = omega (arith, free, same .size, S .pre .5 .room) },
+      omega (arith, c .text-start .ensures, free, S .pre .3),
+      record { small = S .pre .4 .small; room = omega (arith, free, same .size, S .pre .4 .room) },
     )
 
-abbrev image-at-put-entry-arg : tie.After-put-entry-arg → tie.After-image
-image-at-put-entry-arg c = c .before .before .before .before .before .before .before
+abbrev image-at-set-offset-arg : tie.After-set-offset-arg → tie.After-image
+image-at-set-offset-arg c = c .before .before .before .before .before .before .before
 
 abbrev shared-slice-known-at-image : tie.After-image → tie.After-shared-slice-known
-shared-slice-known-at-image c = c .before .before .before .before .before .before .before
+shared-slice-known-at-image c = c .before .before .before .before .before .before
 
 abbrev start-at-image : tie.After-image → tie.Start
 start-at-image c = shared-slice-known-at-image c .before .before
 
-abbrev start-at-put-entry-arg : tie.After-put-entry-arg → tie.Start
-start-at-put-entry-arg c = start-at-image (image-at-put-entry-arg c)
+abbrev start-at-set-offset-arg : tie.After-set-offset-arg → tie.Start
+start-at-set-offset-arg c = start-at-image (image-at-set-offset-arg c)
 
-abbrev retire-at-put-entry-arg : tie.After-put-entry-arg → tie.After-retire
-retire-at-put-entry-arg c = image-at-put-entry-arg c .before
+abbrev retire-at-set-offset-arg : tie.After-set-offset-arg → tie.After-retire
+retire-at-set-offset-arg c = image-at-set-offset-arg c .before
 
-abbrev text-start-at-put-entry-arg : tie.After-put-entry-arg → tie.After-text-start
-text-start-at-put-entry-arg c = c .before .before .before .before
+abbrev text-start-at-set-offset-arg : tie.After-set-offset-arg → tie.After-text-start
+text-start-at-set-offset-arg c = c .before .before .before .before
 
-abbrev new-at-put-entry-arg : tie.After-put-entry-arg → tie.After-new
-new-at-put-entry-arg c = image-at-put-entry-arg c .before .before .before
+abbrev new-at-set-offset-arg : tie.After-set-offset-arg → tie.After-new
+new-at-set-offset-arg c = image-at-set-offset-arg c .before .before .before
 
-put-entry-requires : tie.Need-put-entry-requires
-put-entry-requires c κs =
-    let S = start-at-put-entry-arg c in
-    let old = retire-at-put-entry-arg c .retire in
-    let start = text-start-at-put-entry-arg c .text-start in
+set-offset-requires : tie.Need-set-offset-requires
+set-offset-requires c κs =
+    let S = start-at-set-offset-arg c in
+    let old = retire-at-set-offset-arg c .retire in
+    let start = text-start-at-set-offset-arg c .text-start in
     let space = c .before .before .before .take-space in
-    let x = new-at-put-entry-arg c in
+    let x = new-at-set-offset-arg c in
     let open₀ = S .pre .0 in
     let f = opened-facts _ (open₀ .accepted) in
     let same =
-    head-relocated open₀ (old .last .0) (S .args .o .0) (S .pre .3) (old .ensures)
+    head-relocated open₀ (old .last .0) (S .args .o .0) (S .pre .2) (old .ensures)
     (space .last .0) (S .args .bytes .now) (start .result .0) (S .args .before) (start .ensures)
-    (S .pre .4) (S .pre .5) (space .ensures) in (
+    (S .pre .3) (S .pre .4) (space .ensures) in (
       placed-opened (space .last .0) (S .args .shape) (same-open same open₀),
       S .pre .1,
-      S .pre .2,
       omega (arith, x .new .ensures, x .before .read-u32 .ensures, f .free-high, f .size-high),
     )
 
@@ -128,10 +127,10 @@ returns c =
     let start = text-start-at-slice-known4 c .text-start in
     let space = take-space-at-slice-known4 c .take-space in
     let x = new-at-slice-known4 c in
-    let entry = c .before .before .put-entry in
-    relocated-steps (S .pre .0) (old .last .0) (A .o .0) (S .pre .3) (old .ensures) (space .last .0) (A .bytes .now)
-    (start .result .0) (A .before) (start .ensures) (S .pre .4) (S .pre .5) (space .ensures)
-    (entry .last .0) (A .key .now) (A .slot .0) (x .new .result .0) (x .new .ensures ∙ x .before .read-u32 .ensures)
+    let entry = c .before .before .set-offset in
+    relocated-steps (S .pre .0) (old .last .0) (A .o .0) (S .pre .2) (old .ensures) (space .last .0) (A .bytes .now)
+    (start .result .0) (A .before) (start .ensures) (S .pre .3) (S .pre .4) (space .ensures)
+    (entry .last .0) (A .slot .0) (x .new .result .0) (S .pre .1) (x .new .ensures ∙ x .before .read-u32 .ensures)
     (entry .ensures)
 
 pub relocate-spec : {M : Type 1} → statement M
@@ -144,6 +143,6 @@ relocate-spec =
     retire-requires
     text-start-requires
     take-space-requires
-    put-entry-requires
+    set-offset-requires
     same-length
     returns)

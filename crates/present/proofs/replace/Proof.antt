@@ -12,23 +12,24 @@ use Rattle.bhtf.specs.Messages.{relocated, renewedText, renewedAt}
 use Rattle.laws.proofs.Texts.{replaced-none, replaced-some, replaced-held, replaced-written, renewed-moved}
 use Rattle.room.proofs.Rooms.{place-nothing, place-refused, place-done}
 use Rattle.storing.specs.Fits.{Fits}
+use Rattle.table.specs.Slots.{keyIn}
 use Rattle.storing.proofs.Steps.{place-fits}
 use Rattle.present.proofs.Shown.{head-fits, head-end, text-none}
 use Rattle.present.proofs.replace.Statement.{statement}
 use Rattle.present.proofs.replace.Tie as tie
 
 abbrev start-at-holds-arg : tie.After-holds-arg → tie.Start
-start-at-holds-arg c = c .before .before .before .before
+start-at-holds-arg c = c .before .before .before
 
 holds-requires : tie.Need-holds-requires
 holds-requires c κs =
     let S = start-at-holds-arg c in
-    (S .pre .0, head-fits (S .pre .0) (S .args .o .0) (S .pre .3))
+    (S .pre .0, head-fits (S .pre .0) (S .args .o .0) (S .pre .2))
 
 -- ---- the bytes fit where the old message stands
 
 abbrev start-at-then1 : tie.Then1 → tie.Start
-start-at-then1 c = c .before .before .before .before .before .before
+start-at-then1 c = c .before .before .before .before .before
 
 nothing : (c : tie.Then1)
     → let S : tie.Start = start-at-then1 c in
@@ -37,7 +38,7 @@ nothing : (c : tie.Then1)
 nothing c =
     let A = start-at-then1 c .args in
     let img = A .image .now in
-    replaced-none (layoutOf img) img (A .slot .0) (A .o .0) (A .key .now) (A .bytes .now)
+    replaced-none (layoutOf img) img (A .slot .0) (A .o .0) (keyIn img (A .slot .0)) (A .bytes .now)
     (sym (c .before .holds .ensures) ∙ c .if1 .taken)
 
 overwrite-requires : tie.Need-overwrite-requires
@@ -46,8 +47,9 @@ overwrite-requires c κs =
     let A = S .args in
     let img = A .image .now in
     let held =
-    replaced-held (layoutOf img) img (A .slot .0) (A .o .0) (A .key .now) (A .bytes .now) (nothing (c .before)) in
-    (S .pre .0, S .pre .3, omega (arith, held .0), held .1)
+    replaced-held (layoutOf img) img (A .slot .0) (A .o .0) (keyIn img (A .slot .0)) (A .bytes .now)
+    (nothing (c .before)) in
+    (S .pre .0, S .pre .2, omega (arith, held .0), held .1)
 
 same-length : tie.Need-same-length
 same-length c = search needs
@@ -64,9 +66,9 @@ returns c =
     let o = A .o .0 in
     let g = layoutOf img in
     let new = c .before .before .overwrite in
-    place-nothing g img (renewedText g img o bytes 2) (renewedAt g img (A .slot .0) o (A .key .now) bytes 2)
+    place-nothing g img (renewedText g img o bytes 2) (renewedAt g img (A .slot .0) o (keyIn img (A .slot .0)) bytes 2)
     (nothing T) (new .last .0)
-    (new .ensures ∙ sym (replaced-written g img (A .slot .0) o (A .key .now) bytes (nothing T)))
+    (new .ensures ∙ sym (replaced-written g img (A .slot .0) o (keyIn img (A .slot .0)) bytes (nothing T)))
 
 -- ---- they do not, or there is no offset, so that all of them are placed
 
@@ -74,7 +76,7 @@ room-number-requires : tie.Need-room-number-requires
 room-number-requires c κs = search needs
 
 abbrev start-at-else1 : tie.Else1 → tie.Start
-start-at-else1 c = c .before .before .before .before .before .before
+start-at-else1 c = c .before .before .before .before .before
 
 longer : (c : tie.Else1)
     → let S : tie.Start = start-at-else1 c in
@@ -84,7 +86,7 @@ longer : (c : tie.Else1)
 longer c =
     let A = start-at-else1 c .args in
     let img = A .image .now in
-    replaced-some (layoutOf img) img (A .slot .0) (A .o .0) (A .key .now) (A .bytes .now)
+    replaced-some (layoutOf img) img (A .slot .0) (A .o .0) (keyIn img (A .slot .0)) (A .bytes .now)
     (sym (c .before .holds .ensures) ∙ c .if1 .left)
 
 same-length-2 : tie.Need-same-length-2
@@ -99,7 +101,7 @@ returns-2 c =
     let o = A .o .0 in
     let g = layoutOf img in
     let room = c .before .room-number in
-    place-refused g img (renewedText g img o bytes 2) (renewedAt g img (A .slot .0) o (A .key .now) bytes 2)
+    place-refused g img (renewedText g img o bytes 2) (renewedAt g img (A .slot .0) o (keyIn img (A .slot .0)) bytes 2)
     bytes (longer E) (room .result) (room .ensures bytes refl) (c .if2 .taken)
 
 relocate-requires : tie.Need-relocate-requires
@@ -111,8 +113,7 @@ relocate-requires c κs =
       S .pre .0,
       S .pre .1,
       S .pre .2,
-      S .pre .3,
-      omega (arith, head-end (S .pre .0) (S .args .o .0) (S .pre .3)),
+      omega (arith, head-end (S .pre .0) (S .args .o .0) (S .pre .2)),
       subst (Fits (S .args .image .now) (S .args .shape)) (sym (zero-add (length bytes))) fits,
     )
 
@@ -133,11 +134,11 @@ returns-3 c =
     let room = E .before .room-number in
     let new = c .before .before .relocate in
     let more = longer (E .before .before .before) in
-    place-done g img (renewedText g img o bytes 2) (renewedAt g img (A .slot .0) o (A .key .now) bytes 2)
+    place-done g img (renewedText g img o bytes 2) (renewedAt g img (A .slot .0) o (keyIn img (A .slot .0)) bytes 2)
     bytes more (room .result) (room .ensures bytes refl) (E .if2 .left) (new .last .0)
     (new .ensures
-    ∙ ap (relocated g img (A .slot .0) o (A .key .now)) (text-none img (o + A .shape .head) bytes)
-    ∙ sym (renewed-moved g img (A .slot .0) o (A .key .now) bytes 2 bytes more))
+    ∙ ap (relocated g img (A .slot .0) o (keyIn img (A .slot .0))) (text-none img (o + A .shape .head) bytes)
+    ∙ sym (renewed-moved g img (A .slot .0) o (keyIn img (A .slot .0)) bytes 2 bytes more))
 
 pub replace-spec : {M : Type 1} → statement M
 replace-spec =

@@ -3,7 +3,7 @@ use borrow.Author.Needs.{needs}
 use mathlib.Core.Path.{sym}
 use native.Mathlib.Omega.{arith}
 use Rattle.laws.proofs.Tests.{was-no, was-yes}
-use Rattle.questions.proofs.Headers.{open-1, open-5, open-6, open-0, size-least}
+use Rattle.header.proofs.Headers.{open-1, open-5, open-6, open-0, size-least}
 use Rattle.questions.proofs.open_number.Statement.{statement}
 use Rattle.questions.proofs.open_number.Tie as tie
 

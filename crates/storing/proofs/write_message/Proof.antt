@@ -2,7 +2,7 @@
 use Prim.Native.Nat.{_+_, _-_}
 use native.Mathlib.Omega.{arith}
 use mathlib.Core.Path.{_≡_, ap, ap₂, _∙_}
-use lib.ListN.{length, length-set}
+use lib.ListN.{length}
 use borrow.Author.Needs.{needs}
 use borrow.Rule.Slice.PartMut.{mid-len, same-len-mid}
 use Rattle.bhtf.specs.Bytes.{Bytes, store}
@@ -14,29 +14,24 @@ use Rattle.storing.proofs.write_message.Tie as tie
 add-m : tie.Need-add-m
 add-m c = search needs
 
-slice-write-space : tie.Need-slice-write-space
-slice-write-space c = search needs
+cast-write-low-u24 : tie.Need-cast-write-low-u24
+cast-write-low-u24 c = search needs
 
-sub-write-u24 : tie.Need-sub-write-u24
-sub-write-u24 c = search needs
+write-low-u24-requires : tie.Need-write-low-u24-requires
+write-low-u24-requires c κs = (omega arith, omega arith)
 
-cast-write-u24 : tie.Need-cast-write-u24
-cast-write-u24 c = search needs
-
-write-u24-requires : tie.Need-write-u24-requires
-write-u24-requires c κs = (simp length-set (omega arith), omega arith)
-
-abbrev start-at-write-u24 : tie.After-write-u24 → tie.Start
-start-at-write-u24 c = c .before .before .before .before
+abbrev start-at-write-low-u24 : tie.After-write-low-u24 → tie.Start
+start-at-write-low-u24 c = c .before .before .before .before
 
 -- with the header written, the space is as long as before
-kept : (c : tie.After-write-u24) → length (c .write-u24 .last .0) ≡ length ((start-at-write-u24 c) .args .space .now)
-kept c = c .write-u24 .kept .0 ∙ length-set ((start-at-write-u24 c) .args .space .now) 0 97
+kept : (c : tie.After-write-low-u24)
+    → length (c .write-low-u24 .last .0) ≡ length ((start-at-write-low-u24 c) .args .space .now)
+kept c = c .write-low-u24 .kept .0
 
-long : (c : tie.After-write-u24)
-    → let S : tie.Start = start-at-write-u24 c in
-    length (c .write-u24 .last .0) ≡ S .args .head + S .args .before + length (S .args .bytes .now)
-long c = kept c ∙ (start-at-write-u24 c) .pre .1
+long : (c : tie.After-write-low-u24)
+    → let S : tie.Start = start-at-write-low-u24 c in
+    length (c .write-low-u24 .last .0) ≡ S .args .head + S .args .before + length (S .args .bytes .now)
+long c = kept c ∙ (start-at-write-low-u24 c) .pre .1
 
 add-from : tie.Need-add-from
 add-from c = search needs
@@ -57,36 +52,36 @@ copy-requires : tie.Need-copy-requires
 copy-requires c κs =
     let W = (c .before .before .before) in
     let A = (start-at-copy-arg c) .args in
-    let t = W .write-u24 .last .0 in
+    let t = W .write-low-u24 .last .0 in
     mid-len (A .head + A .before) (length t) t (omega arith) ∙ omega (arith, long W)
 
-abbrev write-u24-at-slice-known3 : tie.After-slice-known3 → tie.After-write-u24
-write-u24-at-slice-known3 c = c .before .before .before .before .before .before
+abbrev write-low-u24-at-slice-known3 : tie.After-slice-known3 → tie.After-write-low-u24
+write-low-u24-at-slice-known3 c = c .before .before .before .before .before .before
 
-abbrev write-u24-arg-at-slice-known3 : tie.After-slice-known3 → tie.After-write-u24-arg
-write-u24-arg-at-slice-known3 c = c .before .before .before .before .before .before .before
+abbrev write-low-u24-arg-at-slice-known3 : tie.After-slice-known3 → tie.After-write-low-u24-arg
+write-low-u24-arg-at-slice-known3 c = c .before .before .before .before .before .before .before
 
 abbrev start-at-slice-known3 : tie.After-slice-known3 → tie.Start
-start-at-slice-known3 c = (write-u24-arg-at-slice-known3 c) .before .before .before
+start-at-slice-known3 c = (write-low-u24-arg-at-slice-known3 c) .before .before .before
 
 same-length : tie.Need-same-length
 same-length c =
     let v = c .before .before .copy in
-    let W = (write-u24-at-slice-known3 c) in
+    let W = (write-low-u24-at-slice-known3 c) in
     let A = (start-at-slice-known3 c) .args in
-    let t = W .write-u24 .last .0 in
+    let t = W .write-low-u24 .last .0 in
     same-len-mid (A .head + A .before) (length t - (A .head + A .before)) t (v .last .0) (v .kept .0) ∙ kept W
 
 returns : tie.Need-returns
 returns c =
     let v = c .before .before .copy in
-    let W = (write-u24-at-slice-known3 c) in
+    let W = (write-low-u24-at-slice-known3 c) in
     let S = (start-at-slice-known3 c) in
     let n = S .args .before in
     let head = S .args .head in
-    let t = W .write-u24 .last .0 in
+    let t = W .write-low-u24 .last .0 in
     store-lent t (head + n) (length t) (v .last .0) (ap length (v .ensures) ∙ omega (arith, long W))
-    ∙ ap₂ (λ (b y : Bytes). store b (head + n) y) (W .write-u24 .ensures) (v .ensures)
+    ∙ ap₂ (λ (b y : Bytes). store b (head + n) y) (W .write-low-u24 .ensures) (v .ensures)
     ∙ written-at (S .args .space .now) (S .args .bytes .now) n head (S .pre .0) (S .pre .1)
 
 pub write-message-spec : {M : Type 1} → statement M
@@ -94,10 +89,8 @@ write-message-spec =
     tie.close
     (tie.spec
     add-m
-    slice-write-space
-    sub-write-u24
-    cast-write-u24
-    write-u24-requires
+    cast-write-low-u24
+    write-low-u24-requires
     add-from
     sub-copy
     part-copy-start

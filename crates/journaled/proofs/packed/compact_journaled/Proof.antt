@@ -8,7 +8,7 @@ use borrow.Rule.Slice.PartMut.{putMid}
 use Rattle.bhtf.specs.Bytes.{Bytes}
 use Rattle.compaction.specs.Compact.{compact}
 use Rattle.packing.proofs.Told.{compact-small}
-use Rattle.listed.proofs.Listing.{work-holds}
+use Rattle.slices.proofs.Listing.{work-holds}
 use Rattle.journaled.proofs.Journaling.{journals-16, journals-refused, journals-asked, part-again}
 use Rattle.journaled.proofs.packed.compact_journaled.Statement.{statement}
 use Rattle.journaled.proofs.packed.compact_journaled.Tie as tie

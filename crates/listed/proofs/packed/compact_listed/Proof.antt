@@ -10,7 +10,7 @@ use Rattle.compaction.specs.Compact.{compact}
 use Rattle.updates.specs.Changes.{pairBytes, changesIn, listAllowed, workAllowed}
 use Rattle.laws.proofs.Tests.{was-no, was-yes}
 use Rattle.packing.proofs.Told.{compact-leaves, compact-small}
-use Rattle.listed.proofs.Listing.{lists-16, lists-refused, lists-done, allowed-list, allowed-work, work-holds}
+use Rattle.slices.proofs.Listing.{lists-16, lists-refused, lists-done, allowed-list, allowed-work, work-holds}
 use Rattle.listed.proofs.packed.compact_listed.Statement.{statement}
 use Rattle.listed.proofs.packed.compact_listed.Tie as tie
 

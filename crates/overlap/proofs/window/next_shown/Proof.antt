@@ -3,11 +3,11 @@
 use mathlib.Core.Path.{_≡_, sym, ap, _∙_}
 use Prim.Native.Nat.{ℕ, _-_, _≤_, _<_}
 use native.Mathlib.Omega.{arith}
-use Rattle.overlap.specs.Checked.{startIn, endIn}
-use Rattle.overlap.specs.Windows.{Unseen}
+use Rattle.stretches.specs.Checked.{startIn, endIn}
+use Rattle.stretches.specs.Windows.{Unseen}
 use Rattle.table.specs.Slots.{offsetIn}
-use Rattle.overlap.proofs.Reading.{start-not}
-use Rattle.overlap.proofs.Pieces.{piece-none, unseen-on}
+use Rattle.stretches.proofs.Reading.{start-not}
+use Rattle.stretches.proofs.Pieces.{piece-none, unseen-on}
 use Rattle.overlap.proofs.window.next_shown.Statement.{statement}
 use Rattle.overlap.proofs.window.next_shown.Tie as tie
 

@@ -6,10 +6,10 @@ use Prim.Native.Nat.{ℕ, _+_, _-_}
 use native.Mathlib.Omega.{arith}
 use lib.ListN.{length}
 use Rattle.bhtf.specs.Bytes.{Bytes}
-use Rattle.overlap.specs.Marks.{Claimed}
-use Rattle.overlap.specs.Checked.{startIn, endIn, Readable}
-use Rattle.overlap.specs.Windows.{Piece, Carried}
-use Rattle.overlap.proofs.Reading.{checked-slot}
+use Rattle.marks.specs.Marks.{Claimed}
+use Rattle.stretches.specs.Checked.{startIn, endIn, Readable}
+use Rattle.stretches.specs.Windows.{Piece, Carried}
+use Rattle.stretches.proofs.Reading.{checked-slot}
 use Rattle.overlap.proofs.Passes.{Passing, clear-carried, passing-start, passing-over, passing-on}
 use Rattle.overlap.proofs.Passes.{passing-met, passing-end}
 use Rattle.overlap.proofs.window.pass.Statement.{statement}

@@ -1,7 +1,7 @@
 -- `overlap::window::window` meets its contract: a map that is cleared marks no place. Assumes nothing.
 use native.Mathlib.Omega.{arith}
 use borrow.Author.Needs.{needs}
-use Rattle.overlap.proofs.Claims.{marked-zeros}
+use Rattle.marks.proofs.Claims.{marked-zeros}
 use Rattle.overlap.proofs.window.window.Statement.{statement}
 use Rattle.overlap.proofs.window.window.Tie as tie
 

@@ -1,0 +1,2 @@
+-- Records and their columns.
+pub mod CasesColumns  -- cases, by computation

@@ -1,0 +1,3 @@
+-- Bits of words, and claims of the map.
+pub mod Bits
+pub mod Claims
