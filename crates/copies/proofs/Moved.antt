@@ -14,16 +14,16 @@ use Rattle.bhtf.specs.Bytes.{Bytes, part, store}
 use Rattle.laws.proofs.Bytes.{part-length, length-store}
 use Rattle.laws.proofs.Byte.{byte-part, byte-store-below, byte-store-above, byte-store-inside}
 use Rattle.laws.proofs.Tests.{by-le}
-use Rattle.copies.specs.Within.{Runs, Begun}
+use Rattle.copies.specs.Moving.{Runs, Moving}
 
 on : {A B C : Type 0} → A ⊎ B → (A → C) → (B → C) → C
 on (inl a) f g = f a
 on (inr b) f g = g b
 
-pub begun-none : (s : Bytes) (from to n : ℕ) → Begun s s from to n 0
+pub begun-none : (s : Bytes) (from to n : ℕ) → Moving s s from to n 0
 begun-none s from to n = record { long = refl; front = λ k h. absurd (omega (arith, h)); rest = λ k a. refl }
 
-pub begun-less : (s r : Bytes) (from to n p q : ℕ) → Begun s r from to n p → q ≤ p → Begun s r from to n q
+pub begun-less : (s r : Bytes) (from to n p q : ℕ) → Moving s r from to n p → q ≤ p → Moving s r from to n q
 begun-less s r from to n p q b h =
     record { long = b .long; front = λ k l. b .front k (omega (arith, l)); rest = b .rest }
 
@@ -31,8 +31,8 @@ begun-less s r from to n p q b h =
 apart-at : (s : Bytes) (from to n k : ℕ) → Runs s from to n → k < n → (from + k < to) ⊎ (to + n ≤ from + k)
 apart-at s from to n k u h = on (u .0) (λ l. inl (omega (arith, l))) (λ l. inr (omega (arith, l)))
 
-pub begun-here : (s x : Bytes) (from to n p : ℕ) → Runs s from to n → Begun s x from to n p → p ≤ n
-    → Begun x x from to n p
+pub begun-here : (s x : Bytes) (from to n p : ℕ) → Runs s from to n → Moving s x from to n p → p ≤ n
+    → Moving x x from to n p
 begun-here s x from to n p u b h =
     record {
       long = refl;
@@ -40,8 +40,8 @@ begun-here s x from to n p u b h =
       rest = λ k a. refl;
     }
 
-pub begun-then : (s x r : Bytes) (from to n p q : ℕ) → Runs s from to n → Begun s x from to n p
-    → Begun x r from to n q → q ≤ n → Begun s r from to n q
+pub begun-then : (s x r : Bytes) (from to n p q : ℕ) → Runs s from to n → Moving s x from to n p
+    → Moving x r from to n q → q ≤ n → Moving s r from to n q
 begun-then s x r from to n p q u b d h =
     record {
       long = d .long ∙ b .long;
@@ -49,8 +49,8 @@ begun-then s x r from to n p q u b d h =
       rest = λ k a. d .rest k a ∙ b .rest k a;
     }
 
-pub moved-block : (s x r : Bytes) (from to n p j q : ℕ) → Runs s from to n → Begun s x from to n p
-    → j ≤ p → j + 8 ≤ n → q ≤ j + 8 → r ≡ store x (to + j) (part x (from + j) 8) → Begun s r from to n q
+pub moved-block : (s x r : Bytes) (from to n p j q : ℕ) → Runs s from to n → Moving s x from to n p
+    → j ≤ p → j + 8 ≤ n → q ≤ j + 8 → r ≡ store x (to + j) (part x (from + j) 8) → Moving s r from to n q
 moved-block s x r from to n p j q u b below end h e =
     let v = part x (from + j) 8 in
     let y = store x (to + j) v in
@@ -81,12 +81,12 @@ moved-block s x r from to n p j q u b below end h e =
     }
 
 pub moved-first : (s r : Bytes) (from to n : ℕ) → Runs s from to n → 8 ≤ n → r ≡ store s to (part s from 8)
-    → Begun s r from to n 8
+    → Moving s r from to n 8
 moved-first s r from to n u h e =
     moved-block s s r from to n 0 0 8 u (begun-none s from to n) (omega arith) (omega arith) (omega arith)
     (simp unary-clauses e)
 
-pub moved-whole : (s r : Bytes) (from to n : ℕ) → Runs s from to n → Begun s r from to n n
+pub moved-whole : (s r : Bytes) (from to n : ℕ) → Runs s from to n → Moving s r from to n n
     → r ≡ store s to (part s from n)
 moved-whole s r from to n u b =
     let v = part s from n in

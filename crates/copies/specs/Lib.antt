@@ -1,2 +1,2 @@
 pub mod Front
-pub mod Within
+pub mod Moving

@@ -8,7 +8,7 @@ ghost use mathlib.Core.Path.{_≡_};
 ghost use lib.ListN.{length, getD, set};
 ghost use Prim.Native.Nat.{_+_, _*_, _≤_, _<_};
 ghost use Rattle.columns.specs.Columns.{wholeColumns, records};
-ghost use Rattle.columns.specs.Places.{Sized, Block, Begun};
+ghost use Rattle.columns.specs.Places.{Sized, BlockNext, BlockTo};
 
 // Puts byte j of record r at its place of the records.
 fn read_byte(out: &mut [u8], stored: &[u8], width: usize, n: usize, r: usize, j: usize)
@@ -22,8 +22,8 @@ fn read_byte(out: &mut [u8], stored: &[u8], width: usize, n: usize, r: usize, j:
 
 // Puts four bytes, from byte j on, of the records from a to e at their places, where the bytes before them are.
 fn read_four(out: &mut [u8], stored: &[u8], width: usize, n: usize, a: usize, e: usize, j: usize)
-    requires { ⌜ (j + 4 ≤ width) × Begun width n (now out) (now stored) a e j ⌝ }
-    ensures { λ _. ⌜ Begun width n (now (out .exit)) (now (stored .entry)) a e (j + 4) ⌝ }
+    requires { ⌜ (j + 4 ≤ width) × BlockTo width n (now out) (now stored) a e j ⌝ }
+    ensures { λ _. ⌜ BlockTo width n (now (out .exit)) (now (stored .entry)) a e (j + 4) ⌝ }
 {
     let mut r = a;
     while r < e {
@@ -37,8 +37,8 @@ fn read_four(out: &mut [u8], stored: &[u8], width: usize, n: usize, a: usize, e:
 
 // Puts byte j of the records from a to e at its places, where the bytes before it are.
 fn read_one(out: &mut [u8], stored: &[u8], width: usize, n: usize, a: usize, e: usize, j: usize)
-    requires { ⌜ (j < width) × Begun width n (now out) (now stored) a e j ⌝ }
-    ensures { λ _. ⌜ Begun width n (now (out .exit)) (now (stored .entry)) a e (j + 1) ⌝ }
+    requires { ⌜ (j < width) × BlockTo width n (now out) (now stored) a e j ⌝ }
+    ensures { λ _. ⌜ BlockTo width n (now (out .exit)) (now (stored .entry)) a e (j + 1) ⌝ }
 {
     let mut r = a;
     while r < e {
@@ -49,8 +49,8 @@ fn read_one(out: &mut [u8], stored: &[u8], width: usize, n: usize, a: usize, e: 
 
 // Puts bytes of the records from a to e, four by four, at their places; answers the byte behind them.
 fn read_fours(out: &mut [u8], stored: &[u8], width: usize, n: usize, a: usize, e: usize) -> usize
-    requires { ⌜ Block width n (now out) (now stored) a e ⌝ }
-    ensures { λ j. ⌜ (j ≤ width) × Begun width n (now (out .exit)) (now (stored .entry)) a e j ⌝ }
+    requires { ⌜ BlockNext width n (now out) (now stored) a e ⌝ }
+    ensures { λ j. ⌜ (j ≤ width) × BlockTo width n (now (out .exit)) (now (stored .entry)) a e j ⌝ }
 {
     let mut j = 0;
     while 4 <= width - j {
@@ -62,8 +62,8 @@ fn read_fours(out: &mut [u8], stored: &[u8], width: usize, n: usize, a: usize, e
 
 // Puts the records from a to e at their places, where those before them are.
 fn read_block(out: &mut [u8], stored: &[u8], width: usize, n: usize, a: usize, e: usize)
-    requires { ⌜ Block width n (now out) (now stored) a e ⌝ }
-    ensures { λ _. ⌜ Block width n (now (out .exit)) (now (stored .entry)) e e ⌝ }
+    requires { ⌜ BlockNext width n (now out) (now stored) a e ⌝ }
+    ensures { λ _. ⌜ BlockNext width n (now (out .exit)) (now (stored .entry)) e e ⌝ }
 {
     let mut rest = read_fours(out, stored, width, n, a, e);
     while rest < width {

@@ -7,7 +7,7 @@ ghost use mathlib.Core.Path.{_≡_};
 ghost use lib.ListN.{length, getD, set};
 ghost use Prim.Native.Nat.{_+_, _*_, _<_};
 ghost use Rattle.columns.specs.Columns.{wholeRecords, columns};
-ghost use Rattle.columns.specs.Places.{Sized, Block, Begun, Reached};
+ghost use Rattle.columns.specs.Places.{Sized, BlockNext, BlockTo, RunTo};
 
 // Puts byte j of record r at its place of the columns.
 fn write_byte(space: &mut [u8], records: &[u8], width: usize, n: usize, r: usize, j: usize)
@@ -29,8 +29,8 @@ fn write_fours(
     e: usize,
     j: usize,
 ) -> usize
-    requires { ⌜ (j < width) × Begun width n (now records) (now space) a e j ⌝ }
-    ensures { λ r. ⌜ Reached width n (now (records .entry)) (now (space .exit)) a e j 1 r ⌝ }
+    requires { ⌜ (j < width) × BlockTo width n (now records) (now space) a e j ⌝ }
+    ensures { λ r. ⌜ RunTo width n (now (records .entry)) (now (space .exit)) a e j 1 r ⌝ }
 {
     let mut r = a;
     while 4 <= e - r {
@@ -45,8 +45,8 @@ fn write_fours(
 
 // Puts byte j of the records from a to e at its places of the columns, where the bytes before it are.
 fn write_run(space: &mut [u8], records: &[u8], width: usize, n: usize, a: usize, e: usize, j: usize)
-    requires { ⌜ (j < width) × Begun width n (now records) (now space) a e j ⌝ }
-    ensures { λ _. ⌜ Begun width n (now (records .entry)) (now (space .exit)) a e (j + 1) ⌝ }
+    requires { ⌜ (j < width) × BlockTo width n (now records) (now space) a e j ⌝ }
+    ensures { λ _. ⌜ BlockTo width n (now (records .entry)) (now (space .exit)) a e (j + 1) ⌝ }
 {
     let mut rest = write_fours(space, records, width, n, a, e, j);
     while rest < e {
@@ -57,8 +57,8 @@ fn write_run(space: &mut [u8], records: &[u8], width: usize, n: usize, a: usize,
 
 // Puts the records from a to e at their places of the columns, where those before them are.
 fn write_block(space: &mut [u8], records: &[u8], width: usize, n: usize, a: usize, e: usize)
-    requires { ⌜ Block width n (now records) (now space) a e ⌝ }
-    ensures { λ _. ⌜ Block width n (now (records .entry)) (now (space .exit)) e e ⌝ }
+    requires { ⌜ BlockNext width n (now records) (now space) a e ⌝ }
+    ensures { λ _. ⌜ BlockNext width n (now (records .entry)) (now (space .exit)) e e ⌝ }
 {
     let mut j = 0;
     while j < width {

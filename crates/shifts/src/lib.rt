@@ -4,7 +4,7 @@ ghost use mathlib.Core.Logic.{_⊎_};
 ghost use lib.ListN.{length};
 ghost use Prim.Native.Nat.{_+_, _-_, _≤_};
 ghost use Rattle.bhtf.specs.Bytes.{part, store};
-ghost use Rattle.copies.specs.Within.{Begun, Runs};
+ghost use Rattle.copies.specs.Moving.{Moving, Runs};
 
 // Copies the n bytes from `from` on to `to`, byte by byte; the two runs do not meet.
 fn move_bytes(s: &mut [u8], from: usize, to: usize, n: usize)
@@ -43,8 +43,8 @@ fn move_eight(s: &mut [u8], from: usize, to: usize)
 
 // Of at most 64 bytes whose first sixteen are copied, copies the others but for the last sixteen.
 fn move_inner(s: &mut [u8], from: usize, to: usize, n: usize)
-    requires { ⌜ Runs (now s) from to n × (n ≤ 64) × Begun (now s) (now s) from to n 16 ⌝ }
-    ensures { λ _. ⌜ Begun (now (s .entry)) (now (s .exit)) from to n (n - 16) ⌝ }
+    requires { ⌜ Runs (now s) from to n × (n ≤ 64) × Moving (now s) (now s) from to n 16 ⌝ }
+    ensures { λ _. ⌜ Moving (now (s .entry)) (now (s .exit)) from to n (n - 16) ⌝ }
 {
     if n <= 32 {
         return;
@@ -59,8 +59,8 @@ fn move_inner(s: &mut [u8], from: usize, to: usize, n: usize)
 
 // Of at most 64 bytes whose first eight are copied, copies the others but for the last eight.
 fn move_middle(s: &mut [u8], from: usize, to: usize, n: usize)
-    requires { ⌜ Runs (now s) from to n × (n ≤ 64) × Begun (now s) (now s) from to n 8 ⌝ }
-    ensures { λ _. ⌜ Begun (now (s .entry)) (now (s .exit)) from to n (n - 8) ⌝ }
+    requires { ⌜ Runs (now s) from to n × (n ≤ 64) × Moving (now s) (now s) from to n 8 ⌝ }
+    ensures { λ _. ⌜ Moving (now (s .entry)) (now (s .exit)) from to n (n - 8) ⌝ }
 {
     if n <= 16 {
         return;
@@ -74,7 +74,7 @@ fn move_middle(s: &mut [u8], from: usize, to: usize, n: usize)
 // Copies 8 to 64 bytes but for the last eight, by blocks from both ends that may overlap, as `copy` of `copies` does.
 fn move_short(s: &mut [u8], from: usize, to: usize, n: usize)
     requires { ⌜ Runs (now s) from to n × (8 ≤ n) × (n ≤ 64) ⌝ }
-    ensures { λ _. ⌜ Begun (now (s .entry)) (now (s .exit)) from to n (n - 8) ⌝ }
+    ensures { λ _. ⌜ Moving (now (s .entry)) (now (s .exit)) from to n (n - 8) ⌝ }
 {
     move_eight(s, from, to);
     move_middle(s, from, to, n);
@@ -83,7 +83,7 @@ fn move_short(s: &mut [u8], from: usize, to: usize, n: usize)
 // Copies eight bytes or more but for the last eight, block by block.
 fn move_blocks(s: &mut [u8], from: usize, to: usize, n: usize)
     requires { ⌜ Runs (now s) from to n × (8 ≤ n) ⌝ }
-    ensures { λ _. ⌜ Begun (now (s .entry)) (now (s .exit)) from to n (n - 8) ⌝ }
+    ensures { λ _. ⌜ Moving (now (s .entry)) (now (s .exit)) from to n (n - 8) ⌝ }
 {
     let end = n - 8;
     let mut i = 0;
@@ -96,7 +96,7 @@ fn move_blocks(s: &mut [u8], from: usize, to: usize, n: usize)
 // Copies eight bytes or more but for the last eight.
 fn move_front(s: &mut [u8], from: usize, to: usize, n: usize)
     requires { ⌜ Runs (now s) from to n × (8 ≤ n) ⌝ }
-    ensures { λ _. ⌜ Begun (now (s .entry)) (now (s .exit)) from to n (n - 8) ⌝ }
+    ensures { λ _. ⌜ Moving (now (s .entry)) (now (s .exit)) from to n (n - 8) ⌝ }
 {
     if n <= 64 {
         move_short(s, from, to, n);

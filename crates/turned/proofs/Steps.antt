@@ -16,7 +16,7 @@ use lib.Seq.{getD-set-same, getD-set-other}
 use Rattle.bhtf.specs.Bytes.{Bytes}
 use Rattle.laws.proofs.Tests.{by-le}
 use Rattle.columns.specs.Columns.{widthOf, columns, records}
-use Rattle.columns.specs.Places.{Placed, Agree, Sized, Block, Begun, Reached}
+use Rattle.columns.specs.Places.{AtPlace, Agree, Sized, BlockNext, BlockTo, RunTo}
 use Rattle.turned.proofs.Grid.{place-below, same-row, same-byte}
 use Rattle.turned.proofs.Turned.{columns-only, records-only}
 
@@ -33,7 +33,7 @@ column-place {W} {n} r j s p q = omega (arith, place-below W n j r q p, mul-comm
 -- ---- blocks
 
 pub block-first : (W n : ℕ) (recs stored : Bytes) → length recs ≡ n * W → length stored ≡ 1 + n * W
-    → Block W n recs stored 0 0
+    → BlockNext W n recs stored 0 0
 block-first W n recs stored l m =
     record {
       sized = record { records-length = l; stored-length = m };
@@ -42,8 +42,8 @@ block-first W n recs stored l m =
       placed = λ r j p q. absurd (omega arith);
     }
 
-pub block-next : {W n : ℕ} {recs stored : Bytes} {a : ℕ} (e : ℕ) → Block W n recs stored a a → a ≤ e → e ≤ n
-    → Block W n recs stored a e
+pub block-next : {W n : ℕ} {recs stored : Bytes} {a : ℕ} (e : ℕ) → BlockNext W n recs stored a a → a ≤ e → e ≤ n
+    → BlockNext W n recs stored a e
 block-next e b p q =
     record {
       sized = b .sized;
@@ -52,8 +52,8 @@ block-next e b p q =
       placed = b .placed;
     }
 
-pub block-done : {W n : ℕ} {recs stored : Bytes} {a e : ℕ} (j : ℕ) → Begun W n recs stored a e j → W ≤ j
-    → Block W n recs stored e e
+pub block-done : {W n : ℕ} {recs stored : Bytes} {a e : ℕ} (j : ℕ) → BlockTo W n recs stored a e j → W ≤ j
+    → BlockNext W n recs stored e e
 block-done j (b, all) h =
     record {
       sized = b .sized;
@@ -64,8 +64,8 @@ block-done j (b, all) h =
 
 -- ---- within a block
 
-pub reached-first : (W n : ℕ) (recs stored : Bytes) (a e j w : ℕ) → Begun W n recs stored a e j → j + w ≤ W
-    → Reached W n recs stored a e j w a
+pub reached-first : (W n : ℕ) (recs stored : Bytes) (a e j w : ℕ) → BlockTo W n recs stored a e j → j + w ≤ W
+    → RunTo W n recs stored a e j w a
 reached-first W n recs stored a e j w b wide =
     record {
       begun = b;
@@ -75,22 +75,22 @@ reached-first W n recs stored a e j w b wide =
       this = λ r k p q. b .0 .placed r k p (omega arith);
     }
 
-pub reached-all : {W n : ℕ} {recs stored : Bytes} {a e j w r : ℕ} → Reached W n recs stored a e j w r → e ≤ r
-    → Begun W n recs stored a e (j + w)
+pub reached-all : {W n : ℕ} {recs stored : Bytes} {a e j w r : ℕ} → RunTo W n recs stored a e j w r → e ≤ r
+    → BlockTo W n recs stored a e (j + w)
 reached-all s h = (s .begun .0, λ i k p q. s .this i k (omega arith) q)
 
 -- of record r the bytes before byte c
 pub record Turn (W n : ℕ) (recs stored : Bytes) (a e j w r c : ℕ) : Type 0 where
-  pub reached : Reached W n recs stored a e j w r
+  pub reached : RunTo W n recs stored a e j w r
   pub within : r < e
   pub row : Agree W n recs stored (r + 1) c
 
-pub turn-first : {W n : ℕ} {recs stored : Bytes} {a e j w r : ℕ} → Reached W n recs stored a e j w r → r < e
+pub turn-first : {W n : ℕ} {recs stored : Bytes} {a e j w r : ℕ} → RunTo W n recs stored a e j w r → r < e
     → Turn W n recs stored a e j w r j
 turn-first s h = record { reached = s; within = h; row = λ i k p q. s .begun .1 i k (omega arith) q }
 
 pub turn-last : {W n : ℕ} {recs stored : Bytes} {a e j w r c : ℕ} (r′ : ℕ) → Turn W n recs stored a e j w r c
-    → j + w ≤ c → r′ ≡ r + 1 → Reached W n recs stored a e j w r′
+    → j + w ≤ c → r′ ≡ r + 1 → RunTo W n recs stored a e j w r′
 turn-last r′ t l x =
     record {
       begun = t .reached .begun;
@@ -102,13 +102,13 @@ turn-last r′ t l x =
 
 -- byte c of record r comes to its place, and what is placed stays so
 turn-more : (W n : ℕ) (recs stored recs′ stored′ : Bytes) (a e j w r c : ℕ) → Turn W n recs stored a e j w r c
-    → j ≤ c → c < j + w → length recs′ ≡ length recs → length stored′ ≡ length stored → Placed W n recs′ stored′ r c
-    → ((i k : ℕ) → i < n → k < W → (i ≡ r → k ≡ c → ⊥) → Placed W n recs stored i k → Placed W n recs′ stored′ i k)
+    → j ≤ c → c < j + w → length recs′ ≡ length recs → length stored′ ≡ length stored → AtPlace W n recs′ stored′ r c
+    → ((i k : ℕ) → i < n → k < W → (i ≡ r → k ≡ c → ⊥) → AtPlace W n recs stored i k → AtPlace W n recs′ stored′ i k)
     → Turn W n recs′ stored′ a e j w r (c + 1)
 turn-more W n recs stored recs′ stored′ a e j w r c t lo hi lr ls here kept =
     let s = t .reached in
     let b = s .begun .0 in
-    let next : Block W n recs′ stored′ a e =
+    let next : BlockNext W n recs′ stored′ a e =
     record {
       sized =
           record {
@@ -180,23 +180,23 @@ read-next c′ t lo hi x recs′ y = rw (y, x) (read-more _ _ _ _ _ _ _ _ _ _ t 
 
 -- ---- a turn of one byte
 
-module _ {W n : ℕ} {recs stored : Bytes} {a e j r : ℕ} (r′ : ℕ) (s : Reached W n recs stored a e j 1 r) (h : r < e)
+module _ {W n : ℕ} {recs stored : Bytes} {a e j r : ℕ} (r′ : ℕ) (s : RunTo W n recs stored a e j 1 r) (h : r < e)
     (x : r′ ≡ r + 1) where
   pub written-one : (stored′ : Bytes) → stored′ ≡ set stored (1 + j * n + r) (getD recs (r * W + j) 0)
-      → Reached W n recs stored′ a e j 1 r′
+      → RunTo W n recs stored′ a e j 1 r′
   written-one stored′ y =
       let t = written-more W n recs stored a e j 1 r j (turn-first s h) (omega arith) (omega arith) in
       rw y (turn-last r′ t (omega arith) x)
 
   pub read-one : (recs′ : Bytes) → recs′ ≡ set recs (r * W + j) (getD stored (1 + j * n + r) 0)
-      → Reached W n recs′ stored a e j 1 r′
+      → RunTo W n recs′ stored a e j 1 r′
   read-one recs′ y =
       let t = read-more W n recs stored a e j 1 r j (turn-first s h) (omega arith) (omega arith) in
       rw y (turn-last r′ t (omega arith) x)
 
 -- ---- all records placed
 
-pub written-all : (W n : ℕ) (recs stored : Bytes) (a : ℕ) → Block W n recs stored a a → n ≤ a → 0 < W
+pub written-all : (W n : ℕ) (recs stored : Bytes) (a : ℕ) → BlockNext W n recs stored a a → n ≤ a → 0 < W
     → set stored 0 W ≡ columns W recs
 unfolding widthOf
 written-all W n recs stored a b h pos =
@@ -206,7 +206,7 @@ written-all W n recs stored a b h pos =
     (λ r j p q.
     b .placed r j (omega arith) q ∙ sym (getD-set-other stored 0 (1 + j * n + r) W 0 (λ x. omega arith))))
 
-pub read-all : (W n : ℕ) (recs stored : Bytes) (a : ℕ) → Block W n recs stored a a → n ≤ a → widthOf stored ≡ W
+pub read-all : (W n : ℕ) (recs stored : Bytes) (a : ℕ) → BlockNext W n recs stored a a → n ≤ a → widthOf stored ≡ W
     → 0 < W → recs ≡ records stored
 read-all W n recs stored a b h first pos =
     sym

@@ -1,13 +1,13 @@
 -- After each turn the bytes before the rest are placed, of each of the block's records. Assumes nothing.
 use Prim.Native.Nat.{_-_, _≤_}
 use native.Mathlib.Omega.{arith}
-use Rattle.columns.specs.Places.{Begun}
+use Rattle.columns.specs.Places.{BlockTo}
 use Rattle.turned.proofs.Steps.{block-done}
 use Rattle.gathering.proofs.read_block.Statement.{statement}
 use Rattle.gathering.proofs.read_block.Tie as tie
 
 abbrev Inv-loop : tie.InvT-loop
-Inv-loop out₀ stored width n a e rest₀ out rest = (rest ≤ width) × Begun width n out stored a e rest
+Inv-loop out₀ stored width n a e rest₀ out rest = (rest ≤ width) × BlockTo width n out stored a e rest
 
 abbrev μ-loop : tie.MeasureT-loop
 μ-loop out₀ stored width n a e rest₀ out rest = width - rest

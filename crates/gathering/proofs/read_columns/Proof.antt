@@ -6,14 +6,14 @@ use mathlib.Core.Path.{_≡_, sym}
 use lib.ListN.{length}
 use borrow.Author.Needs.{needs}
 use Rattle.columns.specs.Columns.{wholeRecords}
-use Rattle.columns.specs.Places.{Block}
+use Rattle.columns.specs.Places.{BlockNext}
 use Rattle.turned.proofs.Turned.{whole-width, whole-count, whole-read}
 use Rattle.turned.proofs.Steps.{block-first, block-next, read-all}
 use Rattle.gathering.proofs.read_columns.Statement.{statement}
 use Rattle.gathering.proofs.read_columns.Tie as tie
 
 abbrev Inv-loop : tie.InvT-loop
-Inv-loop out₀ stored width n a₀ out a = Block width n out stored a a
+Inv-loop out₀ stored width n a₀ out a = BlockNext width n out stored a a
 
 abbrev μ-loop : tie.MeasureT-loop
 μ-loop out₀ stored width n a₀ out a = n - a

@@ -4,13 +4,13 @@ use Prim.Native.Nat.{ℕ, _+_, _-_}
 use native.Mathlib.Omega.{arith}
 use mathlib.Core.List.{List}
 use mathlib.Core.Path.{refl}
-use Rattle.columns.specs.Places.{Reached}
+use Rattle.columns.specs.Places.{RunTo}
 use Rattle.turned.proofs.Steps.{Turn, reached-first, reached-all, turn-first, turn-last, read-next}
 use Rattle.gathering.proofs.read_four.Statement.{statement}
 use Rattle.gathering.proofs.read_four.Tie as tie
 
 abbrev Inv-loop : tie.InvT-loop
-Inv-loop out₀ stored width n a e j r₀ out r = Reached width n out stored a e j 4 r
+Inv-loop out₀ stored width n a e j r₀ out r = RunTo width n out stored a e j 4 r
 
 abbrev μ-loop : tie.MeasureT-loop
 μ-loop out₀ stored width n a e j r₀ out r = e - r

@@ -1,12 +1,12 @@
 -- After each turn the first j bytes of the block's records are placed. Assumes nothing.
 use Prim.Native.Nat.{_-_, _≤_}
 use native.Mathlib.Omega.{arith}
-use Rattle.columns.specs.Places.{Begun}
+use Rattle.columns.specs.Places.{BlockTo}
 use Rattle.gathering.proofs.read_fours.Statement.{statement}
 use Rattle.gathering.proofs.read_fours.Tie as tie
 
 abbrev Inv-loop : tie.InvT-loop
-Inv-loop out₀ stored width n a e j₀ out j = (j ≤ width) × Begun width n out stored a e j
+Inv-loop out₀ stored width n a e j₀ out j = (j ≤ width) × BlockTo width n out stored a e j
 
 abbrev μ-loop : tie.MeasureT-loop
 μ-loop out₀ stored width n a e j₀ out j = width - j

@@ -3,13 +3,13 @@
 use Prim.Native.Nat.{_-_}
 use native.Mathlib.Omega.{arith}
 use mathlib.Core.Path.{refl}
-use Rattle.columns.specs.Places.{Reached}
+use Rattle.columns.specs.Places.{RunTo}
 use Rattle.turned.proofs.Steps as steps
 use Rattle.gathering.proofs.read_one.Statement.{statement}
 use Rattle.gathering.proofs.read_one.Tie as tie
 
 abbrev Inv-loop : tie.InvT-loop
-Inv-loop out₀ stored width n a e j r₀ out r = Reached width n out stored a e j 1 r
+Inv-loop out₀ stored width n a e j r₀ out r = RunTo width n out stored a e j 1 r
 
 abbrev μ-loop : tie.MeasureT-loop
 μ-loop out₀ stored width n a e j r₀ out r = e - r

@@ -1,14 +1,14 @@
 -- After each turn the first j bytes of the block's records are placed. Assumes nothing.
 use Prim.Native.Nat.{_-_, _≤_}
 use native.Mathlib.Omega.{arith}
-use Rattle.columns.specs.Places.{Begun}
+use Rattle.columns.specs.Places.{BlockTo}
 use Rattle.turned.proofs.Steps.{block-done}
 use Rattle.laying.proofs.write_block.Statement.{statement}
 use Rattle.laying.proofs.write_block.Tie as tie
 
 abbrev Inv-loop : tie.InvT-loop
 Inv-loop space₀ records width n a e j₀ space j =
-    Begun width n records space a e j × (j ≤ width)
+    BlockTo width n records space a e j × (j ≤ width)
 
 abbrev μ-loop : tie.MeasureT-loop
 μ-loop space₀ records width n a e j₀ space j = width - j

@@ -3,14 +3,14 @@ use Prim.Native.Nat.{_-_}
 use native.Mathlib.Omega.{arith}
 use mathlib.Core.Path.{_∙_}
 use lib.ListN.{length-set}
-use Rattle.columns.specs.Places.{Block}
+use Rattle.columns.specs.Places.{BlockNext}
 use Rattle.turned.proofs.Turned.{whole-width, whole-count}
 use Rattle.turned.proofs.Steps.{block-first, block-next, written-all}
 use Rattle.laying.proofs.write_columns.Statement.{statement}
 use Rattle.laying.proofs.write_columns.Tie as tie
 
 abbrev Inv-loop : tie.InvT-loop
-Inv-loop space₀ records width n a₀ space a = Block width n records space a a
+Inv-loop space₀ records width n a₀ space a = BlockNext width n records space a a
 
 abbrev μ-loop : tie.MeasureT-loop
 μ-loop space₀ records width n a₀ space a = n - a

@@ -4,13 +4,13 @@ use Prim.Native.Nat.{ℕ, _+_, _-_}
 use native.Mathlib.Omega.{arith}
 use mathlib.Core.List.{List}
 use mathlib.Core.Path.{refl}
-use Rattle.columns.specs.Places.{Reached}
+use Rattle.columns.specs.Places.{RunTo}
 use Rattle.turned.proofs.Steps.{reached-first, written-one}
 use Rattle.laying.proofs.write_fours.Statement.{statement}
 use Rattle.laying.proofs.write_fours.Tie as tie
 
 abbrev Inv-loop : tie.InvT-loop
-Inv-loop space₀ records width n a e j r₀ space r = Reached width n records space a e j 1 r
+Inv-loop space₀ records width n a e j r₀ space r = RunTo width n records space a e j 1 r
 
 abbrev μ-loop : tie.MeasureT-loop
 μ-loop space₀ records width n a e j r₀ space r = e - r
@@ -25,7 +25,7 @@ sub-loop c = omega arith
 abbrev Further : tie.At-loop Inv-loop μ-loop → List ℕ → ℕ → Type 0
 Further L space k =
     let A = L .before .before .before .args in
-    Reached (A .width) (A .n) (A .records .now) space (A .a) (A .e) (A .j) 1 (L .loop .r + k)
+    RunTo (A .width) (A .n) (A .records .now) space (A .a) (A .e) (A .j) 1 (L .loop .r + k)
 
 module _ (c : tie.After-write-byte Inv-loop μ-loop) where
   one : Further (c .before .before .before) (c .write-byte .last .0) 1

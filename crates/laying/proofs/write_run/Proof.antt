@@ -3,13 +3,13 @@
 use Prim.Native.Nat.{_-_}
 use native.Mathlib.Omega.{arith}
 use mathlib.Core.Path.{refl}
-use Rattle.columns.specs.Places.{Reached}
+use Rattle.columns.specs.Places.{RunTo}
 use Rattle.turned.proofs.Steps.{reached-all, written-one}
 use Rattle.laying.proofs.write_run.Statement.{statement}
 use Rattle.laying.proofs.write_run.Tie as tie
 
 abbrev Inv-loop : tie.InvT-loop
-Inv-loop space₀ records width n a e j rest₀ space rest = Reached width n records space a e j 1 rest
+Inv-loop space₀ records width n a e j rest₀ space rest = RunTo width n records space a e j 1 rest
 
 abbrev μ-loop : tie.MeasureT-loop
 μ-loop space₀ records width n a e j rest₀ space rest = e - rest

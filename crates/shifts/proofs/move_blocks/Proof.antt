@@ -1,13 +1,13 @@
 -- After each turn i bytes are copied. Assumes nothing.
 use Prim.Native.Nat.{_+_, _-_, _≤_}
 use native.Mathlib.Omega.{arith}
-use Rattle.copies.specs.Within.{Begun}
+use Rattle.copies.specs.Moving.{Moving}
 use Rattle.copies.proofs.Moved.{begun-none, begun-less, moved-block}
 use Rattle.shifts.proofs.move_blocks.Statement.{statement}
 use Rattle.shifts.proofs.move_blocks.Tie as tie
 
 abbrev Inv-loop : tie.InvT-loop
-Inv-loop s₀ from to n end i₀ s i = Begun s₀ s from to n i × (i ≤ n)
+Inv-loop s₀ from to n end i₀ s i = Moving s₀ s from to n i × (i ≤ n)
 
 abbrev μ-loop : tie.MeasureT-loop
 μ-loop s₀ from to n end i₀ s i = n - i
