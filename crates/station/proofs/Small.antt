@@ -6,15 +6,15 @@ use mathlib.Core.Path.{_≡_, sym, _∙_}
 use Prim.Native.Nat.{ℕ, _+_, _≤_}
 use native.Mathlib.Omega.{arith}
 use mathlib.Core.Bool.{true}
-use Rattle.bhtf.specs.Bytes.{Bytes}
-use Rattle.bhtf.specs.Limits.{mostImage, mostSlots}
-use Rattle.bhtf.specs.Questions.{modeKnown, openNumber, lookupNumber}
-use Rattle.bhtf.specs.Calls.{lookupStart, lookupLength, addRead, deleteRead, lookupRead}
-use Rattle.laws.proofs.Tests.{by-eq}
-use Rattle.laws.proofs.Opened.{opened-facts}
-use Rattle.laws.proofs.CallsRead.{sought-most}
-use Rattle.laws.proofs.Outcomes.{lookup-closed, offset-refused}
-use Rattle.lookup.proofs.Answers.{start-none, length-none, inside}
+use Rattle.spec_file.specs.Bytes.{Bytes}
+use Rattle.spec_file.specs.Limits.{mostImage, mostSlots}
+use Rattle.spec_file.specs.Questions.{modeKnown, openNumber, lookupNumber}
+use Rattle.spec_file.specs.Calls.{lookupStart, lookupLength, addRead, deleteRead, lookupRead}
+use Rattle.law_file.proofs.Tests.{by-eq}
+use Rattle.law_file.proofs.Opened.{opened-facts}
+use Rattle.law_file.proofs.CallsRead.{sought-most}
+use Rattle.law_file.proofs.Outcomes.{lookup-closed, offset-refused}
+use Rattle.call_lookup.proofs.Answers.{start-none, length-none, inside}
 
 open-accepted : (img key : Bytes) → lookupNumber img key ≡ 0 → openNumber img ≡ 0
 open-accepted img key h =

@@ -8,17 +8,17 @@ use mathlib.Core.Option.{Option, none, some}
 use lib.ListN.{length}
 use lib.Dec.{eqb}
 use borrow.Author.Tests.{eqb-true}
-use Rattle.bhtf.specs.Bytes.{Bytes}
-use Rattle.bhtf.specs.Limits.{mostSlots, headerSize, keyField, slotsField}
-use Rattle.bhtf.specs.Image.{field, layoutOf, slotSize, slotStart}
-use Rattle.bhtf.specs.Questions.{openNumber}
-use Rattle.bhtf.specs.Inspect.{Stop, stopped, end, stopNumber, keyStart, keyWalk, lowest, slotFails, countSound, Verdict, sound, slotBad, countBad, verdictOf, verdictNumber, check}
-use Rattle.laws.proofs.Opened.{opened-facts, opened-room}
-use Rattle.laws.proofs.Slots.{slot-end}
-use Rattle.laws.proofs.Verdict.{lowest-some}
-use Rattle.walk.specs.Stops.{stopSlot}
-use Rattle.inspect.specs.declared.Verdict as code
-use Rattle.walk.proofs.Stopping.{stopped-open, stopped-below}
+use Rattle.spec_file.specs.Bytes.{Bytes}
+use Rattle.spec_file.specs.Limits.{mostSlots, headerSize, keyField, slotsField}
+use Rattle.spec_file.specs.Image.{field, layoutOf, slotSize, slotStart}
+use Rattle.spec_file.specs.Questions.{openNumber}
+use Rattle.spec_file.specs.Inspect.{Stop, stopped, end, stopNumber, keyStart, keyWalk, lowest, slotFails, countSound, Verdict, sound, slotBad, countBad, verdictOf, verdictNumber, check}
+use Rattle.law_file.proofs.Opened.{opened-facts, opened-room}
+use Rattle.law_file.proofs.Slots.{slot-end}
+use Rattle.law_file.proofs.Verdict.{lowest-some}
+use Rattle.call_walk.specs.Stops.{stopSlot}
+use Rattle.call_check.specs.declared.Verdict as code
+use Rattle.call_walk.proofs.Stopping.{stopped-open, stopped-below}
 use Rattle.station.specs.Codes.{verdictCode, verdictSlot}
 
 -- what an export answers, and that the image is as it was

@@ -1,7 +1,7 @@
 -- The check's verdict as the C host sees it: 0 sound, 1 the slot fails, 2 the count fails; and the slot, 0 but for
 -- verdict 1. Assumes nothing.
 use Prim.Native.Nat.{ℕ}
-use Rattle.bhtf.specs.Inspect.{Verdict, refused, sound, slotBad, countBad}
+use Rattle.spec_file.specs.Inspect.{Verdict, refused, sound, slotBad, countBad}
 
 unfoldable pub verdictCode : Verdict → ℕ
 verdictCode (Verdict.refused n) = 0

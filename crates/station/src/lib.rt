@@ -1,26 +1,26 @@
 // The exports for the station host, on numbers and byte slices: each call answers the documents' number, 0 when
 // accepted. host/bhtf.h declares them for C.
-use inspect::Verdict;
-use inspect::check;
-use lookup::count;
-use lookup::locate;
-use lookup::locate_slots;
-use walk::Stop;
-use walk::next_taken;
-use words::fields::read_u32;
-use words::limits::KEY_FIELD;
+use bytes_words::fields::read_u32;
+use bytes_words::limits::KEY_FIELD;
+use call_check::Verdict;
+use call_check::check;
+use call_lookup::count;
+use call_lookup::locate;
+use call_lookup::locate_slots;
+use call_walk::Stop;
+use call_walk::next_taken;
 ghost use mathlib.Core.Path.{_≡_};
 ghost use lib.ListN.{length};
-ghost use Rattle.bhtf.specs.Bytes.{Bytes};
-ghost use Rattle.bhtf.specs.Inspect.{keyWalk, stopNumber, keyStart, check, verdictNumber};
-ghost use Rattle.walk.specs.Stops.{stopSlot};
+ghost use Rattle.spec_file.specs.Bytes.{Bytes};
+ghost use Rattle.spec_file.specs.Inspect.{keyWalk, stopNumber, keyStart, check, verdictNumber};
+ghost use Rattle.call_walk.specs.Stops.{stopSlot};
 ghost use Rattle.station.specs.Codes.{verdictCode, verdictSlot};
-ghost use Rattle.bhtf.specs.Calls.{create, add, delete, lookup, lookupStart, lookupLength, count, addRead, deleteRead, lookupRead};
-ghost use Rattle.compaction.specs.Compact.{compact};
-ghost use Rattle.updates.specs.Journal.{Disk, recoverNumber, recovered};
-ghost use Rattle.slices.specs.Lists.{Lists};
-ghost use Rattle.journal.specs.Updates.{Updates};
-ghost use Rattle.journaled.specs.Journals.{Journals};
+ghost use Rattle.spec_file.specs.Calls.{create, add, delete, lookup, lookupStart, lookupLength, count, addRead, deleteRead, lookupRead};
+ghost use Rattle.spec_compaction.specs.Compact.{compact};
+ghost use Rattle.spec_changes.specs.Journal.{Disk, recoverNumber, recovered};
+ghost use Rattle.changes_slices.specs.Lists.{Lists};
+ghost use Rattle.journal_recover.specs.Updates.{Updates};
+ghost use Rattle.journal_calls.specs.Journals.{Journals};
 
 // Makes the slice an empty file: keys of `size` bytes, `slots` slots (0 for 5,507), the scramble of the seed.
 #[no_mangle]
@@ -28,7 +28,7 @@ pub extern "C" fn bhtf_create(image: &mut [u8], size: u32, slots: u32, seed: u32
     ensures { λ r. ⌜ (r ≡ create (now (image .entry)) size slots seed .answer .number)
         × (now (image .exit) ≡ create (now (image .entry)) size slots seed .after) ⌝ }
 {
-    create::create(image, size, slots, seed)
+    call_create::create(image, size, slots, seed)
 }
 
 // Stores the bytes under the key: mode 1 new, 2 replace, 3 append, 4 withdraw.
@@ -37,7 +37,7 @@ pub extern "C" fn bhtf_add(image: &mut [u8], key: &[u8], bytes: &[u8], mode: u32
     ensures { λ r. ⌜ (r ≡ add (now (image .entry)) (now (key .entry)) (now (bytes .entry)) mode .answer .number)
         × (now (image .exit) ≡ add (now (image .entry)) (now (key .entry)) (now (bytes .entry)) mode .after) ⌝ }
 {
-    add::add(image, key, bytes, mode)
+    call_add::add(image, key, bytes, mode)
 }
 
 // Deletes the key's point.
@@ -46,7 +46,7 @@ pub extern "C" fn bhtf_delete(image: &mut [u8], key: &[u8]) -> u32
     ensures { λ r. ⌜ (r ≡ delete (now (image .entry)) (now (key .entry)) .answer .number)
         × (now (image .exit) ≡ delete (now (image .entry)) (now (key .entry)) .after) ⌝ }
 {
-    delete::delete(image, key)
+    call_delete::delete(image, key)
 }
 
 // Moves all active messages down, lowers X, zeroes every byte from X on, and sets the offset of each inactive message
@@ -56,7 +56,7 @@ pub extern "C" fn bhtf_compact(image: &mut [u8]) -> u32
     ensures { λ r. ⌜ (r ≡ compact (now (image .entry)) .answer .number)
         × (now (image .exit) ≡ compact (now (image .entry)) .after) ⌝ }
 {
-    packing::compact(image)
+    call_compact::compact(image)
 }
 
 // Where the key's message stands: its text's offset and its length, both 0 with no active message or when refused.
@@ -87,7 +87,7 @@ pub extern "C" fn bhtf_add_slots(
         × (now (image .exit) ≡ add (now (image .entry)) (now (key .entry)) (now (bytes .entry)) mode .after)
         × (now (read .exit) ≡ addRead (now (image .entry)) (now (key .entry)) mode) ⌝ }
 {
-    let told = add::add_slots(image, key, bytes, mode);
+    let told = call_add::add_slots(image, key, bytes, mode);
     *read = told.read as u32;
     told.number
 }
@@ -99,7 +99,7 @@ pub extern "C" fn bhtf_delete_slots(image: &mut [u8], key: &[u8], read: &mut u32
         × (now (image .exit) ≡ delete (now (image .entry)) (now (key .entry)) .after)
         × (now (read .exit) ≡ deleteRead (now (image .entry)) (now (key .entry))) ⌝ }
 {
-    let told = delete::delete_slots(image, key);
+    let told = call_delete::delete_slots(image, key);
     *read = told.read as u32;
     told.number
 }
@@ -205,7 +205,7 @@ pub extern "C" fn bhtf_add_listed(
         (now (image .entry)) (length (now (work .entry))) (now (list .entry))
         (now (image .exit)) (now (list .exit)) r (now (pairs .exit)) ⌝ }
 {
-    listed::add_listed(image, key, bytes, mode, work, list, pairs)
+    changes_calls::add_listed(image, key, bytes, mode, work, list, pairs)
 }
 
 // Deletes as `bhtf_delete` does, and lists what changed; `pairs` is how many pairs the list has now, 0 when refused.
@@ -221,7 +221,7 @@ pub extern "C" fn bhtf_delete_listed(
         (now (image .entry)) (length (now (work .entry))) (now (list .entry))
         (now (image .exit)) (now (list .exit)) r (now (pairs .exit)) ⌝ }
 {
-    listed::delete_listed(image, key, work, list, pairs)
+    changes_calls::delete_listed(image, key, work, list, pairs)
 }
 
 // Compacts as `bhtf_compact` does, and lists what changed; `pairs` is how many pairs the list has now, 0 when refused.
@@ -236,7 +236,7 @@ pub extern "C" fn bhtf_compact_listed(
         (now (image .entry)) (length (now (work .entry))) (now (list .entry))
         (now (image .exit)) (now (list .exit)) r (now (pairs .exit)) ⌝ }
 {
-    listed::packed::compact_listed(image, work, list, pairs)
+    changes_calls::packed::compact_listed(image, work, list, pairs)
 }
 
 // Stores as `bhtf_add` does, by way of the journal.
@@ -253,7 +253,7 @@ pub extern "C" fn bhtf_add_journaled(
         (now (image .entry)) (length (now (work .entry))) (now (journal .entry))
         (now (image .exit)) (now (journal .exit)) r ⌝ }
 {
-    journaled::add_journaled(image, key, bytes, mode, work, journal)
+    journal_calls::add_journaled(image, key, bytes, mode, work, journal)
 }
 
 // Deletes as `bhtf_delete` does, by way of the journal.
@@ -268,7 +268,7 @@ pub extern "C" fn bhtf_delete_journaled(
         (now (image .entry)) (length (now (work .entry))) (now (journal .entry))
         (now (image .exit)) (now (journal .exit)) r ⌝ }
 {
-    journaled::delete_journaled(image, key, work, journal)
+    journal_calls::delete_journaled(image, key, work, journal)
 }
 
 // Compacts as `bhtf_compact` does, by way of the journal.
@@ -282,7 +282,7 @@ pub extern "C" fn bhtf_compact_journaled(
         (now (image .entry)) (length (now (work .entry))) (now (journal .entry))
         (now (image .exit)) (now (journal .exit)) r ⌝ }
 {
-    journaled::packed::compact_journaled(image, work, journal)
+    journal_calls::packed::compact_journaled(image, work, journal)
 }
 
 // Rewrites the image from a journal that is marked; with any other mark it stays. The mark becomes 0, unless refused.
@@ -292,5 +292,5 @@ pub extern "C" fn bhtf_recover(image: &mut [u8], journal: &mut [u8]) -> u32
         × Updates (recovered (record { image = now (image .entry); journal = now (journal .entry) }))
         (now (image .exit)) (now (journal .exit)) ⌝ }
 {
-    journal::recover(image, journal)
+    journal_recover::recover(image, journal)
 }

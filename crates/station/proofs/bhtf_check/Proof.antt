@@ -2,7 +2,7 @@
 use borrow.Author.Needs.{needs}
 use mathlib.Core.Path.{sym, ap, _∙_}
 use native.Mathlib.Omega.{arith}
-use Rattle.inspect.specs.Verdicts.{verdictIn}
+use Rattle.call_check.specs.Verdicts.{verdictIn}
 use Rattle.station.proofs.Told.{with-image, says-refused, says-sound, says-slot, says-count, check-slot}
 use Rattle.station.proofs.bhtf_check.Statement.{statement}
 use Rattle.station.proofs.bhtf_check.Tie as tie

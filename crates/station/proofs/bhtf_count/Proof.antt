@@ -1,7 +1,7 @@
 -- C as `count` answers it. Assumes nothing.
 use borrow.Author.Needs.{needs}
 use mathlib.Core.Path.{refl}
-use Rattle.bhtf.specs.Calls.{count}
+use Rattle.spec_file.specs.Calls.{count}
 use Rattle.station.proofs.bhtf_count.Statement.{statement}
 use Rattle.station.proofs.bhtf_count.Tie as tie
 

@@ -2,7 +2,7 @@
 use borrow.Author.Needs.{needs}
 use mathlib.Core.Path.{refl, _∙_}
 use native.Mathlib.Omega.{arith}
-use Rattle.bhtf.specs.Calls.{lookup}
+use Rattle.spec_file.specs.Calls.{lookup}
 use Rattle.station.proofs.Small.{lookup-small}
 use Rattle.station.proofs.bhtf_lookup.Statement.{statement}
 use Rattle.station.proofs.bhtf_lookup.Tie as tie

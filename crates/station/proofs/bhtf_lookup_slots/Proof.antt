@@ -2,7 +2,7 @@
 use borrow.Author.Needs.{needs}
 use mathlib.Core.Path.{refl, _∙_}
 use native.Mathlib.Omega.{arith}
-use Rattle.bhtf.specs.Calls.{lookup}
+use Rattle.spec_file.specs.Calls.{lookup}
 use Rattle.station.proofs.Small.{lookup-small, lookup-few}
 use Rattle.station.proofs.bhtf_lookup_slots.Statement.{statement}
 use Rattle.station.proofs.bhtf_lookup_slots.Tie as tie

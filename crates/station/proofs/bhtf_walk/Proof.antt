@@ -2,8 +2,8 @@
 use borrow.Author.Needs.{needs}
 use mathlib.Core.Path.{_≡_, sym, _∙_}
 use native.Mathlib.Omega.{arith}
-use Rattle.bhtf.specs.Inspect.{keyWalk, stopped}
-use Rattle.walk.proofs.Stopping.{stopped-is, refused-is, end-is}
+use Rattle.spec_file.specs.Inspect.{keyWalk, stopped}
+use Rattle.call_walk.proofs.Stopping.{stopped-is, refused-is, end-is}
 use Rattle.station.proofs.Told.{with-image, walks-refused, walks-end, walks-stopped, walk-key, walk-long, walk-slot, walk-place}
 use Rattle.station.proofs.bhtf_walk.Statement.{statement}
 use Rattle.station.proofs.bhtf_walk.Tie as tie

@@ -1,0 +1,65 @@
+-- `call_compact::move_all` meets its contract: X is not below D. Assumes nothing.
+use native.Mathlib.Omega.{arith}
+use borrow.Author.Needs.{needs}
+use Rattle.law_file.proofs.Opened.{opened-facts}
+use Rattle.header_layout.proofs.Shaped.{area-field}
+use Rattle.law_compact_stages.proofs.Cells.{staged-open}
+use Rattle.compact_sweep.proofs.move_all.Statement.{statement}
+use Rattle.compact_sweep.proofs.move_all.Tie as tie
+
+read-u32-requires : tie.Need-read-u32-requires
+read-u32-requires c κs =
+    let S = c .before .before .before in
+    let st = S .pre .1 in
+    omega (arith, st .stage .size, opened-facts (S .pre .0) (st .sound .opened .accepted) .size-low)
+
+cast-if1 : tie.Need-cast-if1
+cast-if1 c = search needs
+
+at-requires : tie.Need-at-requires
+at-requires c κs = search needs
+
+sub-if1 : tie.Need-sub-if1
+sub-if1 c =
+    let S = c .before .before .before .before .before in
+    let st = S .pre .1 in
+    let o = staged-open (S .pre .0) (S .args .image .now) (S .args .shape) _ _ st in
+    let f = opened-facts (S .args .image .now) (o .accepted) in
+    omega (arith, c .at .ensures, area-field o, f .free-low, c .before .read-u32 .ensures)
+
+mul-if1 : tie.Need-mul-if1
+mul-if1 c = search needs
+
+sweep-small-requires : tie.Need-sweep-small-requires
+sweep-small-requires c κs = search needs
+
+same-length : tie.Need-same-length
+same-length c = search needs
+
+returns : tie.Need-returns
+returns c = search needs
+
+sweep-large-requires : tie.Need-sweep-large-requires
+sweep-large-requires c κs = search needs
+
+same-length-2 : tie.Need-same-length-2
+same-length-2 c = search needs
+
+returns-2 : tie.Need-returns-2
+returns-2 c = search needs
+
+pub move-all-spec : {M : Type 1} → statement M
+move-all-spec =
+    tie.close
+    (tie.spec
+    read-u32-requires
+    cast-if1
+    at-requires
+    sub-if1
+    mul-if1
+    sweep-small-requires
+    same-length
+    returns
+    sweep-large-requires
+    same-length-2
+    returns-2)

@@ -1,2 +1,0 @@
--- Cases of compaction, by computation; its laws are in crates/compacted.
-pub mod CasesCompact

@@ -1,0 +1,95 @@
+-- Question 5 of eight bytes, put as two numbers.
+--     version-words      "BHTF" as one number, v and the version bytes as another
+-- Assumes nothing.
+use mathlib.Core.Path.{_≡_, refl, sym, ap, _∙_}
+use Prim.Native.Nat.{ℕ, _+_, _*_, _≤_, _<_}
+use native.Mathlib.Omega.{arith}
+use mathlib.Core.Bool.{Bool, true, false, _&&_}
+use mathlib.Core.List.{[], _∷_}
+use lib.ListN.{length, getD}
+use lib.Dec.{eqb, leb}
+use borrow.Author.Tests.{eqb-true, leb-true, eq-eqb, le-leb}
+use Rattle.spec_file.specs.Bytes.{Bytes, part, number, same}
+use Rattle.spec_file.specs.Limits.{magic}
+use Rattle.spec_file.specs.Image.{field}
+use Rattle.spec_file.specs.Questions.{versionKnown}
+use Rattle.law_file.proofs.Tests.{and-left, and-right, and-true}
+use Rattle.law_file.proofs.Bytes.{AreBytes, same-true}
+use Rattle.bytes_words.proofs.Numbers.{part-cons, part-four, number-four}
+
+-- two tests of which each follows from the other
+both-ways : (x y : Bool) → (x ≡ true → y ≡ true) → (y ≡ true → x ≡ true) → x ≡ y
+both-ways true y f g = sym (f refl)
+both-ways false true f g = g refl
+both-ways false false f g = refl
+
+module _ (a b c d e f g h : ℕ) (la : a < 256) (lb : b < 256) (lc : c < 256) (ld : d < 256) (le : e < 256) (lf : f < 256)
+    (lg : g < 256) (lh : h < 256) where
+  abbrev first : ℕ
+  first = a * 16777216 + (b * 65536 + (c * 256 + d))
+
+  abbrev second : ℕ
+  second = e * 16777216 + (f * 65536 + (g * 256 + h))
+
+  abbrev words : Bool
+  words = eqb first 0x42485446 && (leb 0x76010000 second && leb second 0x76010002)
+
+  abbrev bytes : Bool
+  bytes = same (a ∷ b ∷ c ∷ d ∷ e ∷ []) magic && eqb f 1 && eqb g 0 && leb h 2
+
+  forth : words ≡ true → bytes ≡ true
+  unfolding same
+  forth t =
+      let n : first ≡ 0x42485446 =
+      eqb-true first 0x42485446 (and-left (eqb first 0x42485446) (leb 0x76010000 second && leb second 0x76010002) t) in
+      let r : (leb 0x76010000 second && leb second 0x76010002) ≡ true =
+      and-right (eqb first 0x42485446) (leb 0x76010000 second && leb second 0x76010002) t in
+      let l : 0x76010000 ≤ second =
+      leb-true 0x76010000 second (and-left (leb 0x76010000 second) (leb second 0x76010002) r) in
+      let u : second ≤ 0x76010002 =
+      leb-true second 0x76010002 (and-right (leb 0x76010000 second) (leb second 0x76010002) r) in
+      let ea : a ≡ 66 = omega arith in
+      let eb : b ≡ 72 = omega arith in
+      let ec : c ≡ 84 = omega arith in
+      let ed : d ≡ 70 = omega arith in
+      let ee : e ≡ 118 = omega arith in
+      let ef : f ≡ 1 = omega arith in
+      let eg : g ≡ 0 = omega arith in
+      let eh : h ≤ 2 = omega arith in
+      rw (ea, eb, ec, ed, ee, ef, eg) (le-leb h 2 eh)
+
+  back : bytes ≡ true → words ≡ true
+  back t =
+      let S : Bool = same (a ∷ b ∷ c ∷ d ∷ e ∷ []) magic in
+      let three = and-left (S && eqb f 1 && eqb g 0) (leb h 2) t in
+      let two = and-left (S && eqb f 1) (eqb g 0) three in
+      let m : a ∷ b ∷ c ∷ d ∷ e ∷ [] ≡ magic = same-true (a ∷ b ∷ c ∷ d ∷ e ∷ []) magic (and-left S (eqb f 1) two) in
+      let ea : a ≡ 66 = ap (λ (l : Bytes). getD l 0 0) m in
+      let eb : b ≡ 72 = ap (λ (l : Bytes). getD l 1 0) m in
+      let ec : c ≡ 84 = ap (λ (l : Bytes). getD l 2 0) m in
+      let ed : d ≡ 70 = ap (λ (l : Bytes). getD l 3 0) m in
+      let ee : e ≡ 118 = ap (λ (l : Bytes). getD l 4 0) m in
+      let ef : f ≡ 1 = eqb-true f 1 (and-right S (eqb f 1) two) in
+      let eg : g ≡ 0 = eqb-true g 0 (and-right (S && eqb f 1) (eqb g 0) three) in
+      let eh : h ≤ 2 = leb-true h 2 (and-right (S && eqb f 1 && eqb g 0) (leb h 2) t) in
+      and-true (eqb first 0x42485446) (leb 0x76010000 second && leb second 0x76010002)
+      (eq-eqb first 0x42485446 (omega arith))
+      (and-true (leb 0x76010000 second) (leb second 0x76010002) (le-leb 0x76010000 second (omega arith))
+      (le-leb second 0x76010002 (omega arith)))
+
+  words-bytes : words ≡ bytes
+  words-bytes = both-ways words bytes forth back
+
+pub version-words : (img : Bytes) → AreBytes img → 8 ≤ length img
+    → (eqb (field img 0) 0x42485446 && (leb 0x76010000 (field img 4) && leb (field img 4) 0x76010002))
+    ≡ versionKnown img
+unfolding field versionKnown
+version-words img bytes l =
+    let at : ℕ → ℕ = λ i. getD img i 0 in
+    let p₀ : part img 0 4 ≡ at 0 ∷ at 1 ∷ at 2 ∷ at 3 ∷ [] = part-four img 0 (omega arith) in
+    let p₄ : part img 4 4 ≡ at 4 ∷ at 5 ∷ at 6 ∷ at 7 ∷ [] = part-four img 4 (omega arith) in
+    let p : part img 0 5 ≡ at 0 ∷ at 1 ∷ at 2 ∷ at 3 ∷ at 4 ∷ [] =
+    part-cons img 0 4 (omega arith) ∙ ap (λ (t : Bytes). at 0 ∷ t) (part-four img 1 (omega arith)) in
+    rw (p₀, p₄, p, number-four (at 0) (at 1) (at 2) (at 3), number-four (at 4) (at 5) (at 6) (at 7))
+    (words-bytes (at 0) (at 1) (at 2) (at 3) (at 4) (at 5) (at 6) (at 7) (bytes 0) (bytes 1) (bytes 2) (bytes 3)
+    (bytes 4) (bytes 5) (bytes 6) (bytes 7))

@@ -1,0 +1,146 @@
+-- Which numbers a step of the book may answer.
+--     add-number       of an add, by the questions that it puts; call-number: of any call
+--     room-number      of the questions 12 and 13; room-left: not 13 where there is room
+-- Assumes nothing.
+use mathlib.Core.Path.{_≡_, refl}
+use Prim.Native.Nat.{ℕ, _+_, _≤_}
+use native.Mathlib.Omega.{arith}
+use mathlib.Core.Bool.{Bool, true, false, cond, _&&_}
+use mathlib.Core.List.{List, [], _∷_, _++_}
+use mathlib.Core.Option.{Option, none, some}
+use lib.ListN.{length}
+use lib.Dec.{eqb, leb}
+use borrow.Author.Tests.{le-leb, eqb-false}
+use Rattle.spec_file.specs.Bytes.{Bytes}
+use Rattle.spec_file.specs.Messages.{bytesOf}
+use Rattle.spec_file.specs.Questions.{Question, ask, firstNo, nameAllowed, named}
+use Rattle.spec_file.specs.Calls.{Outcome, plain}
+use Rattle.spec_file.specs.Lists.{adding, deleting, looking, counting}
+use Rattle.spec_book.specs.Steps.{Step, calling, compacting}
+use Rattle.spec_book.specs.Book.{Entry, Book, find, stepOf, roomAsks, addAbsent, replace, append, addPresent, addFound, guarded, bookAdd, deleteFound, bookDelete, lookupFound, bookLookup, bookCount, bookCompact, bookCall, bookStep}
+use Rattle.law_file.proofs.Tests.{by-bool}
+use Rattle.law_file.proofs.Opened.{firstNo-none, firstNo-yes, firstNo-no}
+
+module _ (P : ℕ → Type 0) where
+  -- of a question's number and of those behind it
+  either : (n : ℕ) (b : Bool) (qs : List Question) → P n → P (firstNo qs) → P (firstNo (ask n b ∷ qs))
+  either n b qs p q =
+      by-bool b (λ y. rw (firstNo-yes n b qs y) q) (λ m. rw (firstNo-no n b qs m) p)
+
+  none-asked : P 0 → P (firstNo [])
+  none-asked z = rw firstNo-none z
+
+  step-number : (b : Book) (asks : List Question) (y : Book) → P (firstNo asks) → P (stepOf b asks y .answer .number)
+  unfolding stepOf plain
+  step-number b asks y p = p
+
+  guarded-number : (b : Book) (asks : List Question) (s : Outcome Book) → P (firstNo asks) → P (s .answer .number)
+      → P (guarded b asks s .answer .number)
+  unfolding guarded
+  guarded-number b asks s p q =
+      by-bool (eqb (firstNo asks) 0) (λ h. rw h q) (λ h. rw h (step-number b asks b p))
+
+  -- of one of two outcomes
+  cond-number : (c : Bool) (s t : Outcome Book) → (c ≡ true → P (s .answer .number))
+      → (c ≡ false → P (t .answer .number))
+      → P (cond c s t .answer .number)
+  cond-number c s t p q = by-bool c (λ h. rw h (p h)) (λ h. rw h (q h))
+
+  -- an add's numbers other than those for room, and room's for the text that is placed
+  module _ (b : Book) (name bytes : Bytes) (mode : ℕ) (few : (n : ℕ) → n ≤ 10 → P n) (absent : P 14)
+      (room : P (firstNo (roomAsks b (length bytes))))
+      (more : (e : Entry) → find name (b .entries) ≡ some e → (mode ≡ 1 → ⊥) → (mode ≡ 2 → ⊥)
+      → P (firstNo (roomAsks b (length (bytesOf (e .text) ++ bytes))))) where
+    zero-asked : P (firstNo [])
+    zero-asked = none-asked (few 0 (omega arith))
+
+    absent-number : P (addAbsent b name bytes mode .answer .number)
+    unfolding addAbsent
+    absent-number =
+        cond-number (eqb mode 4) _ _
+        (λ h. step-number b _ b (either 14 false [] absent zero-asked))
+        (λ h. cond-number (eqb mode 3 && eqb (length bytes) 0) _ _
+        (λ h′. step-number b _ _ (either 10 _ [] (few 10 (omega arith)) zero-asked))
+        (λ h′. step-number b _ _ (either 10 _ _ (few 10 (omega arith)) room)))
+
+    replace-number : (e : Entry) → P (replace b e bytes .answer .number)
+    unfolding replace
+    replace-number e =
+        cond-number (e .offset? && leb (length bytes) (e .held)) _ _
+        (λ h. step-number b [] _ zero-asked)
+        (λ h. step-number b _ _ room)
+
+    append-number : (e : Entry) → P (firstNo (roomAsks b (length (bytesOf (e .text) ++ bytes))))
+        → P (append b e bytes .answer .number)
+    unfolding append
+    append-number e p =
+        cond-number (eqb (length bytes) 0) _ _
+        (λ h. step-number b [] _ zero-asked)
+        (λ h. step-number b _ _ p)
+
+    present-number : (e : Entry) → find name (b .entries) ≡ some e → P (addPresent b e bytes mode .answer .number)
+    unfolding addPresent
+    present-number e f =
+        cond-number (eqb mode 1) _ _
+        (λ h. step-number b _ b (either 9 false [] (few 9 (omega arith)) zero-asked))
+        (λ n₁. cond-number (eqb mode 2) _ _
+        (λ h. replace-number e)
+        (λ n₂. cond-number (eqb mode 4) _ _
+        (λ h. step-number b [] _ zero-asked)
+        (λ n₄. append-number e (more e f (eqb-false mode 1 n₁) (eqb-false mode 2 n₂)))))
+
+    found-number : (f : Option Entry) → find name (b .entries) ≡ f → P (addFound b name bytes mode f .answer .number)
+    unfolding addFound
+    found-number none q = absent-number
+    found-number (some e) q = present-number e q
+
+    pub add-number : P (bookAdd b name bytes mode .answer .number)
+    unfolding bookAdd named
+    add-number =
+        guarded-number b _ _
+        (either 7 _ _ (few 7 (omega arith)) (either 8 _ [] (few 8 (omega arith)) zero-asked))
+        (found-number (find name (b .entries)) refl)
+
+  -- ---- the other calls
+
+  module _ (b : Book) (few : (n : ℕ) → n ≤ 10 → P n) (absent : P 14) where
+    seven : (name : Bytes) (s : Outcome Book) → P (s .answer .number)
+        → P (guarded b (ask 7 (nameAllowed (b .terms .K) name) ∷ []) s .answer .number)
+    seven name s p =
+        guarded-number b _ s (either 7 _ [] (few 7 (omega arith)) (none-asked (few 0 (omega arith)))) p
+
+    fourteen : P (stepOf b (ask 14 false ∷ []) b .answer .number)
+    fourteen = step-number b _ b (either 14 false [] absent (none-asked (few 0 (omega arith))))
+
+    gone-number : (name : Bytes) (f : Option Entry) → P (deleteFound b name f .answer .number)
+    unfolding deleteFound
+    gone-number name none = fourteen
+    gone-number name (some e) = step-number b [] _ (none-asked (few 0 (omega arith)))
+
+    shown-number : (f : Option Entry) → P (lookupFound b f .answer .number)
+    unfolding lookupFound
+    shown-number none = fourteen
+    shown-number (some e) = few 0 (omega arith)
+
+    -- of any call, where room's questions answer such a number
+    pub call-number : ((m : ℕ) → P (firstNo (roomAsks b m))) → (c : Step) → P (bookStep c b .answer .number)
+    unfolding bookStep bookCall bookDelete bookLookup bookCount bookCompact plain
+    call-number room (calling (adding name bytes mode)) =
+        add-number b name bytes mode few absent (room (length bytes)) (λ e f n₁ n₂. room _)
+    call-number room (calling (deleting name)) = seven name _ (gone-number name (find name (b .entries)))
+    call-number room (calling (looking name)) = seven name _ (shown-number (find name (b .entries)))
+    call-number room (calling counting) = few 0 (omega arith)
+    call-number room compacting = few 0 (omega arith)
+
+-- ---- 13
+
+-- room's numbers: 12 or 13, and not 13 where there is room
+pub room-number : (P : ℕ → Type 0) (b : Book) (m : ℕ) → P 0 → P 12 → P 13 → P (firstNo (roomAsks b m))
+unfolding roomAsks
+room-number P b m z p q = either P 12 _ _ p (either P 13 _ [] q (none-asked P z))
+
+pub room-left : (b : Book) (m : ℕ) → b .used + b .terms .head + m ≤ b .terms .R → firstNo (roomAsks b m) ≡ 13 → ⊥
+unfolding roomAsks
+room-left b m h =
+    either (λ (n : ℕ). n ≡ 13 → ⊥) 12 _ _ (λ q. omega arith)
+    (λ q. omega (arith, firstNo-yes 13 _ [] (le-leb _ _ h), firstNo-none))

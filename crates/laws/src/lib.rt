@@ -1,1 +1,0 @@
-// Laws of the specification in crates/bhtf, of any image bytes, in proofs/. It holds no code.

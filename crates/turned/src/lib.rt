@@ -1,1 +1,0 @@
-// Laws of the definitions in crates/columns, for records of any width. It holds no code.
