@@ -9,11 +9,11 @@ use changes_bytes::keep;
 use changes_pairs::fill_list_within;
 use changes_reach::of_add;
 use changes_reach::of_delete;
-use changes_slices::slices_allowed;
+use changes_windows::slices_allowed;
 ghost use lib.ListN.{length};
 ghost use Rattle.spec_file.specs.Bytes.{Bytes};
 ghost use Rattle.spec_file.specs.Calls.{add, delete};
-ghost use Rattle.changes_slices.specs.Lists.{Lists};
+ghost use Rattle.spec_changes.specs.Lists.{Lists};
 
 // Add, and the list of what it changed; `pairs` is how many pairs the list has now, 0 when refused.
 pub fn add_listed(

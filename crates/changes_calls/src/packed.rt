@@ -2,10 +2,10 @@
 use call_compact::compact;
 use changes_bytes::fill_list;
 use changes_bytes::put_part;
-use changes_slices::slices_allowed;
+use changes_windows::slices_allowed;
 ghost use lib.ListN.{length};
 ghost use Rattle.spec_compaction.specs.Compact.{compact};
-ghost use Rattle.changes_slices.specs.Lists.{Lists};
+ghost use Rattle.spec_changes.specs.Lists.{Lists};
 
 // Compaction, and the list of what it changed; `pairs` is how many pairs the list has now, 0 when refused.
 pub fn compact_listed(image: &mut [u8], work: &mut [u8], list: &mut [u8], pairs: &mut u32) -> u32

@@ -1,7 +1,9 @@
 // Windows: the few stretches of an image in which a call may have written. Only they are kept before the call and
-// compared after it.
+// compared after it. Beside them question 16, on the slices that such a call is lent.
 ghost use mathlib.Core.Path.{_≡_};
+ghost use mathlib.Core.Bool.{_&&_};
 ghost use Prim.Native.Nat.{_≤_, _<_};
+ghost use Rattle.spec_changes.specs.Changes.{listAllowed, workAllowed};
 ghost use Rattle.changes_windows.specs.Windows.{Sorted, Ahead};
 
 // Four windows, in their order: from 0 up to end1, from from2 up to end2, and so on. They may touch, and be empty.
@@ -79,4 +81,11 @@ pub fn whole(size: usize) -> Windows
         from4: size,
         end4: size,
     }
+}
+
+// Question 16, of a list and a working slice for an image of so many bytes.
+pub fn slices_allowed(size: usize, work: usize, list: usize) -> bool
+    ensures { λ r. ⌜ r ≡ (listAllowed list && workAllowed size work) ⌝ }
+{
+    (8 <= list) & (size <= work)
 }

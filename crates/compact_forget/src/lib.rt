@@ -15,7 +15,7 @@ ghost use Rattle.spec_file.specs.Image.{layoutOf};
 ghost use Rattle.spec_file.specs.Inspect.{taken};
 ghost use Rattle.header_layout.specs.Shapes.{Open};
 ghost use Rattle.table_search.specs.Slots.{withOffset};
-ghost use Rattle.law_compact_stages.specs.Stages.{Sound, Forgotten, offsetIn, deadIn, activeIn};
+ghost use Rattle.compact_stages.specs.Stages.{Sound, Forgotten, offsetIn, deadIn, activeIn};
 
 // Whether slot i has an inactive message.
 fn is_dead(image: &[u8], shape: Shape, i: Slot) -> bool

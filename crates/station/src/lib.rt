@@ -18,7 +18,7 @@ ghost use Rattle.station.specs.Codes.{verdictCode, verdictSlot};
 ghost use Rattle.spec_file.specs.Calls.{create, add, delete, lookup, lookupStart, lookupLength, count, addRead, deleteRead, lookupRead};
 ghost use Rattle.spec_compaction.specs.Compact.{compact};
 ghost use Rattle.spec_changes.specs.Journal.{Disk, recoverNumber, recovered};
-ghost use Rattle.changes_slices.specs.Lists.{Lists};
+ghost use Rattle.spec_changes.specs.Lists.{Lists};
 ghost use Rattle.journal_recover.specs.Updates.{Updates};
 ghost use Rattle.journal_calls.specs.Journals.{Journals};
 

@@ -6,7 +6,7 @@ use borrow.Author.Needs.{needs}
 use Rattle.spec_file.specs.Messages.{setFree}
 use Rattle.law_file.proofs.Opened.{opened-facts}
 use Rattle.header_layout.proofs.Shaped.{shape-area}
-use Rattle.law_compact_stages.proofs.Ends.{finish-same, finish-lower}
+use Rattle.compact_stages.proofs.Ends.{finish-same, finish-lower}
 use Rattle.call_compact.proofs.finish.Statement.{statement}
 use Rattle.call_compact.proofs.finish.Tie as tie
 

@@ -8,9 +8,9 @@ use Rattle.spec_file.specs.Limits.{freeField}
 use Rattle.spec_file.specs.Image.{field, layoutOf}
 use Rattle.law_file.proofs.Opened.{opened-facts}
 use Rattle.header_layout.proofs.Shaped.{shape-area}
-use Rattle.law_compact_stages.specs.Stages.{Stage, Begun}
-use Rattle.law_compact_stages.proofs.Stages.{front-field}
-use Rattle.law_compact_stages.proofs.Tight.{bytes-fit, tight-stage}
+use Rattle.compact_stages.specs.Stages.{Stage, Begun}
+use Rattle.compact_stages.proofs.Stages.{front-field}
+use Rattle.compact_stages.proofs.Tight.{bytes-fit, tight-stage}
 use Rattle.call_compact.proofs.gather.Statement.{statement}
 use Rattle.call_compact.proofs.gather.Tie as tie
 

@@ -1,7 +1,7 @@
 -- `call_compact::pack` meets its contract: the last stage, finished, is the compacted image. Assumes nothing.
 use mathlib.Core.Path.{_∙_}
 use borrow.Author.Needs.{needs}
-use Rattle.law_compact_stages.proofs.Ends.{stage-end, stage-place}
+use Rattle.compact_stages.proofs.Ends.{stage-end, stage-place}
 use Rattle.call_compact.proofs.pack.Statement.{statement}
 use Rattle.call_compact.proofs.pack.Tie as tie
 

@@ -10,7 +10,7 @@ use Rattle.spec_file.specs.Calls.{Outcome, delete}
 use Rattle.spec_changes.specs.Changes.{pairBytes, changesIn, listAllowed, workAllowed}
 use Rattle.changes_windows.specs.Windows.{before, Sorted}
 use Rattle.law_file.proofs.Tests.{was-no, was-yes}
-use Rattle.changes_slices.proofs.Listing.{lists-16, lists-refused, lists-done, allowed-list, allowed-work, windows-hold, delete-leaves, delete-small}
+use Rattle.changes_extent.proofs.Listing.{lists-16, lists-refused, lists-done, allowed-list, allowed-work, windows-hold, delete-leaves, delete-small}
 use Rattle.changes_calls.proofs.delete_listed.Statement.{statement}
 use Rattle.changes_calls.proofs.delete_listed.Tie as tie
 

@@ -9,8 +9,8 @@ use Rattle.spec_file.specs.Image.{layoutOf, slot, vacant}
 use Rattle.spec_file.specs.Messages.{lengthAt, isActive}
 use Rattle.law_file.proofs.Tests.{was-no, was-yes}
 use Rattle.header_layout.proofs.Shaped.{shape-head, head-width}
-use Rattle.law_compact_stages.specs.Stages.{offsetIn, activeIn}
-use Rattle.law_compact_stages.proofs.Entries.{vacant-taken, active-vacant, active-quiet, active-is}
+use Rattle.compact_stages.specs.Stages.{offsetIn, activeIn}
+use Rattle.compact_stages.proofs.Entries.{vacant-taken, active-vacant, active-quiet, active-is}
 use Rattle.compact_forget.proofs.active_bytes.Statement.{statement}
 use Rattle.compact_forget.proofs.active_bytes.Tie as tie
 

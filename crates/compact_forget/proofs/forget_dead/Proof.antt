@@ -10,8 +10,8 @@ use Rattle.law_file.proofs.Total.{total}
 use Rattle.header_layout.specs.Shapes.{Open}
 use Rattle.table_search.proofs.Headers.{header, layout-slots}
 use Rattle.table_search.specs.Slots.{withOffset}
-use Rattle.law_compact_stages.specs.Stages.{offsetIn, deadIn, activeIn}
-use Rattle.law_compact_stages.proofs.Forgetting.{Forgetting, forgetting-start, forgetting-open, forgetting-inside, forgetting-on, forgotten-all, active-same, active-one, active-small, active-on, active-none}
+use Rattle.compact_stages.specs.Stages.{offsetIn, deadIn, activeIn}
+use Rattle.compact_stages.proofs.Forgetting.{Forgetting, forgetting-start, forgetting-open, forgetting-inside, forgetting-on, forgotten-all, active-same, active-one, active-small, active-on, active-none}
 use Rattle.compact_forget.proofs.forget_dead.Statement.{statement}
 use Rattle.compact_forget.proofs.forget_dead.Tie as tie
 

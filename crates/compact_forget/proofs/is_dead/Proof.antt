@@ -5,7 +5,7 @@ use mathlib.Core.Bool.{not}
 use borrow.Author.Needs.{needs}
 use Rattle.spec_file.specs.Messages.{isActive}
 use Rattle.header_layout.proofs.Shaped.{head-width}
-use Rattle.law_compact_stages.proofs.Entries.{dead-none, dead-vacant, dead-is, vacant-taken}
+use Rattle.compact_stages.proofs.Entries.{dead-none, dead-vacant, dead-is, vacant-taken}
 use Rattle.compact_forget.proofs.is_dead.Statement.{statement}
 use Rattle.compact_forget.proofs.is_dead.Tie as tie
 

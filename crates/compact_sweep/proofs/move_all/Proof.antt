@@ -3,7 +3,7 @@ use native.Mathlib.Omega.{arith}
 use borrow.Author.Needs.{needs}
 use Rattle.law_file.proofs.Opened.{opened-facts}
 use Rattle.header_layout.proofs.Shaped.{area-field}
-use Rattle.law_compact_stages.proofs.Cells.{staged-open}
+use Rattle.compact_stages.proofs.Cells.{staged-open}
 use Rattle.compact_sweep.proofs.move_all.Statement.{statement}
 use Rattle.compact_sweep.proofs.move_all.Tie as tie
 

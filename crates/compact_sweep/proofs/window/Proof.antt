@@ -4,8 +4,8 @@ use native.Mathlib.Omega.{arith}
 use mathlib.Core.Path.{subst}
 use borrow.Author.Needs.{needs}
 use Rattle.spec_file.specs.Image.{layoutOf}
-use Rattle.law_compact_stages.specs.Stages.{Stage}
-use Rattle.law_compact_stages.proofs.Cells.{staged-open, staged-above, staged-each}
+use Rattle.compact_stages.specs.Stages.{Stage}
+use Rattle.compact_stages.proofs.Cells.{staged-open, staged-above, staged-each}
 use Rattle.compact_sweep.proofs.window.Statement.{statement}
 use Rattle.compact_sweep.proofs.window.Tie as tie
 

@@ -10,7 +10,7 @@ use Rattle.spec_compaction.specs.Compact.{compact}
 use Rattle.spec_changes.specs.Changes.{pairBytes, changesIn, listAllowed, workAllowed}
 use Rattle.law_file.proofs.Tests.{was-no, was-yes}
 use Rattle.call_compact.proofs.Told.{compact-leaves, compact-small}
-use Rattle.changes_slices.proofs.Listing.{lists-16, lists-refused, lists-done, allowed-list, allowed-work, work-holds}
+use Rattle.changes_extent.proofs.Listing.{lists-16, lists-refused, lists-done, allowed-list, allowed-work, work-holds}
 use Rattle.changes_calls.proofs.packed.compact_listed.Statement.{statement}
 use Rattle.changes_calls.proofs.packed.compact_listed.Tie as tie
 

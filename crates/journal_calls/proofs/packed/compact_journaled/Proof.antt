@@ -8,7 +8,7 @@ use borrow.Rule.Slice.PartMut.{putMid}
 use Rattle.spec_file.specs.Bytes.{Bytes}
 use Rattle.spec_compaction.specs.Compact.{compact}
 use Rattle.call_compact.proofs.Told.{compact-small}
-use Rattle.changes_slices.proofs.Listing.{work-holds}
+use Rattle.changes_extent.proofs.Listing.{work-holds}
 use Rattle.journal_calls.proofs.Journaling.{journals-16, journals-refused, journals-asked, part-again}
 use Rattle.journal_calls.proofs.packed.compact_journaled.Statement.{statement}
 use Rattle.journal_calls.proofs.packed.compact_journaled.Tie as tie

@@ -17,7 +17,7 @@ use Rattle.law_file.proofs.Tests.{by-bool}
 use Rattle.law_compaction.proofs.Packing.{startAt, Live, Stretches, sound-stretches, live-begins}
 use Rattle.law_compaction.proofs.Packed.{end-fits, tight-bytes, tight-at}
 use Rattle.header_layout.specs.declared.shape.Shape.{Shape}
-use Rattle.law_compact_stages.specs.Stages.{offsetNow, slotNow, Stage, Forgotten, Sound}
+use Rattle.compact_stages.specs.Stages.{offsetNow, slotNow, Stage, Forgotten, Sound}
 
 -- the active messages have no more bytes than the data area
 pub bytes-fit : (img img′ : Bytes) (s : Shape) (n : ℕ) → Sound img s → Forgotten img img′ n

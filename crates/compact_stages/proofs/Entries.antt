@@ -22,7 +22,7 @@ use Rattle.law_file.proofs.Stores.{store-append}
 use Rattle.law_file.proofs.Slots.{Room, keyOf-slot}
 use Rattle.bytes_compare.proofs.Little.{bytes-part}
 use Rattle.law_file.proofs.Tests.{by-bool}
-use Rattle.law_compact_stages.specs.Stages.{offsetIn, keyIn, spanIn, deadIn, activeIn, tableEnd}
+use Rattle.compact_stages.specs.Stages.{offsetIn, keyIn, spanIn, deadIn, activeIn, tableEnd}
 
 -- ---- four bytes
 digit-first : (a b c d : ℕ) → a < 256 → b < 256 → c < 256 → d < 256

@@ -32,9 +32,9 @@ use Rattle.header_layout.specs.Shapes.{Open}
 use Rattle.header_layout.proofs.Shaped.{shape-head}
 use Rattle.header_layout.specs.declared.shape.Shape.{Shape}
 use Rattle.table_search.specs.Slots.{withOffset}
-use Rattle.law_compact_stages.specs.Stages.{offsetIn, keyIn, spanIn, offsetNow, slotNow, tableEnd, deadIn, activeIn, Stage, Forgotten, Sound}
-use Rattle.law_compact_stages.proofs.Entries.{slot-back, slot-bytes, behind-putSlot}
-use Rattle.law_compact_stages.proofs.Stages.{front-layout, front-open}
+use Rattle.compact_stages.specs.Stages.{offsetIn, keyIn, spanIn, offsetNow, slotNow, tableEnd, deadIn, activeIn, Stage, Forgotten, Sound}
+use Rattle.compact_stages.proofs.Entries.{slot-back, slot-bytes, behind-putSlot}
+use Rattle.compact_stages.proofs.Stages.{front-layout, front-open}
 
 pub record Forgetting (g : Layout) (img img′ : Bytes) (n : ℕ) : Type 0 where
   pub size : length img′ ≡ length img

@@ -24,9 +24,9 @@ use Rattle.law_file.proofs.Slots.{Room, length-slot, length-keyOf, length-entry
 use Rattle.law_file.proofs.Stretch.{span}
 use Rattle.law_compaction.proofs.Packing.{startAt, stopAt, Live, Stretches, below-none, below-one, packed-fits, packed-below}
 use Rattle.bytes_compare.proofs.Little.{part-join}
-use Rattle.law_compact_stages.specs.Stages.{offsetNow, slotNow, tableEnd, Stage}
-use Rattle.law_compact_stages.proofs.Entries.{behind-putSlot}
-use Rattle.law_compact_stages.proofs.Stages.{key-now, live-waiting}
+use Rattle.compact_stages.specs.Stages.{offsetNow, slotNow, tableEnd, Stage}
+use Rattle.compact_stages.proofs.Entries.{behind-putSlot}
+use Rattle.compact_stages.proofs.Stages.{key-now, live-waiting}
 
 -- an offset at two stages: the same where its message begins below both places, or below none of them
 now-same : (g : Layout) (img : Bytes) (s e i : ℕ)

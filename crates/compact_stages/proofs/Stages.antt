@@ -27,8 +27,8 @@ use Rattle.law_file.proofs.Stretch.{span}
 use Rattle.law_compaction.proofs.Packing.{startAt, stopAt, Live, Stretches, packed-below}
 use Rattle.header_layout.specs.Shapes.{shapeOf, Open}
 use Rattle.header_layout.specs.declared.shape.Shape.{Shape}
-use Rattle.law_compact_stages.specs.Stages.{offsetNow, slotNow, Stage}
-use Rattle.law_compact_stages.specs.Charts.{OneEach}
+use Rattle.compact_stages.specs.Stages.{offsetNow, slotNow, Stage}
+use Rattle.compact_stages.specs.Charts.{OneEach}
 
 -- ---- the header
 

@@ -2,8 +2,8 @@
 use mathlib.Core.Path.{refl}
 use borrow.Author.Needs.{needs}
 use Rattle.spec_changes.specs.Changes.{listAllowed, workAllowed}
-use Rattle.changes_slices.proofs.slices_allowed.Statement.{statement}
-use Rattle.changes_slices.proofs.slices_allowed.Tie as tie
+use Rattle.changes_windows.proofs.slices_allowed.Statement.{statement}
+use Rattle.changes_windows.proofs.slices_allowed.Tie as tie
 
 returns : tie.Need-returns
 unfolding listAllowed workAllowed

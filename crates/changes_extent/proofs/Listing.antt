@@ -25,9 +25,9 @@ use Rattle.spec_changes.proofs.Copied.{copied-back}
 use Rattle.changes_windows.specs.Windows.{windowsOf, before, Sorted}
 use Rattle.changes_windows.specs.declared.Windows.{Windows}
 use Rattle.changes_windows.proofs.Windowed.{windows-within}
 use Rattle.changes_extent.specs.Reaches.{Only}
 use Rattle.law_file.proofs.Outcomes.{settled-yes, settled-no, add-closed, add-refused, delete-closed, delete-refused}
-use Rattle.changes_slices.specs.Lists.{Lists}
+use Rattle.spec_changes.specs.Lists.{Lists}
 
 module _ (call : Bytes → Outcome Bytes) (img : Bytes) (work : ℕ) (list : Bytes) where
   abbrev allowed : Bool
