@@ -6,7 +6,7 @@
 # tests/house-allowed.txt has what was there before the rule: rule, number, file. It only shrinks: a file that has more than its line
 # says fails, and one that has fewer fails until the line is made anew.
 #   tests/house.sh --list   the list as the files are
-# And the table of crates in README.md names those of crates.txt, each once.
+# And of crates.txt that each crate's name begins with its layer, and that a line says what it holds.
 set -u
 export LC_ALL=C.UTF-8
 cd "$(dirname "$0")/.." || exit 2
@@ -57,13 +57,22 @@ done < <(found | awk -v allowed="$allowed" '
     for (k in both) if (is[k] + 0 != was[k] + 0) { split(k, p, " "); print p[1], is[k] + 0, was[k] + 0, p[2] }
   }' "$allowed" - | sort -k4)
 
-named=$(sed -n '/^## The crates/,/^## /s/^| \(`.*`\) |.*/\1/p' README.md | tr -d '`,' | tr ' ' '\n' | sort)
-listed=$(sed -n 's/^\([a-z_]*\):.*/\1/p' crates.txt | sort)
-if [ "$named" != "$listed" ]; then
+# crates.txt: each crate's name begins with a layer that a rule of the file names, and what it holds stands on the line above it
+while read -r line; do
   bad=1
-  echo "the table of crates in README.md (<) is not crates.txt (>):"
-  diff <(echo "$named") <(echo "$listed") | grep '^[<>]'
-fi
+  echo "crates.txt: $line"
+done < <(awk '
+  /^# ---- / { split($0, rule, ":"); sub(/^# ---- /, "", rule[1]); count = split(rule[1], layers, ", "); above = 0; next }
+  /^# / { above = 1; next }
+  /^[a-z_]+:/ {
+    name = $0
+    sub(/:.*/, "", name)
+    fits = 0
+    for (i = 1; i <= count; i++) if (index(name, layers[i]) == 1) fits = 1
+    if (!fits) print name " does not begin with its layer"
+    if (!above) print name " has no line that says what it holds"
+  }
+  { above = 0 }' crates.txt)
 
 [ "$bad" -eq 0 ] || exit 1
 awk '{ n[$1] += $2 } END { printf "still allowed: %d long lines, %d chains, %d without a head\n", n["columns"], n["chains"], n["head"] }' "$allowed"

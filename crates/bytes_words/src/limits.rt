@@ -1,7 +1,8 @@
-// The numbers that document 01 fixes, each in one place. The specification's are in crates/spec_file/specs/Limits.antt; the proofs of
-// the functions that use these compare the two.
+// The numbers that document 01 fixes, each in one place. The specification's are in crates/spec_file/specs/Limits.antt;
+// the proofs of the functions that use these compare the two.
 
-// "BHTF"; the letter v with the version bytes 1, 0, 2, which create writes; and the oldest version that is read, 1, 0, 0.
+// "BHTF"; the letter v with the version bytes 1, 0, 2, which create writes; and the oldest version that is read, 1, 0,
+// 0.
 pub const MAGIC: u32 = 0x42485446;
 
 pub const VERSION: u32 = 0x76010002;

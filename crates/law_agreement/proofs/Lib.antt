@@ -1,7 +1,7 @@
--- Demand 3: file and book agree on every list of calls. The statement is `Agreement` of crates/spec_book/specs/Demand.antt.
--- To begin with: File (the invariant, and a change to one point), Reflect (the relation of file and book), Theorem
--- (lists); then Users, what a user is promised. Between them stands, for each effect, that it is such a change, and for
--- each call, that it keeps the relation with an equal answer.
+-- Demand 3: file and book agree on every list of calls. The statement is `Agreement` of
+-- crates/spec_book/specs/Demand.antt. To begin with: File (the invariant, and a change to one point), Reflect (the
+-- relation of file and book), Theorem (lists); then Users, what a user is promised. Between them stands, for each
+-- effect, that it is such a change, and for each call, that it keeps the relation with an equal answer.
 
 -- ---- the invariant and the relation
 pub mod File  -- the invariant of a file, and how a change to one point keeps it

@@ -1,5 +1,5 @@
--- The books read off images that no call of ours made (crates/spec_file/proofs/CasesOthers.antt), and what `AgreementFrom`
--- says. Assumes nothing.
+-- The books read off images that no call of ours made (crates/spec_file/proofs/CasesOthers.antt), and what
+-- `AgreementFrom` says. Assumes nothing.
 use mathlib.Core.Path.{_≡_, refl}
 use Prim.Native.Nat.{ℕ, _<_}
 use mathlib.Core.List.{List, [], _∷_}

@@ -1,5 +1,5 @@
--- Document 02, Job 2, of the book: its answers to the lists of crates/spec_compaction/proofs/CasesCompact.antt, and more.
--- Assumes nothing.
+-- Document 02, Job 2, of the book: its answers to the lists of crates/spec_compaction/proofs/CasesCompact.antt, and
+-- more. Assumes nothing.
 use mathlib.Core.Path.{_≡_, refl}
 use mathlib.Core.Bool.{true, false}
 use mathlib.Core.List.{[], _∷_, _++_}

@@ -21,7 +21,7 @@ unfolding inspect-definitions
     compacted isSound compactNumber compact
 compact-definitions = 0
 
--- ---- lists of calls before and after a compaction; the file's answers stand in crates/spec_cases/proofs/CasesLists.antt
+-- ---- lists of calls before and after a compaction; the file's answers: crates/spec_cases/proofs/CasesLists.antt
 
 -- "in the order of their offsets": "P" of slot 3, "S" of slot 1 and "TUV" of slot 0, which was "QR" before. The freed
 -- space "is used again": "W" goes behind them.

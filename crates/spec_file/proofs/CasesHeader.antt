@@ -1,4 +1,5 @@
--- Cases of create, of the hash, and of questions 1 to 6 on the header; more in crates/spec_cases/proofs/CasesHeaders.antt.
+-- Cases of create, of the hash, and of questions 1 to 6 on the header; more in
+-- crates/spec_cases/proofs/CasesHeaders.antt.
 --     Leaves n img K N           create is refused with n and leaves the bytes as they were
 --     Refused n img              every call on the image is refused with n
 -- Assumes nothing.

@@ -1,7 +1,6 @@
 -- Document 02, Job 4, "An empty note is a note": where it is stored, and the version bytes, by computation; and lists
--- of calls on a new file. The book's answers to those stand in crates/spec_book/proofs/CasesNoted.antt, the file's, and more
--- such lists, in crates/spec_cases.
--- Assumes nothing.
+-- of calls on a new file. The book's answers to those stand in crates/spec_book/proofs/CasesNoted.antt, the file's, and
+-- more such lists, in crates/spec_cases. Assumes nothing.
 use mathlib.Core.Path.{_≡_, refl}
 use mathlib.Core.List.{List, [], _∷_, _++_}
 use mathlib.Core.Option.{none, some}

@@ -1,5 +1,5 @@
--- `bytes_move::copy_down` meets its contract: k bytes are written, and none that is still to be read, as it stands above.
--- Assumes nothing.
+-- `bytes_move::copy_down` meets its contract: k bytes are written, and none that is still to be read, as it stands
+-- above. Assumes nothing.
 use Prim.Native.Nat.{ℕ, _+_, _≤_, _-_}
 use native.Mathlib.Omega.{arith}
 use mathlib.Core.List.{List}

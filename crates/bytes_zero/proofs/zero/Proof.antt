@@ -1,4 +1,4 @@
--- `bytes_copy::zero` meets its contract: after i turns the first i bytes are zero and the rest are as they were.
+-- `bytes_zero::zero` meets its contract: after i turns the first i bytes are zero and the rest are as they were.
 -- Assumes nothing.
 use Prim.Native.Nat.{ℕ, _≤_, _-_}
 use native.Mathlib.Omega.{arith}

@@ -1,4 +1,5 @@
--- `call_compact::compact` meets its contract: the check's verdict, and the compaction of a sound image. Assumes nothing.
+-- `call_compact::compact` meets its contract: the check's verdict, and the compaction of a sound image. Assumes
+-- nothing.
 use native.Mathlib.Omega.{arith}
 use mathlib.Core.Path.{sym, ap, _∙_}
 use borrow.Author.Needs.{needs}

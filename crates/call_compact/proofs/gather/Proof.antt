@@ -1,5 +1,5 @@
--- `call_compact::gather` meets its contract: where the active messages fill the data area, all stands as it has to. Assumes
--- nothing.
+-- `call_compact::gather` meets its contract: where the active messages fill the data area, all stands as it has to.
+-- Assumes nothing.
 use Prim.Native.Nat.{ℕ, _+_}
 use native.Mathlib.Omega.{arith}
 use mathlib.Core.Path.{_≡_, sym, ap, _∙_, subst}

@@ -1,5 +1,5 @@
--- `call_delete::remove` meets its contract: the message made inactive and C written leave the header accepted, with the same
--- layout, so that the walk is the definition's. Assumes nothing.
+-- `call_delete::remove` meets its contract: the message made inactive and C written leave the header accepted, with the
+-- same layout, so that the walk is the definition's. Assumes nothing.
 use Prim.Native.Nat.{_-_, _≤_, _<_}
 use native.Mathlib.Omega.{arith}
 use borrow.Author.Needs.{needs}

@@ -1,6 +1,5 @@
--- `call_check::ends_here` meets its contract: the search for the slot's key goes on from slot to slot, and meets the key
--- at the slot itself where it comes there.
--- Assumes nothing.
+-- `check_entries::ends_here` meets its contract: the search for the slot's key goes on from slot to slot, and meets the
+-- key at the slot itself where it comes there. Assumes nothing.
 use Prim.Native.Nat.{ℕ, _<_}
 use native.Mathlib.Omega.{arith}
 use mathlib.Core.Path.{_≡_, refl, sym, ap, _∙_}

@@ -1,4 +1,4 @@
--- `check_sweep::marks::claim` meets its contract: one word of the map a turn. Assumes nothing.
+-- `check_marks::claim` meets its contract: one word of the map a turn. Assumes nothing.
 use Prim.Native.Nat.{_-_}
 use native.Mathlib.Omega.{arith}
 use Rattle.check_marks.proofs.Claims.{Claiming, claiming-start, claiming-on, claiming-met, claiming-end}

@@ -1,5 +1,5 @@
--- `check_sweep::marks::clear` meets its contract: after i turns the first i words are zero and the rest are as they were.
--- Assumes nothing.
+-- `check_marks::clear` meets its contract: after i turns the first i words are zero and the rest are as they
+-- were. Assumes nothing.
 use Prim.Native.Nat.{ℕ, _≤_, _-_}
 use native.Mathlib.Omega.{arith}
 use mathlib.Core.List.{List, _++_}

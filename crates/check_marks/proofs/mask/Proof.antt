@@ -1,4 +1,4 @@
--- `check_sweep::marks::mask` meets its contract. Assumes nothing.
+-- `check_marks::mask` meets its contract. Assumes nothing.
 use native.Mathlib.Omega.{arith}
 use borrow.Author.Needs.{needs}
 use Rattle.check_marks.proofs.Bits.{mask-shifted}

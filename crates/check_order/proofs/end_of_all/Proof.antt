@@ -1,5 +1,5 @@
--- `check_overlap::order::end_of_all` meets its contract: the first k are one behind the other, and end at `end`. Assumes
--- nothing.
+-- `check_order::end_of_all` meets its contract: the first k are one behind the other, and end at `end`.
+-- Assumes nothing.
 use Prim.Native.Nat.{ℕ, _-_, _≤_, _<_}
 use native.Mathlib.Omega.{arith}
 use mathlib.Core.Path.{_≡_, sym, ap, _∙_, subst}

@@ -1,4 +1,4 @@
--- `check_overlap::order::first_width` meets its contract: a quotient is not above what is divided. Assumes nothing.
+-- `check_order::first_width` meets its contract: a quotient is not above what is divided. Assumes nothing.
 use Prim.Native.Nat.{_+_, _-_, _/_}
 use native.Mathlib.Omega.{arith}
 use native.Mathlib.Nat.{div-le-self}

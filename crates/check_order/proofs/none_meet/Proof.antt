@@ -1,4 +1,4 @@
--- `check_overlap::order::none_meet` meets its contract: X is not below D. Assumes nothing.
+-- `check_order::none_meet` meets its contract: X is not below D. Assumes nothing.
 use native.Mathlib.Omega.{arith}
 use mathlib.Core.Path.{refl}
 use mathlib.Core.Bool.{false}

@@ -1,4 +1,4 @@
--- `check_overlap::order::pass_all` meets its contract: what starts below `lo` is in order. Assumes nothing.
+-- `check_order::pass_all` meets its contract: what starts below `lo` is in order. Assumes nothing.
 use Prim.Native.Nat.{ℕ, _≤_, _<_}
 use native.Mathlib.Omega.{arith}
 use mathlib.Core.Path.{_≡_, refl, sym, _∙_, subst}

@@ -1,4 +1,4 @@
--- `check_overlap::order::pass_window` meets its contract: the keys are as many as before. Assumes nothing.
+-- `check_order::pass_window` meets its contract: the keys are as many as before. Assumes nothing.
 use mathlib.Core.Path.{sym, _∙_}
 use borrow.Author.Needs.{needs}
 use Rattle.message_stretch.specs.Checked.{startIn, endIn}

@@ -1,4 +1,4 @@
--- `check_overlap::order::step` meets its contract: the keys in use are as many as the starts. Assumes nothing.
+-- `check_order::step` meets its contract: the keys in use are as many as the starts. Assumes nothing.
 use Prim.Native.Nat.{_≤_}
 use native.Mathlib.Omega.{arith}
 use mathlib.Core.Path.{_≡_, sym, _∙_}

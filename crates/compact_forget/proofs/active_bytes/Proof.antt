@@ -1,4 +1,4 @@
--- `call_compact::slots::active_bytes` meets its contract. Assumes nothing.
+-- `compact_forget::active_bytes` meets its contract. Assumes nothing.
 use native.Mathlib.Omega.{arith}
 use mathlib.Core.Path.{_≡_, sym, ap, ap₂, _∙_}
 use Prim.Native.Nat.{ℕ, _+_}

@@ -1,4 +1,4 @@
--- `call_compact::slots::forget` meets its contract. Assumes nothing.
+-- `compact_forget::forget` meets its contract. Assumes nothing.
 use native.Mathlib.Omega.{arith}
 use mathlib.Core.Path.{refl, ap, _∙_}
 use borrow.Author.Needs.{needs}

@@ -1,4 +1,4 @@
--- `call_compact::slots::forget_dead` meets its contract: below slot i it is done. Assumes nothing.
+-- `compact_forget::forget_dead` meets its contract: below slot i it is done. Assumes nothing.
 use Prim.Native.Nat.{ℕ, _+_, _-_, _*_, _≤_, _<_, _^_}
 use native.Mathlib.Omega.{arith}
 use mathlib.Core.Path.{_≡_, sym, ap, _∙_, subst}

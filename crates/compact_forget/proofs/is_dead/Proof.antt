@@ -1,4 +1,4 @@
--- `call_compact::slots::is_dead` meets its contract. Assumes nothing.
+-- `compact_forget::is_dead` meets its contract. Assumes nothing.
 use native.Mathlib.Omega.{arith}
 use mathlib.Core.Path.{sym, ap, _∙_}
 use mathlib.Core.Bool.{not}

@@ -1,4 +1,4 @@
--- `call_compact::move_all` meets its contract: X is not below D. Assumes nothing.
+-- `compact_sweep::move_all` meets its contract: X is not below D. Assumes nothing.
 use native.Mathlib.Omega.{arith}
 use borrow.Author.Needs.{needs}
 use Rattle.law_file.proofs.Opened.{opened-facts}

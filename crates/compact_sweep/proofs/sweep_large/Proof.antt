@@ -1,4 +1,4 @@
--- `call_compact::sweep_large` meets its contract. Assumes nothing.
+-- `compact_sweep::sweep_large` meets its contract. Assumes nothing.
 use borrow.Author.Needs.{needs}
 use Rattle.compact_sweep.proofs.sweep_large.Statement.{statement}
 use Rattle.compact_sweep.proofs.sweep_large.Tie as tie

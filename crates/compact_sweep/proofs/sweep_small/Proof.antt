@@ -1,4 +1,4 @@
--- `call_compact::sweep_small` meets its contract. Assumes nothing.
+-- `compact_sweep::sweep_small` meets its contract. Assumes nothing.
 use borrow.Author.Needs.{needs}
 use Rattle.compact_sweep.proofs.sweep_small.Statement.{statement}
 use Rattle.compact_sweep.proofs.sweep_small.Tie as tie

@@ -1,4 +1,4 @@
--- `call_compact::sweep_wide` meets its contract. Assumes nothing.
+-- `compact_sweep::sweep_wide` meets its contract. Assumes nothing.
 use borrow.Author.Needs.{needs}
 use Rattle.compact_sweep.proofs.sweep_wide.Statement.{statement}
 use Rattle.compact_sweep.proofs.sweep_wide.Tie as tie

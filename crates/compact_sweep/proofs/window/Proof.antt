@@ -1,4 +1,4 @@
--- `call_compact::window` meets its contract. Assumes nothing.
+-- `compact_sweep::window` meets its contract. Assumes nothing.
 use Prim.Native.Nat.{ℕ, _+_, _*_}
 use native.Mathlib.Omega.{arith}
 use mathlib.Core.Path.{subst}

@@ -1,4 +1,4 @@
--- `header_open::table_allowed` meets its contract: below 1 the difference wraps past the limit. Assumes nothing.
+-- `header_sizes::table_allowed` meets its contract: below 1 the difference wraps past the limit. Assumes nothing.
 use Prim.Native.Nat.{ℕ}
 use native.Mathlib.Omega.{arith}
 use mathlib.Core.Path.{sym, ap, _∙_}

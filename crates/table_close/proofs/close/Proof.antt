@@ -1,6 +1,5 @@
--- `table_close::close` meets its contract: from every slot looked at, the walk goes on as from the start; its measure is
--- `left`, which falls with every look, so that it ends for any bytes.
--- Assumes nothing.
+-- `table_close::close` meets its contract: from every slot looked at, the walk goes on as from the start; its measure
+-- is `left`, which falls with every look, so that it ends for any bytes. Assumes nothing.
 use native.Mathlib.Omega.{arith}
 use Rattle.law_file.proofs.Tests.{was-no, was-yes}
 use mathlib.Core.Path.{_∙_}

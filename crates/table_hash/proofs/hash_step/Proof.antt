@@ -1,5 +1,5 @@
--- `table_hash::hash_step` meets its contract: no byte is scrambled where E is below F; else the wrapped difference tells.
--- Assumes nothing.
+-- `table_hash::hash_step` meets its contract: no byte is scrambled where E is below F; else the wrapped difference
+-- tells. Assumes nothing.
 use Prim.Native.Nat.{ℕ, _-_, _*_, _≤_}
 use native.Mathlib.Omega.{arith}
 use mathlib.Core.Path.{_≡_, ap, _∙_}

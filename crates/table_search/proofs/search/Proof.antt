@@ -1,6 +1,5 @@
--- `table_search::search` meets its contract: with `left` slots left to read, the search goes on from slot i, also over the
--- slots that it passes over.
--- Assumes nothing.
+-- `table_search::search` meets its contract: with `left` slots left to read, the search goes on from slot i, also over
+-- the slots that it passes over. Assumes nothing.
 use Prim.Native.Nat.{ℕ, _<_}
 use native.Mathlib.Omega.{arith}
 use mathlib.Core.Path.{sym, ap, _∙_}

@@ -1,4 +1,5 @@
--- `bytes_words::fields::swapped` meets its contract: its four parts are below 256, so the ors are sums. Assumes nothing.
+-- `bytes_words::fields::swapped` meets its contract: its four parts are below 256, so the ors are sums. Assumes
+-- nothing.
 use Prim.Native.Nat.{_/_}
 use native.Mathlib.Omega.{arith}
 use mathlib.Core.Path.{_∙_}

@@ -1,4 +1,5 @@
--- `bytes_words::fields::write_low_u24` meets its contract: the byte and the three behind it are one number. Assumes nothing.
+-- `bytes_words::fields::write_low_u24` meets its contract: the byte and the three behind it are one number. Assumes
+-- nothing.
 use Prim.Native.Nat.{ℕ, _*_, _%_}
 use native.Mathlib.Nat.{mod-eq-of-lt}
 use native.Mathlib.Omega.{arith}

@@ -1,5 +1,5 @@
--- `bytes_words::fields::write_u32` meets its contract: the swapped number's bytes, in the machine's order, are the digits.
--- Assumes nothing.
+-- `bytes_words::fields::write_u32` meets its contract: the swapped number's bytes, in the machine's order, are the
+-- digits. Assumes nothing.
 use native.Mathlib.Omega.{arith}
 use mathlib.Core.Path.{ap, _∙_}
 use borrow.Author.Needs.{needs}
