@@ -1,3 +1,4 @@
 pub mod Changes
 pub mod Journal
 pub mod Lists
+pub mod Journals
