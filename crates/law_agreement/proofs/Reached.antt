@@ -1,6 +1,6 @@
 -- What holds of every file that calls have reached, from an accepted create or from any sound image, in words that a
 -- user thinks in.
---     Reached s b         s is the state, and b the book, after some list of calls, in whichever forms, from such a start
+--     Reached s b         s is the state, and b the book, after some list of calls in any forms from such a start
 --     reached-start, reached-reopened      a start is reached, and so is any sound image, with the book read off it
 --     reached-after       more calls reach on
 --     reached-cut         so does a call by way of the journal that was cut, and recovered
