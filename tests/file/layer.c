@@ -4,8 +4,8 @@
  * middle of one. The last line is 'N passed, M failed'. */
 #define _GNU_SOURCE
 
-#include "../../host/bhtf_file.h"
-#include "../../host/layer.h"
+#include "../../host/include/bhtf_file.h"
+#include "../../host/file/layer.h"
 
 #include <errno.h>
 #include <fcntl.h>

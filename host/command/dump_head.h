@@ -1,7 +1,7 @@
 /* What a dump says of a file besides its points: the header's values that make
  * an equal empty file. */
-#ifndef TERMS_H
-#define TERMS_H
+#ifndef DUMP_HEAD_H
+#define DUMP_HEAD_H
 
 #include "text.h"
 

@@ -1,8 +1,8 @@
 /* The header's numbers, for what the library has no call for. */
-#include "header.h"
+#include "image_header.h"
 
 #include "bhtf.h"
-#include "limits.h"
+#include "command_limits.h"
 
 #include <string.h>
 

@@ -1,6 +1,6 @@
 /* The header's numbers, for what the library has no call for. */
-#ifndef HEADER_H
-#define HEADER_H
+#ifndef IMAGE_HEADER_H
+#define IMAGE_HEADER_H
 
 #include <stdint.h>
 

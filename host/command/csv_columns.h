@@ -1,6 +1,6 @@
 /* Which field of a CSV file is what. */
-#ifndef COLUMNS_H
-#define COLUMNS_H
+#ifndef CSV_COLUMNS_H
+#define CSV_COLUMNS_H
 
 #include "point.h"
 

@@ -5,13 +5,13 @@
  * empty says that it is an empty one. */
 #include "commands.h"
 
-#include "columns.h"
-#include "follow.h"
+#include "csv_columns.h"
+#include "delta_append.h"
 #include "foreign.h"
 #include "neighbours.h"
-#include "header.h"
+#include "image_header.h"
 #include "progress.h"
-#include "storing.h"
+#include "put_point.h"
 #include "utf8.h"
 
 #include <errno.h>

@@ -2,7 +2,7 @@
 #include "commands.h"
 
 #include "bhtf.h"
-#include "space.h"
+#include "space_used.h"
 
 /* Prints "slot 5 (name)": 0, or -1 for no memory. */
 static int print_slot(FILE *to, const struct buffer *copy,

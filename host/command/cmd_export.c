@@ -6,7 +6,7 @@
  * point needs them. */
 #include "commands.h"
 
-#include "columns.h"
+#include "csv_columns.h"
 #include "foreign.h"
 #include "progress.h"
 

@@ -1,8 +1,8 @@
 /* What a dump says of a file besides its points. */
-#include "terms.h"
+#include "dump_head.h"
 
-#include "header.h"
-#include "limits.h"
+#include "image_header.h"
+#include "command_limits.h"
 
 #include <stddef.h>
 #include <string.h>

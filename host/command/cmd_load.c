@@ -2,12 +2,12 @@
  * and written when all of the text was taken. */
 #include "commands.h"
 
-#include "header.h"
-#include "limits.h"
+#include "image_header.h"
+#include "command_limits.h"
 #include "progress.h"
 #include "quoted.h"
-#include "storing.h"
-#include "terms.h"
+#include "put_point.h"
+#include "dump_head.h"
 
 #include <errno.h>
 #include <stdlib.h>

@@ -1,6 +1,6 @@
 /* --delta FILE: what a command changed, appended for the stations. */
-#ifndef FOLLOW_H
-#define FOLLOW_H
+#ifndef DELTA_APPEND_H
+#define DELTA_APPEND_H
 
 #include "delta.h"
 #include "image.h"

@@ -2,10 +2,10 @@
  * described in bhtf(1). */
 #include "commands.h"
 
-#include "limits.h"
+#include "command_limits.h"
 #include "progress.h"
 #include "quoted.h"
-#include "terms.h"
+#include "dump_head.h"
 
 #include <stdlib.h>
 #include <string.h>

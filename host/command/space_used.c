@@ -1,5 +1,5 @@
 /* What the messages of a file take of its data, and of what kind they are. */
-#include "space.h"
+#include "space_used.h"
 
 #include "bhtf.h"
 

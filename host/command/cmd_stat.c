@@ -2,7 +2,7 @@
 #include "commands.h"
 
 #include "bhtf.h"
-#include "space.h"
+#include "space_used.h"
 
 #include <string.h>
 

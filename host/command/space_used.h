@@ -1,8 +1,8 @@
 /* What the messages of a file take of its data, and of what kind they are. */
-#ifndef SPACE_H
-#define SPACE_H
+#ifndef SPACE_USED_H
+#define SPACE_USED_H
 
-#include "header.h"
+#include "image_header.h"
 #include "text.h"
 
 struct space {

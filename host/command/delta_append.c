@@ -2,7 +2,7 @@
  *
  * The record is on the disk before the change is in the file, while it can
  * still be undone; one that a cut change left is taken away by the next. */
-#include "follow.h"
+#include "delta_append.h"
 
 #include <errno.h>
 #include <fcntl.h>

@@ -1,7 +1,7 @@
 /* The words of the command line. */
 #include "commands.h"
 
-#include "limits.h"
+#include "command_limits.h"
 
 #include <string.h>
 

@@ -6,7 +6,7 @@
 #include "delta.h"
 
 #include "bhtf.h"
-#include "header.h"
+#include "image_header.h"
 
 #include <string.h>
 

@@ -1,6 +1,6 @@
 /* The command's own limits. Those of the files stand in bhtf.h. */
-#ifndef LIMITS_H
-#define LIMITS_H
+#ifndef COMMAND_LIMITS_H
+#define COMMAND_LIMITS_H
 
 #include "bhtf.h"
 

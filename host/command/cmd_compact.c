@@ -2,8 +2,8 @@
 #include "commands.h"
 
 #include "bhtf.h"
-#include "follow.h"
-#include "header.h"
+#include "delta_append.h"
+#include "image_header.h"
 
 /* Bytes of the data: all of it, and what of it is used. */
 struct spaces {

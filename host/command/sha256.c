@@ -1,7 +1,7 @@
 /* SHA-256 as FIPS 180-4 defines it (section 6.2); the names are its own. */
 #include "sha256.h"
 
-#include "header.h"
+#include "image_header.h"
 
 #include <string.h>
 

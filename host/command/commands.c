@@ -1,12 +1,12 @@
 /* create, add, withdraw, delete, get and count. */
 #include "commands.h"
 
-#include "follow.h"
-#include "header.h"
-#include "limits.h"
+#include "delta_append.h"
+#include "image_header.h"
+#include "command_limits.h"
 #include "point.h"
 #include "progress.h"
-#include "storing.h"
+#include "put_point.h"
 
 #include <errno.h>
 #include <string.h>

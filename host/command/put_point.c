@@ -2,10 +2,10 @@
  *
  * The library enters a name without a text where nothing is appended to it:
  * empty data is a text in its other modes. */
-#include "storing.h"
+#include "put_point.h"
 
 #include "bhtf.h"
-#include "space.h"
+#include "space_used.h"
 
 /* The file layer does not tell how many slots a search read: a lookup's is the
  * same search. */

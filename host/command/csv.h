@@ -2,7 +2,7 @@
 #ifndef CSV_H
 #define CSV_H
 
-#include "limits.h"
+#include "command_limits.h"
 #include "text.h"
 
 /* A stretch of bytes that belong to somebody else. */

@@ -1,5 +1,5 @@
 /* Which field of a CSV file is what. */
-#include "columns.h"
+#include "csv_columns.h"
 
 #include <string.h>
 

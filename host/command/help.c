@@ -1,10 +1,10 @@
 /* The table of commands, and their help.
  *
  * In a help, {slots}, {image}, {key} and the like stand for the limits of
- * bhtf.h and limits.h. */
+ * bhtf.h and command_limits.h. */
 #include "commands.h"
 
-#include "limits.h"
+#include "command_limits.h"
 
 #include <string.h>
 

@@ -3,7 +3,7 @@
 #include "image.h"
 
 #include "bhtf.h"
-#include "layer.h"
+#include "../file/layer.h"
 
 #include <string.h>
 #include <unistd.h>

@@ -1,6 +1,6 @@
 /* A point into an image, with a text, which may be empty, or with none. */
-#ifndef STORING_H
-#define STORING_H
+#ifndef PUT_POINT_H
+#define PUT_POINT_H
 
 #include "bhtf_file.h"
 #include "csv.h"
