@@ -126,7 +126,7 @@ for page in bhtf.3 bhtf_file.3; do
 done
 every_call() {
   local call
-  for call in $(sed -n 's/.*\(bhtf_file_[a-z]*\)(.*/\1/p' host/include/bhtf_file.h); do
+  for call in $(sed -n 's/.*\(bhtf_file_[a-z_]*\)(.*/\1/p' host/include/bhtf_file.h); do
     grep -q "$call" host/man/bhtf_file.3 || { echo "no $call"; return 1; }
   done
   for call in $(sed -n 's/^#define \(BHTF_FILE_[A-Z_]*\) 10[0-9]u.*/\1/p' host/include/bhtf_file.h); do

@@ -213,6 +213,34 @@ static void take_record_back(struct follow *f)
         fail(f, "cannot be made as long as it was");
 }
 
+/* Puts a directory's names on the disk: 0, or errno. One that may not be read,
+ * or that its file system does not write on demand, is left to the system. */
+static int sync_directory(const char *path)
+{
+    int fd = open(path, O_RDONLY | O_CLOEXEC);
+    int error = fd >= 0 && fsync(fd) == 0 ? 0 : errno;
+
+    if (fd >= 0)
+        close(fd);
+    return error == EACCES || error == EINVAL ? 0 : error;
+}
+
+/* Puts a new file's name on the disk, which is a matter of its directory: 0,
+ * or an error. */
+static int sync_name(const char *path)
+{
+    const char *slash = strrchr(path, '/');
+    struct buffer directory = { NULL, 0, 0 };
+    size_t length = slash == NULL ? 1 : (size_t)(slash - path) + 1;
+    int error = -1;
+
+    if (buffer_put(&directory, slash == NULL ? "." : path, length) == 0 &&
+        buffer_put_byte(&directory, '\0') == 0)
+        error = sync_directory((const char *)directory.bytes);
+    buffer_free(&directory);
+    return error;
+}
+
 static int put_on_disk(const struct follow *f)
 {
     int error = fsync(fileno(f->file)) == 0 ? 0 : errno;

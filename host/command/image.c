@@ -3,9 +3,9 @@
 #include "image.h"
 
 #include "bhtf.h"
-#include "../file/layer.h"
 
 #include <string.h>
+#include <time.h>
 #include <unistd.h>
 
 /* ---- a file that is cut short while it is mapped ---- */
@@ -67,18 +67,26 @@ uint8_t *image_writable(struct image *i)
     return bhtf_file_batch_image(i->file, &i->length);
 }
 
-/* One limit holds for opening and for the commit. */
-static void shorten_wait(bhtf_file *file, int64_t waited)
+/* Milliseconds of a clock that is never set. */
+static int64_t now(void)
 {
-    file->how.wait = waited < file->how.wait
-        ? file->how.wait - (uint32_t)waited : 0;
+    struct timespec t;
+
+    clock_gettime(CLOCK_MONOTONIC, &t);
+    return (int64_t)t.tv_sec * 1000 + t.tv_nsec / 1000000;
+}
+
+/* One limit holds for opening and for the commit. */
+static void shorten_wait(bhtf_file *file, uint32_t wait, int64_t waited)
+{
+    bhtf_file_set_wait(file, waited < wait ? wait - (uint32_t)waited : 0);
 }
 
 int image_open(struct image *i, const char *path, struct manner how)
 {
     struct bhtf_file_how manner = { 0, 0, is_stopped, NULL };
     struct bhtf_file_error why;
-    int64_t start = layer_now();
+    int64_t start = now();
 
     clear(i, path);
     i->writing = how.writing;
@@ -90,7 +98,7 @@ int image_open(struct image *i, const char *path, struct manner how)
     i->file = bhtf_file_open(path, &manner, &why);
     if (i->file == NULL)
         return fail(&why);
-    shorten_wait(i->file, layer_now() - start);
+    shorten_wait(i->file, manner.wait, now() - start);
     if (how.writing && bhtf_file_recovered(i->file))
         complain("%s: a change that was cut short has been finished", path);
     return take_bytes(i);
@@ -98,14 +106,17 @@ int image_open(struct image *i, const char *path, struct manner how)
 
 int image_create(struct image *i, const char *path, size_t length, int sync)
 {
+    struct bhtf_file_how manner = { 0, 0, NULL, NULL };
+
     clear(i, path);
     i->writing = 1;
     i->length = length;
     i->sync = sync;
-    i->created = layer_new_begin(path, length, sync, &i->why);
+    manner.flags = sync ? 0 : BHTF_FILE_NO_SYNC;
+    i->created = bhtf_file_new_begin(path, length, &manner, &i->why);
     if (i->created == NULL)
         return fail(&i->why);
-    i->bytes = layer_new_bytes(i->created);
+    i->bytes = bhtf_file_new_image(i->created);
     return 0;
 }
 
@@ -113,16 +124,16 @@ int image_create(struct image *i, const char *path, size_t length, int sync)
 
 static int name_new(struct image *i)
 {
-    struct layer_new *created = i->created;
+    bhtf_file_new *created = i->created;
 
     i->created = NULL;
-    return layer_new_end(created) == BHTF_ACCEPTED ? 0 : fail(&i->why);
+    return bhtf_file_new_end(created) == BHTF_ACCEPTED ? 0 : fail(&i->why);
 }
 
 static int commit(struct image *i)
 {
     i->committed = bhtf_file_commit(i->file) == BHTF_ACCEPTED;
-    i->unsure = !i->committed && i->file->unsure;
+    i->unsure = !i->committed && bhtf_file_unsure(i->file);
     return i->committed ? 0 : fail(bhtf_file_error(i->file));
 }
 
@@ -151,7 +162,7 @@ int image_close(struct image *i)
 void image_drop(struct image *i)
 {
     if (i->created != NULL)
-        layer_new_drop(i->created);
+        bhtf_file_new_drop(i->created);
     i->created = NULL;
     if (i->file != NULL)
         close_file(i);
@@ -174,18 +185,4 @@ int image_copy(struct buffer *copy, const char *path, unsigned wait)
         out_of_memory();
     image_drop(&i);
     return done;
-}
-
-int sync_name(const char *path)
-{
-    const char *slash = strrchr(path, '/');
-    struct buffer directory = { NULL, 0, 0 };
-    size_t length = slash == NULL ? 1 : (size_t)(slash - path) + 1;
-    int error = -1;
-
-    if (buffer_put(&directory, slash == NULL ? "." : path, length) == 0 &&
-        buffer_put_byte(&directory, '\0') == 0)
-        error = layer_sync_directory((const char *)directory.bytes);
-    buffer_free(&directory);
-    return error;
 }

@@ -8,12 +8,10 @@
 #include <signal.h>
 #include <stdint.h>
 
-struct layer_new;
-
 struct image {
     const char *path;
     bhtf_file *file;
-    struct layer_new *created; /* instead, if it is a new one */
+    bhtf_file_new *created; /* instead, if it is a new one */
     uint8_t *bytes;  /* never NULL once it is open; only those of a new file may
                         be written to, and what image_writable answers */
     size_t length;
@@ -54,9 +52,5 @@ void image_drop(struct image *i);
 
 /* A copy of a whole file, taken under the lock, which is given back. */
 int image_copy(struct buffer *copy, const char *path, unsigned wait);
-
-/* Puts a new file's name on the disk, which is a matter of its directory: 0,
- * or an error. */
-int sync_name(const char *path);
 
 #endif

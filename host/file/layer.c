@@ -91,6 +91,11 @@ int bhtf_file_recovered(const bhtf_file *file)
     return file->recovered;
 }
 
+int bhtf_file_unsure(const bhtf_file *file)
+{
+    return file->unsure;
+}
+
 /* ---- names ---- */
 
 int layer_sync_directory(const char *path)

@@ -74,19 +74,6 @@ int layer_is_owner(const bhtf_file *f);
  * or that its file system does not write on demand, is left to the system. */
 int layer_sync_directory(const char *path);
 
-/* ---- layer_create.c: a new file, made where it will stand ---- */
-
-struct layer_new;
-
-/* Zero bytes without a name; NULL if it cannot be, and *why then says why. */
-struct layer_new *layer_new_begin(const char *path, size_t length, int sync,
-                                  struct bhtf_file_error *why);
-uint8_t *layer_new_bytes(struct layer_new *m);
-
-/* Gives it its name, or drops it. Either frees it. */
-uint32_t layer_new_end(struct layer_new *m);
-void layer_new_drop(struct layer_new *m);
-
 /* ---- layer_lock.c: 0, or the number after a note ---- */
 
 /* Milliseconds of a clock that is never set, and when a wait is over. */

@@ -16,7 +16,7 @@
  * had. Six letters X are replaced. */
 #define TEMPORARY ".new-XXXXXX"
 
-struct layer_new {
+struct bhtf_file_new {
     const char *path;
     struct bhtf_file_error *why;
     char *directory;
@@ -28,7 +28,7 @@ struct layer_new {
     size_t length;
 };
 
-static uint32_t fail(struct layer_new *m, const char *what, int error)
+static uint32_t fail(bhtf_file_new *m, const char *what, int error)
 {
     if (m->why != NULL) {
         m->why->number = BHTF_FILE_SYSTEM;
@@ -40,7 +40,7 @@ static uint32_t fail(struct layer_new *m, const char *what, int error)
     return BHTF_FILE_SYSTEM;
 }
 
-static uint32_t is_there(struct layer_new *m)
+static uint32_t is_there(bhtf_file_new *m)
 {
     if (m->why != NULL) {
         m->why->number = BHTF_FILE_SYSTEM;
@@ -63,7 +63,7 @@ static char *joined(const char *a, size_t length, const char *b)
     return words;
 }
 
-static uint32_t make_names(struct layer_new *m)
+static uint32_t make_names(bhtf_file_new *m)
 {
     const char *slash = strrchr(m->path, '/');
 
@@ -76,7 +76,7 @@ static uint32_t make_names(struct layer_new *m)
 }
 
 /* A journal without its file: of one that is gone, or stands elsewhere. */
-static uint32_t ask_names(struct layer_new *m)
+static uint32_t ask_names(bhtf_file_new *m)
 {
     struct stat about;
 
@@ -101,7 +101,7 @@ static mode_t usual_rights(void)
     return 0666 & ~mask;
 }
 
-static uint32_t open_new(struct layer_new *m)
+static uint32_t open_new(bhtf_file_new *m)
 {
 #ifdef O_TMPFILE
     if (access("/proc/self/fd", X_OK) == 0) /* by which it gets its name */
@@ -131,7 +131,7 @@ static uint32_t open_new(struct layer_new *m)
 
 /* Every page gets its place on the disk now: a full disk is then an error here
  * and not a signal later. */
-static uint32_t map_new(struct layer_new *m)
+static uint32_t map_new(bhtf_file_new *m)
 {
     int error;
 
@@ -150,7 +150,7 @@ static uint32_t map_new(struct layer_new *m)
     return fail(m, "cannot be mapped", errno);
 }
 
-static uint32_t flush_new(struct layer_new *m)
+static uint32_t flush_new(bhtf_file_new *m)
 {
     if (m->sync &&
         (msync(m->bytes, m->length, MS_SYNC) != 0 || fsync(m->fd) != 0))
@@ -160,7 +160,7 @@ static uint32_t flush_new(struct layer_new *m)
 
 /* One name in place of another, if there is no file of that name; at no time
  * does the file have both, where the system can do that. */
-static int rename_new(const struct layer_new *m)
+static int rename_new(const bhtf_file_new *m)
 {
 #ifdef RENAME_NOREPLACE
     if (renameat2(AT_FDCWD, m->temporary, AT_FDCWD, m->path,
@@ -175,7 +175,7 @@ static int rename_new(const struct layer_new *m)
     return 0;
 }
 
-static int link_new(const struct layer_new *m)
+static int link_new(const bhtf_file_new *m)
 {
     char name[64];
 
@@ -185,7 +185,7 @@ static int link_new(const struct layer_new *m)
     return linkat(AT_FDCWD, name, AT_FDCWD, m->path, AT_SYMLINK_FOLLOW);
 }
 
-static uint32_t name_it(struct layer_new *m)
+static uint32_t name_it(bhtf_file_new *m)
 {
     int error = 0;
 
@@ -201,7 +201,7 @@ static uint32_t name_it(struct layer_new *m)
 
 /* ---- a new file, in two steps ---- */
 
-static uint32_t begin(struct layer_new *m)
+static uint32_t begin(bhtf_file_new *m)
 {
     uint32_t number = make_names(m);
 
@@ -212,13 +212,14 @@ static uint32_t begin(struct layer_new *m)
     return number == BHTF_ACCEPTED ? map_new(m) : number;
 }
 
-struct layer_new *layer_new_begin(const char *path, size_t length, int sync,
-                                  struct bhtf_file_error *why)
+bhtf_file_new *bhtf_file_new_begin(const char *path, size_t image_len,
+                                   const struct bhtf_file_how *how,
+                                   struct bhtf_file_error *why)
 {
-    struct layer_new *m = calloc(1, sizeof *m);
+    bhtf_file_new *m = calloc(1, sizeof *m);
 
     if (m == NULL) {
-        struct layer_new none = { path, why, NULL, NULL, NULL, -1, 0, NULL, 0 };
+        bhtf_file_new none = { path, why, NULL, NULL, NULL, -1, 0, NULL, 0 };
 
         fail(&none, "cannot create", ENOMEM);
         return NULL;
@@ -226,20 +227,20 @@ struct layer_new *layer_new_begin(const char *path, size_t length, int sync,
     m->path = path;
     m->why = why;
     m->fd = -1;
-    m->length = length;
-    m->sync = sync;
+    m->length = image_len;
+    m->sync = how == NULL || !(how->flags & BHTF_FILE_NO_SYNC);
     if (begin(m) == BHTF_ACCEPTED)
         return m;
-    layer_new_drop(m);
+    bhtf_file_new_drop(m);
     return NULL;
 }
 
-uint8_t *layer_new_bytes(struct layer_new *m)
+uint8_t *bhtf_file_new_image(bhtf_file_new *m)
 {
     return m->bytes;
 }
 
-void layer_new_drop(struct layer_new *m)
+void bhtf_file_new_drop(bhtf_file_new *m)
 {
     int error = errno;
 
@@ -256,13 +257,13 @@ void layer_new_drop(struct layer_new *m)
     errno = error;
 }
 
-uint32_t layer_new_end(struct layer_new *m)
+uint32_t bhtf_file_new_end(bhtf_file_new *m)
 {
     uint32_t number = flush_new(m);
 
     if (number == BHTF_ACCEPTED)
         number = name_it(m);
-    layer_new_drop(m);
+    bhtf_file_new_drop(m);
     return number;
 }
 
@@ -270,11 +271,10 @@ uint32_t bhtf_file_create(const char *path, const uint8_t *image,
                           size_t image_len, const struct bhtf_file_how *how,
                           struct bhtf_file_error *why)
 {
-    int sync = how == NULL || !(how->flags & BHTF_FILE_NO_SYNC);
-    struct layer_new *m = layer_new_begin(path, image_len, sync, why);
+    bhtf_file_new *m = bhtf_file_new_begin(path, image_len, how, why);
 
     if (m == NULL)
         return BHTF_FILE_SYSTEM;
     memcpy(m->bytes, image, image_len);
-    return layer_new_end(m);
+    return bhtf_file_new_end(m);
 }

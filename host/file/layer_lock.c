@@ -65,6 +65,11 @@ int64_t layer_deadline(const bhtf_file *f)
                                             : layer_now() + f->how.wait;
 }
 
+void bhtf_file_set_wait(bhtf_file *file, uint32_t wait)
+{
+    file->how.wait = wait;
+}
+
 static void sleep_for(int milliseconds)
 {
     const struct timespec pause = { 0, milliseconds * 1000000L };

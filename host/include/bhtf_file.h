@@ -80,6 +80,22 @@ uint32_t bhtf_file_create(const char *path, const uint8_t *image,
                           size_t image_len, const struct bhtf_file_how *how,
                           struct bhtf_file_error *why);
 
+/* The same for an image that is made where it will stand: zero bytes without a
+ * name, for bhtf_create and the calls behind it. NULL if it cannot be. `path`
+ * and `why` are kept until _end, which gives the file its name, or _drop, which
+ * forgets it; either frees what _begin answered. */
+typedef struct bhtf_file_new bhtf_file_new;
+bhtf_file_new *bhtf_file_new_begin(const char *path, size_t image_len,
+                                   const struct bhtf_file_how *how,
+                                   struct bhtf_file_error *why);
+uint8_t *bhtf_file_new_image(bhtf_file_new *made);
+uint32_t bhtf_file_new_end(bhtf_file_new *made);
+void bhtf_file_new_drop(bhtf_file_new *made);
+
+/* Other milliseconds than those of opening, for all locks of each call that
+ * follows. The words of BHTF_FILE_LOCKED go on telling those of opening. */
+void bhtf_file_set_wait(bhtf_file *file, uint32_t wait);
+
 /* Gives everything back. A batch that was not committed is undone. */
 uint32_t bhtf_file_close(bhtf_file *file);
 
@@ -134,6 +150,10 @@ const struct bhtf_file_error *bhtf_file_error(const bhtf_file *file);
 /* Other than 0 if opening found an unfinished change and finished it: in the
  * file, or, for a reader, in its own image. */
 int bhtf_file_recovered(const bhtf_file *file);
+
+/* Other than 0 if the disk failed when a change was already marked as made: it
+ * may be in the file, and whoever opens the file next finishes it. */
+int bhtf_file_unsure(const bhtf_file *file);
 
 #ifdef __cplusplus
 }
