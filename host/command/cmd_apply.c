@@ -1,4 +1,4 @@
-/* delta and apply: the stations' copies of a file. */
+/* apply: brings a station's copy of a file up to what deltas lead to. */
 #include "commands.h"
 
 #include "bhtf.h"
@@ -9,66 +9,7 @@
 #include <string.h>
 #include <unistd.h>
 
-/* ---- delta ---- */
-
-static int print_delta(const struct options *o, const struct buffer *old,
-                       const struct buffer *now)
-{
-    const struct state before = state_of(old->bytes, old->length);
-    const struct state after = state_of(now->bytes, now->length);
-    struct buffer record = { NULL, 0, 0 };
-
-    if (delta_put(&record, &before, &after) != 0) {
-        buffer_free(&record);
-        return out_of_memory();
-    }
-    if (!o->quiet && memcmp(before.sum, after.sum, SHA256_SIZE) == 0)
-        complain("%s and %s are equal; the delta changes nothing", o->word[0],
-                 o->word[1]);
-    fwrite(record.bytes, 1, record.length, stdout);
-    buffer_free(&record);
-    return finish_output(DONE);
-}
-
-/* A copy of the file that a word names, if the library accepts it. */
-static int copy_word(struct buffer *copy, const struct options *o, int word)
-{
-    uint32_t number, key_size;
-
-    if (image_copy(copy, o->word[word], (unsigned)o->wait) != 0)
-        return TROUBLE;
-    number = ask_header(copy->bytes, copy->length, &key_size);
-    return number == BHTF_ACCEPTED ? DONE : refuse(o->word[word], number);
-}
-
-int run_delta(const struct options *o)
-{
-    struct buffer old = { NULL, 0, 0 }, now = { NULL, 0, 0 };
-    int status;
-
-    if (isatty(STDOUT_FILENO)) {
-        complain("delta: what it prints is not for a terminal; put > FILE "
-                 "behind it");
-        return TROUBLE;
-    }
-    status = copy_word(&old, o, 0);
-    if (status == DONE)
-        status = copy_word(&now, o, 1);
-    if (status == DONE && old.length != now.length) {
-        complain("%s has %lu bytes and %s %lu; a delta leads to a file of the "
-                 "same length: send the whole file", o->word[0],
-                 (unsigned long)old.length, o->word[1],
-                 (unsigned long)now.length);
-        status = REFUSED;
-    }
-    if (status == DONE)
-        status = print_delta(o, &old, &now);
-    buffer_free(&old);
-    buffer_free(&now);
-    return status;
-}
-
-/* ---- apply: what was sent ---- */
+/* ---- what was sent ---- */
 
 struct refresh {
     const struct options *o;
@@ -139,7 +80,7 @@ static int read_records(struct refresh *r)
     return DONE;
 }
 
-/* ---- apply: which records, and the image that they lead to ---- */
+/* ---- which records, and the image that they lead to ---- */
 
 static int same_sum(const uint8_t *a, const uint8_t *b)
 {
@@ -219,7 +160,7 @@ static int bring_up(struct refresh *r)
     return TROUBLE;
 }
 
-/* ---- apply: the copy ---- */
+/* ---- the copy ---- */
 
 /* Its bytes in memory, and with them its writer's lock, but for a dry run. */
 static int open_copy(struct refresh *r)

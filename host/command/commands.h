@@ -2,8 +2,9 @@
 #ifndef COMMANDS_H
 #define COMMANDS_H
 
+#include "complain.h"
 #include "image.h"
-#include "text.h"
+#include "typed.h"
 
 #include <stddef.h>
 #include <stdint.h>

@@ -2,6 +2,7 @@
 #include "csv.h"
 
 #include "progress.h"
+#include "typed.h"
 
 #include <string.h>
 

@@ -2,8 +2,8 @@
 #ifndef CSV_H
 #define CSV_H
 
+#include "buffer.h"
 #include "command_limits.h"
-#include "text.h"
 
 /* A stretch of bytes that belong to somebody else. */
 struct piece {

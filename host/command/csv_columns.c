@@ -1,6 +1,9 @@
 /* Which field of a CSV file is what. */
 #include "csv_columns.h"
 
+#include "complain.h"
+#include "typed.h"
+
 #include <string.h>
 
 const char *const column_words[COLUMNS] = { "easting", "northing", "height",

@@ -3,8 +3,8 @@
 #ifndef DELTA_H
 #define DELTA_H
 
+#include "buffer.h"
 #include "sha256.h"
-#include "text.h"
 
 /* An image, and its check sum. */
 struct state {

@@ -4,6 +4,8 @@
  * still be undone; one that a cut change left is taken away by the next. */
 #include "delta_append.h"
 
+#include "complain.h"
+
 #include <errno.h>
 #include <fcntl.h>
 #include <string.h>

@@ -1,8 +1,9 @@
 /* What a dump says of a file besides its points. */
 #include "dump_head.h"
 
-#include "image_header.h"
 #include "command_limits.h"
+#include "image_header.h"
+#include "typed.h"
 
 #include <stddef.h>
 #include <string.h>

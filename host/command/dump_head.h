@@ -3,7 +3,7 @@
 #ifndef DUMP_HEAD_H
 #define DUMP_HEAD_H
 
-#include "text.h"
+#include "buffer.h"
 
 enum { SCRAMBLES_MAX = 256 };
 

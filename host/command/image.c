@@ -3,6 +3,7 @@
 #include "image.h"
 
 #include "bhtf.h"
+#include "complain.h"
 
 #include <string.h>
 #include <time.h>

@@ -3,7 +3,7 @@
 #define IMAGE_H
 
 #include "bhtf_file.h"
-#include "text.h"
+#include "buffer.h"
 
 #include <signal.h>
 #include <stdint.h>

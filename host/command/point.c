@@ -1,6 +1,8 @@
 /* A point's text: easting,northing,height,note, as a record of CSV. */
 #include "point.h"
 
+#include "complain.h"
+
 #include <stdlib.h>
 #include <string.h>
 

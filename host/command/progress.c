@@ -1,7 +1,7 @@
 /* Long work: how far it is, and whether it is to stop. */
 #include "progress.h"
 
-#include "text.h"
+#include "complain.h"
 
 #include <string.h>
 #include <sys/stat.h>

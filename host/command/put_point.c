@@ -5,6 +5,7 @@
 #include "put_point.h"
 
 #include "bhtf.h"
+#include "complain.h"
 #include "space_used.h"
 
 /* The file layer does not tell how many slots a search read: a lookup's is the

@@ -1,6 +1,7 @@
 /* Bytes as quoted text on one line. */
 #include "quoted.h"
 
+#include "typed.h"
 #include "utf8.h"
 
 #include <string.h>

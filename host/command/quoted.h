@@ -3,7 +3,7 @@
 #ifndef QUOTED_H
 #define QUOTED_H
 
-#include "text.h"
+#include "buffer.h"
 
 /* 0, or -1 for no memory. */
 int quoted_put(struct buffer *to, const uint8_t *bytes, size_t length);

@@ -5,6 +5,7 @@
  * RFC 8259's, one object a line. */
 #include "rows.h"
 
+#include "complain.h"
 #include "utf8.h"
 
 #include <string.h>

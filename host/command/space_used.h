@@ -2,8 +2,8 @@
 #ifndef SPACE_USED_H
 #define SPACE_USED_H
 
+#include "buffer.h"
 #include "image_header.h"
-#include "text.h"
 
 struct space {
     uint64_t active;     /* bytes of active messages and their headers */

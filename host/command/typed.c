@@ -1,73 +1,9 @@
-/* Byte buffers, numbers, names and words to the user. */
-#include "text.h"
+/* Numbers, words and names as they are typed, and names as they are shown. */
+#include "typed.h"
 
 #include "utf8.h"
 
-#include <errno.h>
-#include <stdarg.h>
-#include <stdlib.h>
 #include <string.h>
-
-/* ---- buffers ---- */
-
-static int make_room(struct buffer *b, size_t more)
-{
-    size_t room = b->room < 64 ? 64 : b->room;
-    uint8_t *bytes;
-
-    if (more > SIZE_MAX / 2 - b->length)
-        return -1;
-    while (room < b->length + more)
-        room *= 2;
-    if (room == b->room)
-        return 0;
-    bytes = realloc(b->bytes, room);
-    if (bytes == NULL)
-        return -1;
-    b->bytes = bytes;
-    b->room = room;
-    return 0;
-}
-
-int buffer_put(struct buffer *b, const void *bytes, size_t length)
-{
-    if (make_room(b, length) != 0)
-        return -1;
-    if (length > 0)
-        memcpy(b->bytes + b->length, bytes, length);
-    b->length += length;
-    return 0;
-}
-
-int buffer_put_byte(struct buffer *b, uint8_t byte)
-{
-    return buffer_put(b, &byte, 1);
-}
-
-void buffer_free(struct buffer *b)
-{
-    free(b->bytes);
-    b->bytes = NULL;
-    b->length = 0;
-    b->room = 0;
-}
-
-int buffer_read(struct buffer *b, FILE *from, size_t most)
-{
-    uint8_t part[4096];
-    size_t got = sizeof part;
-
-    while (got > 0 && b->length < most) {
-        size_t wanted = most - b->length;
-
-        got = fread(part, 1, wanted < sizeof part ? wanted : sizeof part, from);
-        if (buffer_put(b, part, got) != 0) {
-            errno = ENOMEM;
-            return -1;
-        }
-    }
-    return ferror(from) ? -1 : 0;
-}
 
 /* ---- numbers ---- */
 
@@ -222,62 +158,4 @@ int name_show(struct buffer *shown, const uint8_t *name, size_t length)
         i += escaped ? 1 : step;
     }
     return 0;
-}
-
-/* ---- words to the user ---- */
-
-/* Bytes to standard error; what could change a terminal, escaped. */
-static void print_safely(const uint8_t *bytes, size_t length)
-{
-    size_t i = 0;
-
-    while (i < length) {
-        size_t step = utf8_prints(bytes + i, length - i);
-
-        if (step == 0)
-            fprintf(stderr, "\\x%02X", (unsigned)bytes[i]);
-        else
-            fwrite(bytes + i, 1, step, stderr);
-        i += step == 0 ? 1 : step;
-    }
-}
-
-void complain(const char *format, ...)
-{
-    char brief[1024];
-    char *words = brief;
-    va_list values;
-    int length;
-
-    va_start(values, format);
-    length = vsnprintf(brief, sizeof brief, format, values);
-    va_end(values);
-    if (length >= (int)sizeof brief) {
-        char *whole = malloc((size_t)length + 1);
-
-        length = whole == NULL ? (int)sizeof brief - 1 : length;
-        words = whole == NULL ? brief : whole;
-        va_start(values, format);
-        vsnprintf(words, (size_t)length + 1, format, values);
-        va_end(values);
-    }
-    fputs("bhtf: ", stderr);
-    print_safely((const uint8_t *)words, length < 0 ? 0 : (size_t)length);
-    fputc('\n', stderr);
-    if (words != brief)
-        free(words);
-}
-
-int out_of_memory(void)
-{
-    complain("not enough memory");
-    return TROUBLE;
-}
-
-int finish_output(int status)
-{
-    if (fflush(stdout) == 0 && !ferror(stdout))
-        return status;
-    complain("cannot write to standard output: %s", strerror(errno));
-    return TROUBLE;
 }
