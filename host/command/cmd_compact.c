@@ -83,7 +83,7 @@ static int explain(const struct options *o, uint32_t number)
 int run_compact(const struct options *o)
 {
     struct spaces s;
-    struct follow f;
+    struct delta_append f;
     struct image i;
     uint32_t number, key_size;
 
@@ -92,11 +92,12 @@ int run_compact(const struct options *o)
     if (image_open(&i, o->word[0], to_change(o)) != 0)
         return TROUBLE;
     number = ask_header(i.bytes, i.length, &key_size);
-    if (follow_begin(&f, &i, number == BHTF_ACCEPTED ? o->delta : NULL) != 0)
+    if (delta_append_begin(&f, &i,
+                           number == BHTF_ACCEPTED ? o->delta : NULL) != 0)
         return TROUBLE;
     if (number == BHTF_ACCEPTED)
         number = compact(i.file, i.bytes, i.length, &s);
-    if (follow_close(&f, &i) != 0)
+    if (delta_append_close(&f, &i) != 0)
         return TROUBLE;
     return number == BHTF_ACCEPTED ? report(o, &s) : explain(o, number);
 }

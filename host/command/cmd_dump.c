@@ -122,11 +122,11 @@ static int print_points(struct dump *d)
 
 static int print_terms(struct dump *d)
 {
-    struct terms terms;
+    struct dump_head head;
 
-    terms_read(&terms, d->copy->bytes, d->copy->length);
+    dump_head_read(&head, d->copy->bytes, d->copy->length);
     printf("bhtf-dump %u\n", DUMP_VERSION);
-    if (terms_put(&terms, &d->line) != 0)
+    if (dump_head_put(&head, &d->line) != 0)
         return out_of_memory();
     fwrite(d->line.bytes, 1, d->line.length, stdout);
     return DONE;

@@ -45,7 +45,7 @@ struct import {
     struct record apart;     /* of texts that are taken apart */
     struct batch batch;
     struct image image;      /* open unless it is a dry run */
-    struct follow follow;
+    struct delta_append append;
     struct buffer copy;      /* in its place in a dry run */
     struct buffer key;
     struct buffer place;     /* words: input and line */
@@ -691,7 +691,7 @@ static int open_image(struct import *m)
                                      : refuse(m->o->word[0], number);
     if (status != DONE)
         image_drop(&m->image);
-    else if (follow_begin(&m->follow, &m->image, m->o->delta) != 0)
+    else if (delta_append_begin(&m->append, &m->image, m->o->delta) != 0)
         status = TROUBLE;
     return status;
 }
@@ -768,8 +768,8 @@ static int import_points(struct import *m)
     status = read_input(m);
     now = header_read(m->image.bytes).version[2];
     if (status != DONE)
-        follow_drop(&m->follow, &m->image);
-    else if (follow_close(&m->follow, &m->image) != 0)
+        delta_append_drop(&m->append, &m->image);
+    else if (delta_append_close(&m->append, &m->image) != 0)
         status = TROUBLE;
     if (m->image.committed) {
         say_version(m->o->word[0], m->version, now);

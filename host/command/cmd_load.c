@@ -20,7 +20,7 @@ struct load {
     struct buffer line;     /* without its end, and with a zero byte */
     unsigned long number;   /* of the line */
     uint64_t taken;         /* bytes that were read */
-    struct terms terms;
+    struct dump_head head;
     uint8_t format;         /* that --format names */
     uint8_t *image;         /* NULL until the first point, or the end */
     size_t length;
@@ -83,23 +83,23 @@ static void use_options(struct load *l)
     const struct options *o = l->o;
 
     if (o->format != NULL) {
-        l->terms.version[0] = 1;
-        l->terms.version[1] = 0;
-        l->terms.version[2] = l->format;
+        l->head.version[0] = 1;
+        l->head.version[1] = 0;
+        l->head.version[2] = l->format;
     }
     if (o->given & OPTION_KEY_SIZE)
-        l->terms.key_size = o->key_size;
+        l->head.key_size = o->key_size;
     if (o->given & OPTION_SLOTS)
-        l->terms.slots = o->slots == 0 ? BHTF_SLOTS_DEFAULT : o->slots;
+        l->head.slots = o->slots == 0 ? BHTF_SLOTS_DEFAULT : o->slots;
     if (o->given & OPTION_SEED) {
-        l->terms.seed = o->seed;
-        l->terms.seeded = 1;
-        l->terms.scrambles = 0;
+        l->head.seed = o->seed;
+        l->head.seeded = 1;
+        l->head.scrambles = 0;
     }
     if (o->given & OPTION_SIZE)
-        l->terms.size = o->size;
-    if (l->terms.size == 0)
-        l->terms.size = usual_size(l->terms.key_size, l->terms.slots);
+        l->head.size = o->size;
+    if (l->head.size == 0)
+        l->head.size = usual_size(l->head.key_size, l->head.slots);
 }
 
 static int make_image(struct load *l)
@@ -108,16 +108,16 @@ static int make_image(struct load *l)
     uint32_t number;
 
     use_options(l);
-    wrong = terms_whole(&l->terms);
+    wrong = dump_head_whole(&l->head);
     if (wrong != NULL)
         return complain_of_line(l, wrong);
-    if (!size_fits(l->terms.size))
+    if (!size_fits(l->head.size))
         return refuse(l->o->word[0], BHTF_BAD_LENGTH);
-    l->length = (size_t)l->terms.size;
+    l->length = (size_t)l->head.size;
     l->image = malloc(l->length);
     if (l->image == NULL)
         return out_of_memory();
-    number = terms_create(&l->terms, l->image, l->length);
+    number = dump_head_create(&l->head, l->image, l->length);
     return number == BHTF_ACCEPTED ? DONE : refuse(l->o->word[0], number);
 }
 
@@ -152,7 +152,7 @@ static int make_key(struct load *l)
     l->key.length = 0;
     if (buffer_put(&l->key, l->name.bytes, l->name.length) != 0)
         return out_of_memory();
-    while (l->key.length < l->terms.key_size)
+    while (l->key.length < l->head.key_size)
         if (buffer_put_byte(&l->key, 0) != 0)
             return out_of_memory();
     return DONE;
@@ -173,7 +173,7 @@ static int refuse_line(struct load *l, uint32_t number)
         out_of_memory();
     else
         refuse_point((const char *)place.bytes, (const char *)shown.bytes,
-                     number, (uint32_t)l->terms.key_size, 0);
+                     number, (uint32_t)l->head.key_size, 0);
     buffer_free(&place);
     buffer_free(&shown);
     return REFUSED;
@@ -236,7 +236,7 @@ static int read_terms(struct load *l)
                                    "comments and the line end");
     if (strlen((const char *)l->line.bytes) != l->line.length)
         return complain_of_line(l, "the line is not known");
-    wrong = terms_take(&l->terms, (const char *)l->line.bytes);
+    wrong = dump_head_take(&l->head, (const char *)l->line.bytes);
     return wrong == NULL ? DONE : complain_of_line(l, wrong);
 }
 
@@ -316,14 +316,14 @@ int run_load(const struct options *o)
 
     memset(&l, 0, sizeof l);
     l.o = o;
-    terms_clear(&l.terms);
+    dump_head_clear(&l.head);
     status = o->format == NULL ? DONE : format_read(o, &l.format);
     if (status == DONE)
         status = open_input(&l);
     if (status == DONE)
         status = read_dump(&l);
-    if (status == DONE && l.terms.version[0] != 0)
-        say_version(o->word[0], (uint8_t)l.terms.version[2],
+    if (status == DONE && l.head.version[0] != 0)
+        say_version(o->word[0], (uint8_t)l.head.version[2],
                     header_read(l.image).version[2]);
     if (status == DONE)
         status = write_file(&l);

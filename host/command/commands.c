@@ -152,13 +152,13 @@ static int open_for_point(struct image *i, struct buffer *key,
 }
 
 /* The same to change it, with --delta. */
-static int open_for_change(struct image *i, struct follow *f,
+static int open_for_change(struct image *i, struct delta_append *f,
                            struct buffer *key, const struct options *o,
                            uint32_t *key_size)
 {
     int status = open_for_point(i, key, o, 1, key_size);
 
-    if (status == DONE && follow_begin(f, i, o->delta) != 0)
+    if (status == DONE && delta_append_begin(f, i, o->delta) != 0)
         status = TROUBLE;
     return status;
 }
@@ -172,11 +172,11 @@ struct answer {
 
 /* Ends a call for a point: closes the file and says what was refused. `f` is
  * NULL for a reader. */
-static int close_point(struct image *i, struct follow *f,
+static int close_point(struct image *i, struct delta_append *f,
                        const struct options *o, const struct answer *a,
                        uint32_t key_size)
 {
-    int status = follow_close(f, i) == 0 ? DONE : TROUBLE;
+    int status = delta_append_close(f, i) == 0 ? DONE : TROUBLE;
 
     if (a->number != BHTF_ACCEPTED)
         status = refuse_point(o->word[0], o->word[1], a->number, key_size,
@@ -294,7 +294,7 @@ static int change_text(const struct options *o, const struct piece *text,
                        uint32_t mode)
 {
     struct buffer key = { NULL, 0, 0 };
-    struct follow f;
+    struct delta_append f;
     struct image i;
     uint32_t key_size;
     int status = open_for_change(&i, &f, &key, o, &key_size);
@@ -353,7 +353,7 @@ int run_withdraw(const struct options *o)
 int run_delete(const struct options *o)
 {
     struct buffer key = { NULL, 0, 0 };
-    struct follow f;
+    struct delta_append f;
     struct image i;
     uint32_t key_size;
     int status = open_for_change(&i, &f, &key, o, &key_size);

@@ -12,7 +12,7 @@
 #include <sys/stat.h>
 #include <unistd.h>
 
-static int fail(const struct follow *f, const char *what)
+static int fail(const struct delta_append *f, const char *what)
 {
     complain("%s: %s: %s", f->path, what, strerror(errno));
     return -1;
@@ -20,7 +20,7 @@ static int fail(const struct follow *f, const char *what)
 
 /* ---- the file of records ---- */
 
-static int is_image(const struct follow *f, const struct image *i)
+static int is_image(const struct delta_append *f, const struct image *i)
 {
     struct stat a, b;
 
@@ -31,7 +31,7 @@ static int is_image(const struct follow *f, const struct image *i)
     return 1;
 }
 
-static int open_records(struct follow *f)
+static int open_records(struct delta_append *f)
 {
     const int flags = O_RDWR | O_APPEND | O_CLOEXEC | O_NONBLOCK | O_NOCTTY;
     int fd = open(f->path, flags);
@@ -46,7 +46,7 @@ static int open_records(struct follow *f)
     return f->file != NULL ? 0 : fail(f, "cannot open");
 }
 
-static int learn_end(struct follow *f)
+static int learn_end(struct delta_append *f)
 {
     struct stat about;
 
@@ -60,7 +60,7 @@ static int learn_end(struct follow *f)
     return 0;
 }
 
-static int refuse_records(const struct follow *f, const struct image *i,
+static int refuse_records(const struct delta_append *f, const struct image *i,
                           const char *why)
 {
     complain("%s: %s, so that no copy could follow; nothing is changed. Name "
@@ -71,7 +71,7 @@ static int refuse_records(const struct follow *f, const struct image *i,
 
 /* Where the last whole record begins, and where it ends: 0, or -1 if something
  * else than the beginning of another stands behind it. */
-static int find_last(const struct follow *f, off_t *last, off_t *end)
+static int find_last(const struct delta_append *f, off_t *last, off_t *end)
 {
     *last = *end = 0;
     while (*end < f->end) {
@@ -94,7 +94,7 @@ static int find_last(const struct follow *f, off_t *last, off_t *end)
 
 /* A record, or its beginning, that was written by a command that was ended
  * before its change was made: nothing leads to it. */
-static int drop_behind(struct follow *f, off_t end)
+static int drop_behind(struct delta_append *f, off_t end)
 {
     if (ftruncate(fileno(f->file), end) != 0)
         return fail(f, "cannot be written to");
@@ -105,7 +105,7 @@ static int drop_behind(struct follow *f, off_t end)
 }
 
 /* A change goes on where the last record ends. */
-static int ask_last(struct follow *f, const struct image *i,
+static int ask_last(struct delta_append *f, const struct image *i,
                     struct buffer *bytes)
 {
     off_t last, end;
@@ -128,7 +128,7 @@ static int ask_last(struct follow *f, const struct image *i,
     return drop_behind(f, last);
 }
 
-static int ask_records(struct follow *f, const struct image *i)
+static int ask_records(struct delta_append *f, const struct image *i)
 {
     struct buffer bytes = { NULL, 0, 0 };
     int done = f->end == 0 ? 0 : ask_last(f, i, &bytes);
@@ -138,7 +138,7 @@ static int ask_records(struct follow *f, const struct image *i)
 }
 
 /* Takes a file away that was made for nothing. */
-static void close_records(struct follow *f)
+static void close_records(struct delta_append *f)
 {
     struct stat about;
 
@@ -153,7 +153,7 @@ static void close_records(struct follow *f)
 
 /* ---- before the change ---- */
 
-static int copy_before(struct follow *f, const struct image *i)
+static int copy_before(struct delta_append *f, const struct image *i)
 {
     if (buffer_put(&f->copy, i->bytes, i->length) != 0) {
         out_of_memory();
@@ -163,7 +163,8 @@ static int copy_before(struct follow *f, const struct image *i)
     return 0;
 }
 
-int follow_begin(struct follow *f, struct image *i, const char *path)
+int delta_append_begin(struct delta_append *f, struct image *i,
+                       const char *path)
 {
     memset(f, 0, sizeof *f);
     f->path = path;
@@ -179,7 +180,8 @@ int follow_begin(struct follow *f, struct image *i, const char *path)
 
 /* ---- behind the change ---- */
 
-static int write_record(const struct follow *f, const struct buffer *record)
+static int write_record(const struct delta_append *f,
+                        const struct buffer *record)
 {
     size_t done = 0;
 
@@ -194,7 +196,7 @@ static int write_record(const struct follow *f, const struct buffer *record)
     return 0;
 }
 
-static int append(struct follow *f, const struct image *i)
+static int append(struct delta_append *f, const struct image *i)
 {
     struct buffer record = { NULL, 0, 0 };
     const struct state after = state_of(i->bytes, i->length);
@@ -209,7 +211,7 @@ static int append(struct follow *f, const struct image *i)
 }
 
 /* Takes away what was appended. */
-static void take_record_back(struct follow *f)
+static void take_record_back(struct delta_append *f)
 {
     if (ftruncate(fileno(f->file), f->end) != 0)
         fail(f, "cannot be made as long as it was");
@@ -243,7 +245,7 @@ static int sync_name(const char *path)
     return error;
 }
 
-static int put_on_disk(const struct follow *f)
+static int put_on_disk(const struct delta_append *f)
 {
     int error = fsync(fileno(f->file)) == 0 ? 0 : errno;
 
@@ -255,7 +257,7 @@ static int put_on_disk(const struct follow *f)
 
 /* Of an image that did change. A record whose change may be in the file, or be
  * finished there by the next command, stays. */
-static int close_changed(struct follow *f, struct image *i)
+static int close_changed(struct delta_append *f, struct image *i)
 {
     int done;
 
@@ -271,7 +273,7 @@ static int close_changed(struct follow *f, struct image *i)
     return done;
 }
 
-int follow_close(struct follow *f, struct image *i)
+int delta_append_close(struct delta_append *f, struct image *i)
 {
     int done;
 
@@ -283,7 +285,7 @@ int follow_close(struct follow *f, struct image *i)
     return done;
 }
 
-void follow_drop(struct follow *f, struct image *i)
+void delta_append_drop(struct delta_append *f, struct image *i)
 {
     close_records(f);
     image_drop(i);

@@ -7,7 +7,7 @@
 
 #include <sys/types.h>
 
-struct follow {
+struct delta_append {
     const char *path;     /* NULL: nothing is appended */
     FILE *file;           /* to be read; its descriptor appends */
     int created;          /* its name is new in its directory */
@@ -22,14 +22,15 @@ struct follow {
  * A FILE whose last record leads to
  * another image is refused: no copy could go on from there. On -1 the image is
  * closed. */
-int follow_begin(struct follow *f, struct image *i, const char *path);
+int delta_append_begin(struct delta_append *f, struct image *i,
+                       const char *path);
 
 /* In place of image_close. Where nothing changed no record is written; where
  * one cannot be written the image becomes again what it was. `f` may be
  * NULL. */
-int follow_close(struct follow *f, struct image *i);
+int delta_append_close(struct delta_append *f, struct image *i);
 
 /* In place of image_drop. */
-void follow_drop(struct follow *f, struct image *i);
+void delta_append_drop(struct delta_append *f, struct image *i);
 
 #endif

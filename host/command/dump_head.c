@@ -20,7 +20,7 @@ enum {
     SCRAMBLE_END = 2048
 };
 
-void terms_clear(struct terms *t)
+void dump_head_clear(struct dump_head *t)
 {
     memset(t, 0, sizeof *t);
 }
@@ -52,11 +52,11 @@ static int is_seeded(const uint8_t *image, uint32_t seed)
                        read_u32(fresh + FIRST_AT) + 1)) == 0;
 }
 
-void terms_read(struct terms *t, const uint8_t *image, size_t length)
+void dump_head_read(struct dump_head *t, const uint8_t *image, size_t length)
 {
     const struct header h = header_read(image);
 
-    terms_clear(t);
+    dump_head_clear(t);
     for (int i = 0; i < 3; i++)
         t->version[i] = image[VERSION_AT + i];
     t->size = length;
@@ -85,7 +85,7 @@ struct row {
                 3: if not zero */
 };
 
-#define AT(member) offsetof(struct terms, member)
+#define AT(member) offsetof(struct dump_head, member)
 
 static const struct row rows[] = {
     { "key-size", AT(key_size), UINT32_MAX, 0 },
@@ -100,7 +100,7 @@ static const struct row rows[] = {
 
 enum { ROWS = sizeof rows / sizeof rows[0], VERSION_LINE = ROWS, SEED_LINE };
 
-static uint64_t value(const struct terms *t, const struct row *r)
+static uint64_t value(const struct dump_head *t, const struct row *r)
 {
     return *(const uint64_t *)((const char *)t + r->place);
 }
@@ -114,7 +114,7 @@ static int put_value(struct buffer *to, const struct row *r, uint64_t number)
     return buffer_put(to, line, strlen(line));
 }
 
-static int put_scramble(struct buffer *to, const struct terms *t)
+static int put_scramble(struct buffer *to, const struct dump_head *t)
 {
     char number[16];
     int done = 0;
@@ -130,7 +130,7 @@ static int put_scramble(struct buffer *to, const struct terms *t)
     return done;
 }
 
-int terms_put(const struct terms *t, struct buffer *to)
+int dump_head_put(const struct dump_head *t, struct buffer *to)
 {
     char line[64];
     int done;
@@ -164,7 +164,7 @@ static const char *behind(const char *line, const char *word)
         ? line + length + 1 : NULL;
 }
 
-static const char *take_version(struct terms *t, const char *numbers)
+static const char *take_version(struct dump_head *t, const char *numbers)
 {
     unsigned a, b, c;
     char end;
@@ -179,7 +179,7 @@ static const char *take_version(struct terms *t, const char *numbers)
     return NULL;
 }
 
-static const char *take_scramble(struct terms *t, const char *numbers)
+static const char *take_scramble(struct dump_head *t, const char *numbers)
 {
     char word[16];
     int used;
@@ -200,7 +200,7 @@ static const char *take_scramble(struct terms *t, const char *numbers)
     return NULL;
 }
 
-static const char *take_seed(struct terms *t, const char *number)
+static const char *take_seed(struct dump_head *t, const char *number)
 {
     t->seeded = 1;
     return number_read(number, UINT32_MAX, &t->seed) == 0
@@ -208,7 +208,7 @@ static const char *take_seed(struct terms *t, const char *number)
 }
 
 /* Notes that a line was taken: NULL, or what is wrong. */
-static const char *once(struct terms *t, size_t line)
+static const char *once(struct dump_head *t, size_t line)
 {
     unsigned bit = 1u << line;
     int again = (t->said & bit) != 0;
@@ -217,7 +217,7 @@ static const char *once(struct terms *t, size_t line)
     return again ? "the line stands there twice" : NULL;
 }
 
-const char *terms_take(struct terms *t, const char *line)
+const char *dump_head_take(struct dump_head *t, const char *line)
 {
     const char *rest, *wrong;
 
@@ -241,7 +241,7 @@ const char *terms_take(struct terms *t, const char *line)
     return "the line is not known";
 }
 
-const char *terms_whole(const struct terms *t)
+const char *dump_head_whole(const struct dump_head *t)
 {
     if (t->key_size == 0)
         return "there is no line key-size";
@@ -261,7 +261,7 @@ const char *terms_whole(const struct terms *t)
 /* ---- to an image ---- */
 
 /* The values that create has no argument for. */
-static void write_scramble(const struct terms *t, uint8_t *image)
+static void write_scramble(const struct dump_head *t, uint8_t *image)
 {
     write_u32(image + MULTIPLIER_AT, (uint32_t)t->multiplier);
     write_u32(image + START_AT, (uint32_t)t->start);
@@ -272,7 +272,8 @@ static void write_scramble(const struct terms *t, uint8_t *image)
         write_u32(image + SCRAMBLE_AT + 4 * i, t->scramble[i]);
 }
 
-uint32_t terms_create(const struct terms *t, uint8_t *image, size_t length)
+uint32_t dump_head_create(const struct dump_head *t, uint8_t *image,
+                          size_t length)
 {
     uint32_t number = bhtf_create(image, length, (uint32_t)t->key_size,
                                   (uint32_t)t->slots, (uint32_t)t->seed);

@@ -7,7 +7,7 @@
 
 enum { SCRAMBLES_MAX = 256 };
 
-struct terms {
+struct dump_head {
     unsigned said;         /* which lines were taken, as bits */
     uint32_t version[3];
     uint64_t size;         /* of the file; 0: not said */
@@ -26,21 +26,22 @@ struct terms {
 };
 
 /* Those that a dump begins with. */
-void terms_clear(struct terms *t);
+void dump_head_clear(struct dump_head *t);
 
 /* Of an image that was accepted. */
-void terms_read(struct terms *t, const uint8_t *image, size_t length);
+void dump_head_read(struct dump_head *t, const uint8_t *image, size_t length);
 
 /* One line a value: 0, or -1 for no memory. */
-int terms_put(const struct terms *t, struct buffer *to);
+int dump_head_put(const struct dump_head *t, struct buffer *to);
 
 /* Takes such a line, without its end: NULL, or what is wrong. */
-const char *terms_take(struct terms *t, const char *line);
+const char *dump_head_take(struct dump_head *t, const char *line);
 
-/* NULL if the terms go together, or what is wrong. */
-const char *terms_whole(const struct terms *t);
+/* NULL if its lines go together, or what is wrong. */
+const char *dump_head_whole(const struct dump_head *t);
 
 /* Makes an empty file of the whole image: the library's number. */
-uint32_t terms_create(const struct terms *t, uint8_t *image, size_t length);
+uint32_t dump_head_create(const struct dump_head *t, uint8_t *image,
+                          size_t length);
 
 #endif
