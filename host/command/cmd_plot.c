@@ -242,7 +242,7 @@ static int make_plan(struct plan *p)
     status = put_marks(p);
     if (status != DONE)
         return status;
-    left_out = site_say_left_out(&p->now, p->o->word[0]);
+    left_out = site_say_left_out(&p->now, p->o->word[0], NULL);
     if (p->count == 0) {
         complain("%s: there is no point with coordinates", p->o->word[0]);
         return REFUSED;

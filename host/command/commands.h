@@ -46,6 +46,7 @@
 #define OPTION_GSI OPTION(40)
 #define OPTION_LANDXML OPTION(41)
 #define OPTION_DXF OPTION(42)
+#define OPTION_TOLERANCE OPTION(50)
 
 /* In place of the largest number of words: as many as there are. */
 enum { ANY_NUMBER = -1 };
@@ -72,6 +73,7 @@ struct options {
     const char *station;
     const char *sigma;
     const char *by;
+    const char *tolerance;
     const char *format;
     const char *delta;
     int quiet;

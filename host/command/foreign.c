@@ -73,7 +73,7 @@ int foreign_read(struct arrivals *a, FILE *from, const struct options *o)
 
 static int write_site(struct site *s, const struct options *o)
 {
-    int left_out = site_say_left_out(s, o->word[0]);
+    int left_out = site_say_left_out(s, o->word[0], NULL);
     int status;
 
     site_sort(s);

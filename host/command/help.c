@@ -28,6 +28,11 @@
 
 #define QUIET "  -q, --quiet        say nothing but errors and warnings\n"
 
+#define PATTERNS \
+    "\nA word that is the name of a point means that point; any other is a\n" \
+    "pattern: * stands for anything, ? for one character, [..] for one of " \
+    "several.\n"
+
 static const struct command commands[] = {
     { "create", OPTION_KEY_SIZE | OPTION_SLOTS | OPTION_SEED | OPTION_SIZE |
                 OPTION_FORMAT | OPTION_NO_SYNC, 1, 1, run_create,
@@ -229,13 +234,18 @@ static const struct command commands[] = {
       "then as it was.\n"
       "  -n, --dry-run      change nothing; say what would be\n"
       NO_SYNC QUIET WAITING },
-    { "diff", OPTION_TSV, 2, 2, run_diff,
-      "bhtf diff OLD NEW [--tsv]\n"
-      "Says point by point what became of OLD in NEW: new, gone, moved by how\n"
-      "many millimetres, or another text. Status 0 if nothing did, 1 if "
-      "something.\n"
+    { "diff", OPTION_TSV | OPTION_TOLERANCE, 2, ANY_NUMBER, run_diff,
+      "bhtf diff OLD NEW [PATTERN..] [--tolerance MM] [--tsv]\n"
+      "Says point by point what became of OLD in NEW: new, gone, moved by how "
+      "far,\n"
+      "another text, or damaged, and all that changed of it. Status 0 if "
+      "nothing did, 1\n"
+      "if something, 2 if that cannot be told.\n"
+      "      --tolerance MM  moves of no more millimetres are no change; they "
+      "are\n"
+      "                     counted\n"
       "      --tsv          fields with tabs between them, under a heading\n"
-      QUIET WAITING },
+      QUIET WAITING PATTERNS },
     { "plot", OPTION_AGAINST | OPTION_PAPER, 1, 1, run_plot,
       "bhtf plot FILE [--against OLD] [--paper SIZE] > PLAN.svg\n"
       "Prints a plan of the points to scale as SVG, with names, grid, north\n"

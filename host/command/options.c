@@ -53,6 +53,7 @@ static const struct row all[] = {
     { 0, "--sigma", OPTION_SIGMA, TEXT, AT(sigma), 0, 0 },
     { 0, "--svg", OPTION_SVG, PLAIN, 0, 0, 0 },
     { 'b', "--by", OPTION_BY, TEXT, AT(by), 0, 0 },
+    { 0, "--tolerance", OPTION_TOLERANCE, TEXT, AT(tolerance), 0, 0 },
     { 0, "--tsv", OPTION_TSV, PLAIN, 0, 0, 0 },
     { 0, "--json", OPTION_JSON, PLAIN, 0, 0, 0 },
     { 0, "--gsi", OPTION_GSI, PLAIN, 0, 0, 0 },

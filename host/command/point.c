@@ -140,8 +140,11 @@ int point_place(struct record *r, struct piece text, double *easting,
 {
     struct piece fields[POINT_FIELDS];
 
-    if (!point_take(r, text, fields) || !is_number(fields[EASTING], '.') ||
-        !is_number(fields[NORTHING], '.'))
+    if (!point_take(r, text, fields))
+        return 0;
+    fields[EASTING] = piece_trim(fields[EASTING]);
+    fields[NORTHING] = piece_trim(fields[NORTHING]);
+    if (!is_number(fields[EASTING], '.') || !is_number(fields[NORTHING], '.'))
         return 0;
     *easting = number_of(fields[EASTING]);
     *northing = number_of(fields[NORTHING]);

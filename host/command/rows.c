@@ -34,7 +34,7 @@ static void put_tsv_row(struct rows *r, const struct spot *s)
     struct piece fields[POINT_FIELDS];
 
     printf("%s\t%lu", (const char *)r->name.bytes, (unsigned long)s->slot);
-    if (s->kind == SPOT_PLACED && point_take(&r->record, s->text, fields)) {
+    if (has_coordinates(s) && point_take(&r->record, s->text, fields)) {
         for (int i = 0; i < POINT_FIELDS; i++) {
             putchar('\t');
             put_tsv(fields[i]);
@@ -102,7 +102,8 @@ static void put_json_number(struct piece p)
 static void put_json_fields(const struct piece fields[POINT_FIELDS])
 {
     for (int i = 0; i < POINT_FIELDS; i++) {
-        if (fields[i].length == 0)
+        if (fields[i].length == 0 ||
+            (i != NOTE && piece_trim(fields[i]).length == 0))
             continue;
         printf(",\"%s\":", point_words[i]);
         if (i == NOTE)
@@ -128,7 +129,7 @@ static void put_json_row(struct rows *r, const struct spot *s)
     fputs("{\"name\":", stdout);
     put_json(name);
     printf(",\"slot\":%lu", (unsigned long)s->slot);
-    if (s->kind == SPOT_PLACED && point_take(&r->record, s->text, fields)) {
+    if (has_coordinates(s) && point_take(&r->record, s->text, fields)) {
         put_json_fields(fields);
     } else if (s->kind == SPOT_DAMAGED) {
         fputs(",\"damaged\":true", stdout);
