@@ -246,16 +246,20 @@ static const struct command commands[] = {
       "                     counted\n"
       "      --tsv          fields with tabs between them, under a heading\n"
       QUIET WAITING PATTERNS },
-    { "plot", OPTION_AGAINST | OPTION_PAPER, 1, 1, run_plot,
-      "bhtf plot FILE [--against OLD] [--paper SIZE] > PLAN.svg\n"
+    { "plot", OPTION_AGAINST | OPTION_PAPER | OPTION_TOLERANCE, 1, ANY_NUMBER,
+      run_plot,
+      "bhtf plot FILE [PATTERN..] [--against OLD] [--paper SIZE] .. > "
+      "PLAN.svg\n"
       "Prints a plan of the points to scale as SVG, with names, grid, north\n"
       "and a scale bar.\n"
-      "      --against OLD  also show what is new, gone and moved since that "
-      "file\n"
-      "  -p, --paper SIZE   A4, A3, A2, A1 or A0; unless given, the smallest "
-      "on\n"
-      "                     which the names have room beside their points\n"
-      WAITING },
+      "      --against OLD  also show what became of them since that file, as "
+      "diff\n"
+      "                     says it\n"
+      "      --tolerance MM  moves of no more millimetres are no change\n"
+      "  -p, --paper SIZE   A4, A3, A2, A1 or A0; unless given, A4 or A3, and "
+      "larger\n"
+      "                     where names would find no place\n"
+      WAITING PATTERNS },
     { "figure", OPTION_STATION | OPTION_SIGMA | OPTION_SVG, 2, ANY_NUMBER,
       run_figure,
       "bhtf figure FILE --station E,N NAME NAME NAME .. [--sigma MGON] "

@@ -45,6 +45,17 @@ double round_up(double least)
     return step_up(least, steps);
 }
 
+double round_down(double most)
+{
+    static const double steps[] = { 5, 2, 1 };
+    double unit = pow(10, floor(log10(most) + 1e-9));
+    int i = 0;
+
+    while (i < 2 && steps[i] * unit > most * (1 + 1e-9))
+        i++;
+    return steps[i] * unit;
+}
+
 /* Scales for which there are rulers, or that are easily reckoned. */
 static double scale_up(double least)
 {
@@ -267,9 +278,19 @@ static void draw_bar_part(const struct sheet *s, int part, double metres)
            s->bottom + 10, wide, part % 2 == 0 ? "#222" : "#fff");
 }
 
+static double bar_part(const struct sheet *s)
+{
+    return round_up(bar_least * s->scale / 1000);
+}
+
+double sheet_bar_end(const struct sheet *s)
+{
+    return s->left + BAR_PARTS * bar_part(s) * 1000 / s->scale;
+}
+
 static void draw_bar(const struct sheet *s)
 {
-    double metres = round_up(bar_least * s->scale / 1000);
+    double metres = bar_part(s);
     double y = s->bottom + 8.8;
     char label[40];
 
@@ -277,11 +298,10 @@ static void draw_bar(const struct sheet *s)
     for (int part = 0; part < BAR_PARTS; part++)
         draw_bar_part(s, part, metres);
     svg_text(s->left, y, 2.8, "middle", "0");
-    snprintf(label, sizeof label, "%g", 2 * metres);
+    snprintf(label, sizeof label, "%.10g", 2 * metres);
     svg_text(s->left + 2 * metres * 1000 / s->scale, y, 2.8, "middle", label);
     snprintf(label, sizeof label, "%.10g m", BAR_PARTS * metres);
-    svg_text(s->left + BAR_PARTS * metres * 1000 / s->scale, y, 2.8, "middle",
-             label);
+    svg_text(sheet_bar_end(s), y, 2.8, "middle", label);
     fputs("</g>\n", stdout);
 }
 

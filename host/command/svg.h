@@ -27,6 +27,9 @@ struct bounds {
  * `least`, which is above 0. */
 double round_up(double least);
 
+/* The last of them that is not above `most`. */
+double round_down(double most);
+
 void bounds_put(struct bounds *b, const struct at *place);
 
 /* Puts the bounds into the middle of the frame, at the largest round scale at
@@ -43,6 +46,9 @@ void svg_end(void);
 
 /* Frame, grid with its coordinates, north arrow and scale bar. */
 void sheet_draw(const struct sheet *s);
+
+/* The scale bar ends here, in millimetres of paper. */
+double sheet_bar_end(const struct sheet *s);
 
 /* Bytes as XML text. What XML cannot hold becomes U+FFFD; answers how many. */
 size_t xml_put(FILE *to, const char *bytes, size_t length);
