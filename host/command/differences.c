@@ -12,24 +12,6 @@ struct lines {
     struct buffer words;
 };
 
-/* Places on a screen that a name takes. */
-static int places_of(const char *name)
-{
-    size_t left = strlen(name);
-    int places = 0;
-
-    while (left > 0) {
-        uint32_t c = 0;
-        size_t used = utf8_read((const uint8_t *)name, left, &c);
-
-        places += used > 0 && c >= 0x1100 ? 2 : 1;
-        used = used > 0 ? used : 1;
-        name += used;
-        left -= used;
-    }
-    return places;
-}
-
 static int print_line(struct lines *l, const struct became *b,
                       const struct spot *old, const struct spot *now)
 {

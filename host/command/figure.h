@@ -24,6 +24,9 @@ struct resection {
 /* Millimetres of an axis at the given accuracy of a direction. */
 double axis_mm(const struct resection *r, double axis);
 
+/* An axis's bearing in gon, as it is printed with so many decimals. */
+double axis_gon(double bearing, int decimals);
+
 /* Could the figure be measured? Not with too few points, or from on one. */
 int is_measured(const struct resection *r);
 
@@ -37,7 +40,7 @@ struct said {
     int measured;      /* needs a figure that could be measured */
 };
 
-enum { LINES = 6 };
+enum { LINES = 7 };
 
 extern const struct said lines[LINES];
 extern const char caution[];

@@ -24,7 +24,7 @@ static void lay_sheet(struct sheet *s, const struct resection *r)
     s->left = 12;
     s->top = 22;
     s->right = s->width - 8;
-    s->bottom = s->height - 54;
+    s->bottom = s->height - 58;
     sheet_fit(s, &b, 18);
 }
 
@@ -164,18 +164,19 @@ static void draw_words(const struct sheet *s, const struct resection *r)
 static void draw_title(const struct sheet *s, const struct resection *r)
 {
     static const char *const colours[] = { "#00703c", "#a05a00", "#b3261e" };
-    char line[512];
+    char line[512], file[48];
 
+    file_word(file, sizeof file, r->o->word[0]);
     say_verdict(line, sizeof line, r);
     printf("<g id=\"verdict\" font-weight=\"bold\" fill=\"%s\">\n",
            colours[r->figure.verdict]);
     svg_text(s->left, 10, 4.6, "start", line);
     fputs("</g>\n", stdout);
-    snprintf(line, sizeof line, "Resection at %.3f, %.3f; 1 : %.0f",
-             r->station.east, r->station.north, s->scale);
+    snprintf(line, sizeof line, "%s: resection at %.3f, %.3f; 1 : %.10g",
+             file, r->station.east, r->station.north, s->scale);
     if (is_measured(r) && ellipse_factor(s, r) > 0)
         snprintf(line + strlen(line), sizeof line - strlen(line),
-                 "; ellipse for %g mgon, drawn %g times as large", r->sigma,
+                 "; ellipse for %g mgon, drawn %.10g times as large", r->sigma,
                  ellipse_factor(s, r));
     svg_text(s->left, 16.5, 3.6, "start", line);
 }

@@ -129,17 +129,6 @@ static void draw_strikes(const struct plan *p)
 
 /* ---- words around the map ---- */
 
-/* A path's last part, at most so many bytes of it. */
-static void file_word(char *to, size_t room, const char *path)
-{
-    const char *slash = strrchr(path, '/');
-    const char *name = slash != NULL ? slash + 1 : path;
-
-    snprintf(to, room, "%s", name);
-    if (strlen(name) >= room)
-        memcpy(to + room - 3, "..", 3);
-}
-
 /* Adds to a line. */
 static void add(char *line, size_t room, const char *format, ...)
 {

@@ -152,22 +152,19 @@ void svg_text(double x, double y, double size, const char *anchor,
     fputs("</text>\n", stdout);
 }
 
-/* Characters of East Asia and pictures take two places. */
 double text_width(const char *text, double size)
 {
-    size_t length = strlen(text);
-    double places = 0;
+    return places_of(text) * size * 0.61;
+}
 
-    while (length > 0) {
-        uint32_t c = 0;
-        size_t used = utf8_read((const uint8_t *)text, length, &c);
+void file_word(char *to, size_t room, const char *path)
+{
+    const char *slash = strrchr(path, '/');
+    const char *name = slash != NULL ? slash + 1 : path;
 
-        places += used > 0 && c >= 0x1100 ? 2 : 1;
-        used = used > 0 ? used : 1;
-        text += used;
-        length -= used;
-    }
-    return places * size * 0.61;
+    snprintf(to, room, "%s", name);
+    if (strlen(name) >= room)
+        memcpy(to + room - 3, "..", 3);
 }
 
 /* ---- the drawing ---- */

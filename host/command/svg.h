@@ -57,6 +57,9 @@ size_t xml_put(FILE *to, const char *bytes, size_t length);
 void svg_text(double x, double y, double size, const char *anchor,
               const char *text);
 
+/* A path's last part, at most so many bytes of it, for a title. */
+void file_word(char *to, size_t room, const char *path);
+
 /* Millimetres that a text takes in a type of fixed width, at most. */
 double text_width(const char *text, double size);
 
