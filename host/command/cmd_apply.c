@@ -2,10 +2,13 @@
 #include "commands.h"
 
 #include "bhtf.h"
+#include "change.h"
 #include "delta.h"
 #include "progress.h"
+#include "short_sum.h"
 
 #include <errno.h>
+#include <stdlib.h>
 #include <string.h>
 #include <unistd.h>
 
@@ -20,6 +23,9 @@ struct refresh {
     size_t applied;         /* of these */
     struct image image;     /* the copy; open unless it is a dry run */
     struct buffer now;      /* the image that it becomes */
+    struct buffer was;      /* of a dry run: the image as it was */
+    struct site before;     /* its points as they were, unless quiet */
+    char *changes;          /* what became of them, in lines */
 };
 
 static int is_dry(const struct refresh *r)
@@ -198,13 +204,53 @@ static int write_copy(struct refresh *r)
     return status;
 }
 
+/* The points as they are; the image of a dry run is changed in its place. */
+static int keep_points(struct refresh *r)
+{
+    if (!is_dry(r))
+        return site_of_image(&r->before, r->image.bytes, r->image.length);
+    if (buffer_put(&r->was, r->now.bytes, r->now.length) != 0)
+        return out_of_memory();
+    return site_of_image(&r->before, r->was.bytes, r->was.length);
+}
+
+/* What becomes of the points, kept until the change is done: whoever works
+ * with the copy must know. */
+static int keep_changes(struct refresh *r)
+{
+    struct reckoning reckoning;
+    struct site after;
+    char counts[256];
+    size_t length;
+    FILE *to = open_memstream(&r->changes, &length);
+    int status = to == NULL ? out_of_memory()
+        : site_of_image(&after, r->now.bytes, r->now.length);
+
+    if (to == NULL)
+        return status;
+    memset(&reckoning, 0, sizeof reckoning);
+    if (status == DONE)
+        status = differences_print(&reckoning, &r->before, &after, 0, to);
+    counts_words(counts, sizeof counts, &reckoning);
+    fprintf(to, "%s\n", counts);
+    reckoning_free(&reckoning);
+    site_close(&after);
+    return fclose(to) == 0 ? status : out_of_memory();
+}
+
 static int report(const struct refresh *r)
 {
+    char sum[SHORT_SUM];
+
     if (r->o->quiet)
         return DONE;
+    if (r->changes != NULL)
+        fputs(r->changes, stdout);
     printf("%lu record%s %sapplied, %lu passed over\n",
            (unsigned long)r->applied, r->applied == 1 ? "" : "s",
            is_dry(r) ? "would be " : "", (unsigned long)(r->count - r->applied));
+    short_sum(sum, r->now.bytes, r->now.length);
+    printf("%s %s %s\n", r->o->word[0], is_dry(r) ? "would be" : "is", sum);
     return finish_output(DONE);
 }
 
@@ -214,7 +260,12 @@ static int refresh(struct refresh *r)
 
     if (status != DONE)
         return status;
-    status = bring_up(r);
+    if (!r->o->quiet)
+        status = keep_points(r);
+    if (status == DONE)
+        status = bring_up(r);
+    if (status == DONE && r->applied > 0 && !r->o->quiet)
+        status = keep_changes(r);
     if (status == DONE && r->applied > 0 && !is_dry(r))
         status = write_copy(r);
     if (!is_dry(r) && status != DONE)
@@ -239,5 +290,8 @@ int run_apply(const struct options *o)
     buffer_free(&r.stream);
     buffer_free(&r.records);
     buffer_free(&r.now);
+    site_close(&r.before);
+    buffer_free(&r.was);
+    free(r.changes);
     return status;
 }

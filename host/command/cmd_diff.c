@@ -30,7 +30,7 @@ static int compare(struct difference *d)
 
     if (missing != DONE ||
         differences_print(&d->r, &d->old, &d->now,
-                          (d->o->given & OPTION_TSV) != 0) != DONE)
+                          (d->o->given & OPTION_TSV) != 0, stdout) != DONE)
         return TROUBLE;
     print_sum(d);
     return finish_output(is_changed(&d->r) ? REFUSED : DONE);

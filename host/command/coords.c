@@ -151,15 +151,17 @@ int site_open_names(struct site *s, const char *file, unsigned wait)
 int site_of_image(struct site *s, const uint8_t *image, size_t length)
 {
     memset(s, 0, sizeof *s);
-    if (buffer_put(&s->copy, image, length) != 0)
-        return out_of_memory();
+    s->borrowed = 1;
+    s->copy.bytes = (uint8_t *)image; /* is only read */
+    s->copy.length = length;
     ask_header(s->copy.bytes, s->copy.length, &s->key_size);
     return read_spots(s);
 }
 
 void site_close(struct site *s)
 {
-    buffer_free(&s->copy);
+    if (!s->borrowed)
+        buffer_free(&s->copy);
     free(s->spots);
     s->spots = NULL;
     s->count = 0;

@@ -40,6 +40,7 @@ struct site {
     size_t count;
     size_t kinds[SPOT_KINDS]; /* how many of each */
     int names_only;
+    int borrowed;           /* the copy's bytes are somebody else's */
 };
 
 /* No coordinate is farther from zero, in metres: a double then still tells
@@ -56,8 +57,8 @@ int site_open(struct site *s, const char *file, unsigned wait);
 /* The same without their texts, which need not be searched then. */
 int site_open_names(struct site *s, const char *file, unsigned wait);
 
-/* All points of an accepted image, of which a copy is taken: DONE, or TROUBLE
- * after a complaint. */
+/* All points of an accepted image, which stays its owner's and must outlive the
+ * site: DONE, or TROUBLE after a complaint. */
 int site_of_image(struct site *s, const uint8_t *image, size_t length);
 
 void site_close(struct site *s);

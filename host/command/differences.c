@@ -8,6 +8,7 @@
 
 struct lines {
     struct reckoning *r;
+    FILE *out;
     struct buffer name;
     struct buffer words;
 };
@@ -21,10 +22,10 @@ static int print_line(struct lines *l, const struct became *b,
     l->words.length = 0;
     if (became_words(l->r, &l->words, b, old, now) != 0)
         return out_of_memory();
-    printf("%-6s %s%*s ", change_word(b->change), name,
+    fprintf(l->out, "%-6s %s%*s ", change_word(b->change), name,
            wide < 16 ? 16 - wide : 0, "");
-    fwrite(l->words.bytes, 1, l->words.length, stdout);
-    putchar('\n');
+    fwrite(l->words.bytes, 1, l->words.length, l->out);
+    putc('\n', l->out);
     return DONE;
 }
 
@@ -38,21 +39,21 @@ static void print_coordinates(struct lines *l, const struct spot *s)
                 point_take(&l->r->records[0], s->text, fields);
 
     for (int i = EASTING; i <= HEIGHT; i++) {
-        putchar('\t');
+        putc('\t', l->out);
         if (known) {
             struct piece number = piece_trim(fields[i]);
 
-            fwrite(number.bytes, 1, number.length, stdout);
+            fwrite(number.bytes, 1, number.length, l->out);
         }
     }
 }
 
-static void print_millimetres(int known, double mm)
+static void print_millimetres(const struct lines *l, int known, double mm)
 {
     if (known)
-        printf("\t%.3f", mm > -0.0005 && mm < 0.0005 ? 0 : mm);
+        fprintf(l->out, "\t%.3f", mm > -0.0005 && mm < 0.0005 ? 0 : mm);
     else
-        putchar('\t');
+        putc('\t', l->out);
 }
 
 static int print_fields(struct lines *l, const struct became *b,
@@ -63,16 +64,14 @@ static int print_fields(struct lines *l, const struct became *b,
     int placed = both && old->kind == SPOT_PLACED && now->kind == SPOT_PLACED;
     int levelled = both && old->has_height && now->has_height;
 
-    printf("%s\t%s", change_word(b->change), (const char *)l->name.bytes);
-    print_millimetres(b->change == MOVED, b->move.all);
+    fprintf(l->out, "%s\t%s", change_word(b->change), (const char *)l->name.bytes);
+    print_millimetres(l, b->change == MOVED, b->move.all);
     print_coordinates(l, old);
     print_coordinates(l, now);
-    print_millimetres(placed, b->move.plane);
-    print_millimetres(levelled, b->move.height);
-    if (both)
-        printf("\t%s\n", b->details & DETAIL_NOTE ? "changed" : "same");
-    else
-        puts("\t");
+    print_millimetres(l, placed, b->move.plane);
+    print_millimetres(l, levelled, b->move.height);
+    fprintf(l->out, "\t%s\n", !both ? "" : b->details & DETAIL_NOTE ? "changed"
+                                                                   : "same");
     return DONE;
 }
 
@@ -98,18 +97,20 @@ static int print_changes(struct lines *l, const struct site *old,
 }
 
 int differences_print(struct reckoning *r, struct site *old, struct site *now,
-                      int tsv)
+                      int tsv, FILE *out)
 {
     struct lines l;
     int status;
 
     memset(&l, 0, sizeof l);
     l.r = r;
+    l.out = out;
     site_sort(old);
     site_sort(now);
     if (tsv)
-        puts("change\tname\tmm\told easting\told northing\told height\t"
-             "new easting\tnew northing\tnew height\tplan mm\theight mm\tnote");
+        fputs("change\tname\tmm\told easting\told northing\told height\t"
+              "new easting\tnew northing\tnew height\tplan mm\theight mm\t"
+              "note\n", out);
     status = print_changes(&l, old, now, tsv);
     buffer_free(&l.name);
     buffer_free(&l.words);

@@ -231,7 +231,8 @@ static const struct command commands[] = {
       "for\n"
       "another file the status is 1; if one is cut short or damaged it is 2; "
       "COPY is\n"
-      "then as it was.\n"
+      "then as it was. Names the points that change, as diff does, and the "
+      "sum.\n"
       "  -n, --dry-run      change nothing; say what would be\n"
       NO_SYNC QUIET WAITING },
     { "diff", OPTION_TSV | OPTION_TOLERANCE, 2, ANY_NUMBER, run_diff,
@@ -271,6 +272,29 @@ static const struct command commands[] = {
       "      --sigma MGON   standard deviation of a direction; 1 unless given\n"
       "      --svg          print a picture instead of words\n"
       WAITING NAMES },
+    { "sum", OPTION_LONG, 1, ANY_NUMBER, run_sum,
+      "bhtf sum FILE..\n"
+      "Prints a short sum of each file's bytes, as 7f3a-91c2, which office and "
+      "station\n"
+      "can compare by voice; deltas and check name the same.\n"
+      "  -l, --long         all 64 digits of the SHA-256\n"
+      WAITING },
+    { "copy", OPTION_NO_SYNC, 2, 2, run_copy,
+      "bhtf copy FILE NEW\n"
+      "Makes a copy with the same bytes, also while others change FILE, and "
+      "says its\n"
+      "sum. An existing file is never overwritten.\n"
+      NO_SYNC QUIET WAITING },
+    { "show", 0, 1, 2, run_show,
+      "bhtf show CHANGES [COPY]\n"
+      "Says what a delta is: its records, with the sums of the files that they "
+      "lead\n"
+      "from and to. With a copy of the file, also what becomes of its points, "
+      "as diff\n"
+      "says it; if the copy has the records already, the points that they "
+      "wrote.\n"
+      "Nothing is changed.\n"
+      QUIET WAITING },
     { "scramble", 0, 1, 1, run_scramble,
       "bhtf scramble SEED\n"
       "Prints the 95 numbers, one a line, by which names are scattered in a "
@@ -347,6 +371,9 @@ void help_print(FILE *to)
           "  bhtf load FILE DUMP         make a file of such a text\n"
           "  bhtf delta OLD NEW          print what changed, for a copy\n"
           "  bhtf apply COPY             bring a copy up to date with that\n"
+          "  bhtf show CHANGES [COPY]    say what that changes\n"
+          "  bhtf copy FILE NEW          make a copy with the same bytes\n"
+          "  bhtf sum FILE..             print a short sum to compare by voice\n"
           "  bhtf diff OLD NEW           say what became of the points\n"
           "  bhtf plot FILE              print a plan as SVG\n"
           "  bhtf figure FILE --station E,N NAME..\n"
