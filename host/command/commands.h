@@ -124,6 +124,7 @@ int run_diff(const struct options *o);
 int run_plot(const struct options *o);
 int run_figure(const struct options *o);
 int run_scramble(const struct options *o);
+int run_take_out(const struct options *o);
 int run_sum(const struct options *o);
 int run_copy(const struct options *o);
 int run_show(const struct options *o);

@@ -1,6 +1,8 @@
 /* What the formats of other programs have in common. */
 #include "foreign.h"
 
+#include "selection.h"
+
 #include <errno.h>
 #include <string.h>
 
@@ -14,6 +16,24 @@ void say_loss(const char *file, size_t count, const char *what,
 
 /* ---- in ---- */
 
+/* A name as import reads it: there a backslash is written as \x5C, so that one
+ * of another program stays what it is. */
+static int put_name(struct buffer *csv, struct piece name)
+{
+    struct buffer typed = { NULL, 0, 0 };
+    struct piece piece;
+    int done = 0;
+
+    for (size_t i = 0; i < name.length; i++)
+        done |= name.bytes[i] == '\\' ? put_escape(&typed, name.bytes[i])
+                                      : buffer_put_byte(&typed, name.bytes[i]);
+    piece.bytes = typed.bytes;
+    piece.length = typed.length;
+    done |= csv_put(csv, piece);
+    buffer_free(&typed);
+    return done;
+}
+
 int arrive(struct arrivals *a, unsigned long line, struct piece name,
            const struct piece fields[POINT_FIELDS])
 {
@@ -21,7 +41,7 @@ int arrive(struct arrivals *a, unsigned long line, struct piece name,
 
     for (; a->line < line; a->line++)
         done |= buffer_put_byte(&a->csv, '\n');
-    done |= csv_put(&a->csv, name);
+    done |= put_name(&a->csv, name);
     for (int i = 0; i < POINT_FIELDS; i++) {
         done |= buffer_put_byte(&a->csv, ',');
         done |= csv_put(&a->csv, fields[i]);
@@ -71,19 +91,28 @@ int foreign_read(struct arrivals *a, FILE *from, const struct options *o)
 
 /* ---- out ---- */
 
-static int write_site(struct site *s, const struct options *o)
+/* What is left out for want of coordinates is told; GSI alone has room for a
+ * height without a place. */
+static int write_site(struct site *s, const struct options *o, int by_name)
 {
-    int left_out = site_say_left_out(s, o->word[0], NULL);
-    int status;
+    const char *level = o->given & OPTION_GSI ? NULL
+                                              : "a height alone has no place "
+                                                "there";
+    int missing = site_select(s, o, 1), left_out, status;
 
-    site_sort(s);
+    if (missing == TROUBLE)
+        return missing;
+    left_out = site_say_left_out(s, o->word[0], level);
+    if (by_name)
+        site_sort(s);
     if (o->given & OPTION_GSI)
         status = gsi_write(s, o);
     else if (o->given & OPTION_LANDXML)
         status = landxml_write(s, o);
     else
         status = dxf_write(s, o);
-    return status == DONE ? finish_output(left_out) : status;
+    status = status > left_out ? status : left_out;
+    return finish_output(status > missing ? status : missing);
 }
 
 /* Is more than one of these bits set? */
@@ -96,15 +125,17 @@ static int several(uint64_t given)
 int export_foreign(const struct options *o)
 {
     struct site s;
-    int status;
+    int by_name, status;
 
+    if (order_read(o, 1, &by_name) != DONE)
+        return TROUBLE;
     if (several(o->given)) {
         complain("export: --crlf, --gsi, --landxml or --dxf, one of them");
         return TROUBLE;
     }
     status = site_open(&s, o->word[0], (unsigned)o->wait);
     if (status == DONE)
-        status = write_site(&s, o);
+        status = write_site(&s, o, by_name);
     site_close(&s);
     return status;
 }

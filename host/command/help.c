@@ -76,11 +76,13 @@ static const struct command commands[] = {
       "bhtf withdraw FILE NAME [--slots] [--delta FILE]\n"
       "Takes a point's text away; the point stays, without a text.\n"
       SLOTS_READ DELTA NO_SYNC WAITING NAMES },
-    { "delete", OPTION_SLOTS_READ | OPTION_DELTA | OPTION_NO_SYNC, 2, 2,
-      run_delete,
+    { "delete", OPTION_SLOTS_READ | OPTION_DELTA | OPTION_NO_SYNC |
+                OPTION_DRY_RUN, 2, ANY_NUMBER, run_take_out,
       "bhtf delete FILE NAME [--slots] [--delta FILE]\n"
-      "Takes a point out.\n"
-      SLOTS_READ DELTA NO_SYNC WAITING NAMES },
+      "bhtf delete FILE PATTERN.. [--dry-run] [--delta FILE]\n"
+      "Takes points out: all that are named, as one change, or none.\n"
+      "  -n, --dry-run      change nothing; print the names\n"
+      SLOTS_READ DELTA NO_SYNC QUIET WAITING NAMES PATTERNS },
     { "get", OPTION_TSV | OPTION_JSON | OPTION_SLOTS_READ, 2, ANY_NUMBER,
       run_get,
       "bhtf get FILE NAME.. [--tsv | --json] [--slots]\n"
@@ -105,9 +107,7 @@ static const struct command commands[] = {
       "Prints the names, one a line, in the order of their slots: without "
       "their\n"
       "padding; bytes that do not print, the backslash, and blanks at either\n"
-      "end as \\xHH. With patterns, the names that match one of them: * stands "
-      "for\n"
-      "anything, ? for one character, [..] for one of several.\n"
+      "end as \\xHH. With patterns, the names that match one of them.\n"
       "  -b, --by ORDER     name, in the order of the names' bytes; or slot\n"
       "  -l, --long         slot and length of the text in front of each; - if\n"
       "                     there is no text\n"
@@ -117,14 +117,16 @@ static const struct command commands[] = {
       "note\n"
       "                     if there is no text\n"
       "      --json         the same, an object a line\n"
-      WAITING },
+      WAITING PATTERNS },
     { "check", 0, 1, 1, run_check,
       "bhtf check FILE\n"
       "Says whether the file is sound: status 0 if so, 1 if not. If so it says "
       "the\n"
-      "number of points, the version and how many bytes are dead; if not, "
-      "where,\n"
-      "which two points share bytes, and what to do about that.\n"
+      "number of points, the version, how many bytes are dead and the sum; if "
+      "not,\n"
+      "where, which two points share bytes, and what to do about that. Sound "
+      "does not\n"
+      "mean right: a digit changed in a text is not seen.\n"
       QUIET WAITING },
     { "compact", OPTION_DRY_RUN | OPTION_DELTA | OPTION_NO_SYNC, 1, 1,
       run_compact,
@@ -181,19 +183,23 @@ static const struct command commands[] = {
       "      --gsi          CSV is a Leica GSI-16 file\n"
       "      --landxml      CSV is a LandXML file; its CgPoints are read\n"
       DELTA NO_SYNC QUIET WAITING NAMES },
-    { "export", OPTION_CRLF | OPTION_GSI | OPTION_LANDXML | OPTION_DXF, 1, 1,
-      run_export,
-      "bhtf export FILE [--crlf | --gsi | --landxml | --dxf]\n"
+    { "export", OPTION_CRLF | OPTION_GSI | OPTION_LANDXML | OPTION_DXF |
+                OPTION_BY, 1, ANY_NUMBER, run_export,
+      "bhtf export FILE [PATTERN..] [--by ORDER] [--crlf | --gsi | --landxml | "
+      "--dxf]\n"
       "Prints the points as import reads them, with a heading. Texts that are "
       "not\n"
       "easting,northing,height,note stand in a column text; an empty text is a "
       "yes\n"
-      "in a column empty.\n"
+      "in a column empty. Status 1 if a point with coordinates is left out.\n"
+      "  -b, --by ORDER     name or slot; unless given, CSV by slot and the "
+      "others by\n"
+      "                     name\n"
       "      --crlf         end lines with carriage return and line feed\n"
       "      --gsi          as Leica GSI-16\n"
       "      --landxml      as CgPoints of LandXML 1.2\n"
       "      --dxf          as points and names of DXF, release 12\n"
-      QUIET WAITING },
+      QUIET WAITING PATTERNS },
     { "dump", 0, 1, 1, run_dump,
       "bhtf dump FILE\n"
       "Prints all of a file as text, a line for each point in the order of "
@@ -267,11 +273,13 @@ static const struct command commands[] = {
       "[--svg]\n"
       "Says how well directions from a station at easting E and northing N to\n"
       "the named points would determine it: good (status 0), weak or not\n"
-      "determined (status 1), and why. Geometry alone is judged.\n"
+      "determined (status 1), and why; status 2 if that cannot be told. "
+      "Geometry alone\n"
+      "is judged.\n"
       "  -s, --station E,N  where the station is, or will be, in metres\n"
       "      --sigma MGON   standard deviation of a direction; 1 unless given\n"
       "      --svg          print a picture instead of words\n"
-      WAITING NAMES },
+      WAITING NAMES PATTERNS },
     { "sum", OPTION_LONG, 1, ANY_NUMBER, run_sum,
       "bhtf sum FILE..\n"
       "Prints a short sum of each file's bytes, as 7f3a-91c2, which office and "

@@ -221,11 +221,16 @@ static void XMLCALL end(void *user, const char *name)
     x->depth--;
 }
 
-static void say_rest(const struct landxml *x)
+/* What -q does not silence. */
+static void warn(const struct landxml *x)
 {
     if (!x->units)
         complain("%s: warning: the file does not say its units; metres are "
                  "taken", x->a->input);
+}
+
+static void say_rest(const struct landxml *x)
+{
     say_loss(x->a->input, x->references, "CgPoint", "that refers to another "
                                                     "point left out");
     for (size_t i = 0; i < x->other_count; i++)
@@ -256,6 +261,8 @@ int landxml_read(struct arrivals *a, struct piece file, int quiet)
         return out_of_memory();
     parse(&x, file);
     XML_ParserFree(x.parser);
+    if (x.status == DONE)
+        warn(&x);
     if (x.status == DONE && !quiet)
         say_rest(&x);
     buffer_free(&x.name);
@@ -306,15 +313,14 @@ static void put_place(const struct piece fields[POINT_FIELDS])
     }
 }
 
-static int put_spot(const struct spot *s, struct buffer *shown,
-                    struct record *r, size_t *lost)
+/* A name is written with its own characters, or its point is left out. */
+static int put_spot(const struct spot *s, struct record *r, size_t *lost)
 {
-    struct piece fields[POINT_FIELDS], name;
+    const struct piece name = { s->name, s->name_length };
+    struct piece fields[POINT_FIELDS];
 
-    if (spot_show(shown, s) != 0 || !point_take(r, s->text, fields))
+    if (!point_take(r, s->text, fields))
         return out_of_memory();
-    name.bytes = shown->bytes;
-    name.length = shown->length - 1;
     fputs("<CgPoint", stdout);
     put_attribute("name", name, lost);
     if (fields[NOTE].length > 0)
@@ -327,21 +333,28 @@ static int put_spot(const struct spot *s, struct buffer *shown,
 
 int landxml_write(const struct site *s, const struct options *o)
 {
-    struct buffer shown = { NULL, 0, 0 };
     struct record record;
-    size_t lost = 0;
+    size_t lost = 0, unnamed = 0;
     int status = DONE;
 
     memset(&record, 0, sizeof record);
     put_head(o->word[0]);
-    for (size_t i = 0; i < s->count && status == DONE; i++)
-        if (s->spots[i].kind == SPOT_PLACED)
-            status = put_spot(&s->spots[i], &shown, &record, &lost);
+    for (size_t i = 0; i < s->count && status == DONE; i++) {
+        const struct spot *spot = &s->spots[i];
+
+        if (spot->kind != SPOT_PLACED)
+            continue;
+        if (xml_holds((const char *)spot->name, spot->name_length))
+            status = put_spot(spot, &record, &lost);
+        else
+            unnamed++;
+    }
     fputs("</CgPoints>\n</LandXML>\n", stdout);
-    buffer_free(&shown);
     buffer_free(&record.bytes);
+    say_loss(o->word[0], unnamed, "point", "left out: the name has characters "
+                                           "that XML cannot hold");
     if (!o->quiet)
         say_loss(o->word[0], lost, "note", "with characters that XML cannot "
                                            "hold, put as U+FFFD");
-    return status;
+    return status == DONE && unnamed > 0 ? REFUSED : status;
 }

@@ -143,6 +143,20 @@ size_t xml_put(FILE *to, const char *bytes, size_t length)
     return replaced;
 }
 
+int xml_holds(const char *bytes, size_t length)
+{
+    while (length > 0) {
+        uint32_t c;
+        size_t used = utf8_read((const uint8_t *)bytes, length, &c);
+
+        if (used == 0 || !is_xml(c))
+            return 0;
+        bytes += used;
+        length -= used;
+    }
+    return 1;
+}
+
 void svg_text(double x, double y, double size, const char *anchor,
               const char *text)
 {

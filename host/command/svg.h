@@ -53,6 +53,9 @@ double sheet_bar_end(const struct sheet *s);
 /* Bytes as XML text. What XML cannot hold becomes U+FFFD; answers how many. */
 size_t xml_put(FILE *to, const char *bytes, size_t length);
 
+/* Can XML hold these bytes as they are? */
+int xml_holds(const char *bytes, size_t length);
+
 /* A line of text; anchor is start, middle or end. */
 void svg_text(double x, double y, double size, const char *anchor,
               const char *text);
