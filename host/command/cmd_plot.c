@@ -236,7 +236,7 @@ static int place_names(struct plan *p)
 
     lay_labels(p);
     p->unnamed = labels_place(p->labels, p->count, &area, NAME_SIZE, MARK_SIZE,
-                              p->count <= 1000 ? 70 : 12);
+                              p->count <= 1000 ? 70 : 12, NULL);
     return p->unnamed < 0 ? out_of_memory() : DONE;
 }
 

@@ -183,9 +183,10 @@ static int print_figures(const struct buffer *copy)
     printf("load: %lu points in %lu slots, %.1f %%\n",
            (unsigned long)f.points, (unsigned long)h.slots,
            100.0 * f.points / h.slots);
-    printf("texts: %lu, of which %lu are empty; %lu points have none\n",
+    printf("texts: %lu, of which %lu %s empty; %lu %s none\n",
            (unsigned long)f.space.texts, (unsigned long)f.space.empty,
-           (unsigned long)f.space.bare);
+           f.space.empty == 1 ? "is" : "are", (unsigned long)f.space.bare,
+           f.space.bare == 1 ? "point has" : "points have");
     print_space(&f, &h, copy->length);
     print_searches(&f);
     print_misses(&f, h.slots);

@@ -14,10 +14,27 @@
 
 /* ---- shared by the commands ---- */
 
+/* Is this some other file? What cannot be read is not known to be. */
+static int is_foreign(const char *path)
+{
+    char head[4] = "BHTF";
+    FILE *file = fopen(path, "r");
+    size_t got;
+
+    if (file == NULL)
+        return 0;
+    got = fread(head, 1, sizeof head, file);
+    fclose(file);
+    return got < sizeof head || memcmp(head, "BHTF", sizeof head) != 0;
+}
+
 int refuse(const char *file, uint32_t number)
 {
-    complain("%s: refused (%lu): %s", file, (unsigned long)number,
-             bhtf_message(number));
+    complain("%s: refused (%lu): %s%s", file, (unsigned long)number,
+             bhtf_message(number),
+             number == BHTF_BAD_LENGTH && is_foreign(file)
+                 ? " This is no control point file: it does not begin with "
+                   "BHTF." : "");
     return REFUSED;
 }
 

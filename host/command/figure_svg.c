@@ -41,18 +41,28 @@ static void draw_rays(const struct sheet *s, const struct resection *r)
 /* Circles that are far larger than the map are left to the numbers: browsers
  * draw them badly. Of more than three points, the nearest always passes
  * through the station: it is shown where it explains a weakness. */
-static void draw_circle(const struct sheet *s, const struct resection *r)
+static int lay_circle(struct ring *ring, const struct sheet *s,
+                      const struct resection *r)
 {
     const struct circle *c = &r->figure.circle;
-    double radius = c->radius * 1000 / s->scale;
 
-    if (!is_measured(r) || !r->figure.has_circle || radius > 20000 ||
-        (r->count > 3 && r->figure.verdict == GOOD))
+    ring->x = sheet_x(s, c->centre.east);
+    ring->y = sheet_y(s, c->centre.north);
+    ring->radius = c->radius * 1000 / s->scale;
+    return is_measured(r) && r->figure.has_circle && ring->radius <= 20000 &&
+           (r->count <= 3 || r->figure.verdict != GOOD);
+}
+
+static void draw_circle(const struct sheet *s, const struct resection *r)
+{
+    struct ring ring;
+
+    if (!lay_circle(&ring, s, r))
         return;
     printf("<circle id=\"circle\" cx=\"%.3f\" cy=\"%.3f\" r=\"%.3f\" "
            "fill=\"none\" stroke=\"#b3261e\" stroke-width=\".5\" "
            "stroke-dasharray=\"2.4 1.4\" clip-path=\"url(#map)\"/>\n",
-           sheet_x(s, c->centre.east), sheet_y(s, c->centre.north), radius);
+           ring.x, ring.y, ring.radius);
 }
 
 /* The round factor that makes the ellipse's long axis 5 to 12.5 mm; 0 if it
@@ -107,11 +117,13 @@ static void draw_names(const struct resection *r, const struct label *labels)
     fputs("</g>\n", stdout);
 }
 
-/* Names stand clear of each other and of the rays. */
+/* Names stand clear of each other, of the rays and of the circle. */
 static int lay_names(struct label *labels, const struct sheet *s,
                      const struct resection *r)
 {
     struct area area = { s->left + 1, s->top + 1, s->right - 1, s->bottom - 1 };
+    struct ring ring;
+    int circle = lay_circle(&ring, s, r);
 
     for (size_t i = 0; i < r->count; i++) {
         labels[i].x = sheet_x(s, r->points[i].east);
@@ -120,8 +132,8 @@ static int lay_names(struct label *labels, const struct sheet *s,
         labels[i].tip_y = sheet_y(s, r->station.north);
         labels[i].width = text_width(r->names[i], name_size);
     }
-    return labels_place(labels, r->count, &area, name_size, 1.7, 70) < 0 ? -1
-                                                                         : 0;
+    return labels_place(labels, r->count, &area, name_size, 1.7, 70,
+                        circle ? &ring : NULL) < 0 ? -1 : 0;
 }
 
 static void draw_legend(const struct sheet *s)

@@ -259,6 +259,18 @@ static void take_marks(struct raster *r, const struct label *labels,
     }
 }
 
+static void take_ring(struct raster *r, const struct ring *ring)
+{
+    long steps = ring == NULL ? 0 : (long)ceil(2 * PI * ring->radius / 0.5);
+
+    for (long i = 0; i < steps; i++) {
+        double angle = 2 * PI * (double)i / (double)steps;
+
+        take_square(r, ring->x + ring->radius * cos(angle),
+                    ring->y + ring->radius * sin(angle), 0.5);
+    }
+}
+
 static long place_all(struct raster *r, const struct squares *q,
                       struct label *labels, size_t count, double height,
                       double mark, double reach)
@@ -278,15 +290,18 @@ static long place_all(struct raster *r, const struct squares *q,
 }
 
 long labels_place(struct label *labels, size_t count, const struct area *area,
-                  double height, double mark, double reach)
+                  double height, double mark, double reach,
+                  const struct ring *ring)
 {
     struct raster r = { NULL, 0, 0, NULL };
     struct squares q = { NULL, NULL, NULL, NULL, 0, 0 };
     long missing = -1;
 
     if (raster_make(&r, area) == 0 &&
-        squares_make(&q, labels, count, area) == 0)
+        squares_make(&q, labels, count, area) == 0) {
+        take_ring(&r, ring);
         missing = place_all(&r, &q, labels, count, height, mark, reach);
+    }
     squares_free(&q);
     free(r.taken);
     return missing;
