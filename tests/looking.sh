@@ -417,11 +417,11 @@ test_that "words of 24 characters" awk '{ sub(/\r$/, ""); if (substr($0, 1, 1) !
 block='*110001+0000000000CP-102 81..10+0000004482187950 82..10+0000005351861337 83..10+0000000000489644 '
 test_that "a block as it is described" equal "$block" "$(head -n 1 g.gsi | tr -d '\r')"
 test_that "a unit for five decimals" grep -q '81\.\.18+0000000000000001 82\.\.18+0000000123456789 ' g.gsi
-test_that "long notes are cut, and that is said" gives 0 'notes cut to 16 ASCII' bhtf export a --gsi
+test_that "long notes are cut, and that is said" gives 3 'notes cut to 16 ASCII' bhtf export a --gsi
 printf '%s\n' '0012,1,2,3,' 'a name of more than 16,1,2,,' 'six,1.000001,2,3,' 'äж,1,2,,' | site loss -k 32
-test_that "zeros in front are said" gives 1 '1 name with zeros in front' bhtf export loss --gsi
-test_that "names without a place are said" gives 1 '2 points left out: GSI-16 has names' bhtf export loss --gsi
-test_that "rounding is said" gives 1 '1 point rounded to 0.01 mm' bhtf export loss --gsi
+test_that "zeros in front are said" gives 3 '1 name with zeros in front' bhtf export loss --gsi
+test_that "names without a place are said" gives 3 '2 points left out: GSI-16 has names' bhtf export loss --gsi
+test_that "rounding is said" gives 3 '1 point rounded to 0.01 mm' bhtf export loss --gsi
 bhtf create slash
 bhtf add slash 'a\x5Cx41b' 1,2,3,
 bhtf add slash ' b\xFE' 1,2,3,

@@ -259,6 +259,7 @@ int site_say_left_out(const struct site *s, const char *file,
     say_kind(file, s->kinds[SPOT_DAMAGED], "damaged");
     if (level != NULL)
         say_kind(file, s->kinds[SPOT_LEVEL], level);
-    return s->kinds[SPOT_DAMAGED] > 0 ||
-           (level != NULL && s->kinds[SPOT_LEVEL] > 0) ? REFUSED : DONE;
+    if (s->kinds[SPOT_DAMAGED] > 0)
+        return REFUSED;
+    return level != NULL && s->kinds[SPOT_LEVEL] > 0 ? PARTIAL : DONE;
 }

@@ -106,7 +106,7 @@ struct move spot_move(const struct spot *old, const struct spot *now);
 
 /* Says how many points were left out for want of coordinates, and why; also
  * how many have a height alone if `level` says why these are left out. REFUSED
- * if one is damaged, or has coordinates and is left out. */
+ * if one is damaged, else PARTIAL if one has a height and is left out. */
 int site_say_left_out(const struct site *s, const char *file,
                       const char *level);
 

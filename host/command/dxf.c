@@ -184,10 +184,10 @@ int dxf_write(const struct site *s, const struct options *o)
     }
     put_word(0, "ENDSEC");
     put_word(0, "EOF");
-    if (o->quiet)
-        return DONE;
-    say_loss(o->word[0], flat, "point", "without a height put at height 0");
+    if (!o->quiet)
+        say_loss(o->word[0], flat, "point", "without a height put at height "
+                                            "0");
     say_loss(o->word[0], changed, "name", "with characters that DXF cannot "
                                           "hold, put as ?");
-    return DONE;
+    return changed > 0 ? PARTIAL : DONE;
 }

@@ -91,6 +91,17 @@ int foreign_read(struct arrivals *a, FILE *from, const struct options *o)
 
 /* ---- out ---- */
 
+/* Which of three is told by the status: trouble, a point that is damaged or not
+ * there, and then what was left out or cut. */
+static int worst_of(int a, int b, int c)
+{
+    if (a == TROUBLE || b == TROUBLE || c == TROUBLE)
+        return TROUBLE;
+    if (a == REFUSED || b == REFUSED || c == REFUSED)
+        return REFUSED;
+    return a == PARTIAL || b == PARTIAL || c == PARTIAL ? PARTIAL : DONE;
+}
+
 /* What is left out for want of coordinates is told; GSI alone has room for a
  * height without a place. */
 static int write_site(struct site *s, const struct options *o, int by_name)
@@ -111,8 +122,7 @@ static int write_site(struct site *s, const struct options *o, int by_name)
         status = landxml_write(s, o);
     else
         status = dxf_write(s, o);
-    status = status > left_out ? status : left_out;
-    return finish_output(status > missing ? status : missing);
+    return finish_output(worst_of(status, left_out, missing));
 }
 
 /* Is more than one of these bits set? */

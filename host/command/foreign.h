@@ -32,9 +32,9 @@ int foreign_read(struct arrivals *a, FILE *from, const struct options *o);
 /* Do import's options go together? DONE, or TROUBLE after a complaint. */
 int foreign_options(const struct options *o);
 
-/* Prints a site's points, and says what is not carried over: points that have
- * coordinates and are left out always, the rest unless quiet. DONE, REFUSED if
- * there are such points, or TROUBLE after a complaint. */
+/* Prints a site's points, and says what is not carried over. DONE, PARTIAL if
+ * points, names or notes are not in it as they are, or TROUBLE after a
+ * complaint. */
 int gsi_write(const struct site *s, const struct options *o);
 int landxml_write(const struct site *s, const struct options *o);
 int dxf_write(const struct site *s, const struct options *o);

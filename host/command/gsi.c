@@ -479,22 +479,25 @@ static int put_block_of(const struct number *n, struct record *r,
     return 0;
 }
 
-static void say_losses(const struct losses *l, const struct options *o)
+static void say_losses(const struct losses *l, const char *file)
 {
-    const char *file = o->word[0];
-
     say_loss(file, l->names, "point", "left out: GSI-16 has names of 1 to 16 "
                                       "ASCII characters");
     say_loss(file, l->twins, "point", "left out: in GSI another point would "
                                       "have the same number");
-    if (o->quiet)
-        return;
     say_loss(file, l->spelt, "name", "spelt with ae, oe, ue or ss");
     say_loss(file, l->zeros, "name", "with zeros in front, which GSI loses");
     say_loss(file, l->note_zeros, "note", "with zeros in front, which GSI "
                                           "loses");
     say_loss(file, l->notes, "note", "cut to 16 ASCII characters");
     say_loss(file, l->decimals, "point", "rounded to 0.01 mm");
+}
+
+/* Points are missed, or names and notes are not what they were. */
+static int has_losses(const struct losses *l)
+{
+    return l->names + l->twins + l->spelt + l->zeros + l->note_zeros +
+           l->notes > 0;
 }
 
 static int put_blocks(const struct number *all, size_t count,
@@ -540,6 +543,6 @@ int gsi_write(const struct site *s, const struct options *o)
     free(all);
     if (done != 0)
         return out_of_memory();
-    say_losses(&losses, o);
-    return losses.names + losses.twins > 0 ? REFUSED : DONE;
+    say_losses(&losses, o->word[0]);
+    return has_losses(&losses) ? PARTIAL : DONE;
 }

@@ -191,7 +191,7 @@ static const struct command commands[] = {
       "not\n"
       "easting,northing,height,note stand in a column text; an empty text is a "
       "yes\n"
-      "in a column empty. Status 1 if a point with coordinates is left out.\n"
+      "in a column empty. Status 3 if something is left out or cut.\n"
       "  -b, --by ORDER     name or slot; unless given, CSV by slot and the "
       "others by\n"
       "                     name\n"

@@ -353,8 +353,7 @@ int landxml_write(const struct site *s, const struct options *o)
     buffer_free(&record.bytes);
     say_loss(o->word[0], unnamed, "point", "left out: the name has characters "
                                            "that XML cannot hold");
-    if (!o->quiet)
-        say_loss(o->word[0], lost, "note", "with characters that XML cannot "
-                                           "hold, put as U+FFFD");
-    return status == DONE && unnamed > 0 ? REFUSED : status;
+    say_loss(o->word[0], lost, "note", "with characters that XML cannot hold, "
+                                       "put as U+FFFD");
+    return status == DONE && unnamed + lost > 0 ? PARTIAL : status;
 }
