@@ -160,7 +160,7 @@ for command in create add withdraw delete get count list check compact book stat
   gives "$command --help" 0 "^bhtf $command FILE" bhtf $command --help
   gives "$command without arguments" 2 'too few arguments' bhtf $command
   gives "$command with an unknown option" 2 'unknown option --frob' bhtf $command x --frob
-  [[ $command =~ ^(get|list)$ ]] || # these take any number
+  [[ $command =~ ^(get|list|delete|export)$ ]] || # these take any number
     gives "$command with too many arguments" 2 'too many' bhtf $command a b c d
 done
 gives "an option of another command" 2 'unknown option --slots' bhtf count x --slots 4

@@ -186,7 +186,7 @@ told() {
   python3 "$root/tests/office/circles.py" "$seed" "$1" >circle
   grep -v '^station' circle | site circles
   read -r _ at bound < <(grep '^station' circle)
-  bhtf figure circles --station "$at" 'P?' >said 2>&1
+  bhtf figure circles --station "$at" P0 P1 P2 P3 P4 P5 >said 2>&1
   off=$(sed -n 's/^circle .* by \([0-9.]*\) m .*/\1/p' said)
   awk -v o="${off:-999}" -v b="$bound" 'BEGIN { exit !(o <= 1.5 * b + 0.001) }' && return 0
   echo "  figure $1: $off, and $bound is known"
