@@ -388,6 +388,9 @@ printf '%s\n' 'A,100,200,,' 'B,103,200,,' 'C,103,201.5,,' | site small
 test_that "the scale that is drawn is printed" sh -c 'bhtf plot small --paper A4 | grep -q ">3 points, 1 : 12\.5 on A4"'
 printf '%s\n' 'A,0,0,,' 'B,1000000000,0,,' | site large
 test_that "numbers of the bar are written out" sh -c '! bhtf plot large | grep -qE ">[0-9.]+e\+"'
+printf '%s\n' 'A,0,0,,' 'B,10,0,,' 'C,0,10,,' 'D,10,10,,' 'WRONG,40000000,0,,' | site outlier
+test_that "a point that makes the plan small is named" gives 0 'warning: WRONG is 39999\.[0-9]* km|warning: WRONG is 40000\.[0-9]* km' \
+  sh -c 'bhtf plot outlier >/dev/null'
 # Four rings of 72 points, as prisms in a bowl.
 awk 'BEGIN { pi = atan2(0, -1); for (r = 1; r <= 4; r++) for (i = 1; i <= 72; i++)
   printf "R%d-%03d,%.3f,%.3f,,\n", r, i, 4482200 + (78 + r * 12) * sin(2 * pi * i / 72), 5351800 + (78 + r * 12) * cos(2 * pi * i / 72) }' | site rings

@@ -52,32 +52,32 @@ static int read_question(struct resection *r)
     return DONE;
 }
 
-/* Has a point of this name been taken? */
-static int is_taken(const struct resection *r, const char *shown)
+static uint8_t *taken(const struct resection *r, const struct spot *s)
 {
-    for (size_t i = 0; i < r->count; i++)
-        if (strcmp(r->names[i], shown) == 0)
-            return 1;
-    return 0;
+    return &r->taken[s - r->site.spots];
 }
 
-/* Aims at a point: 0, or -1 for no memory. */
+/* Aims at a point: DONE, or TROUBLE after a complaint. */
 static int aim_at(struct resection *r, const struct spot *s)
 {
     struct buffer shown = { NULL, 0, 0 };
 
+    if (r->count == DIRECTIONS_MOST) {
+        complain("figure: %d points at most", DIRECTIONS_MOST);
+        return TROUBLE;
+    }
     if (spot_show(&shown, s) != 0) {
         buffer_free(&shown);
-        return -1;
+        return out_of_memory();
     }
+    *taken(r, s) = 1;
     r->points[r->count] = s->at;
     r->names[r->count++] = (char *)shown.bytes;
-    return 0;
+    return DONE;
 }
 
 /* Why a point cannot be aimed at; NULL if it can. */
-static const char *why_not(const struct resection *r, const struct spot *s,
-                           const char *shown)
+static const char *why_not(const struct resection *r, const struct spot *s)
 {
     if (s == NULL)
         return "there is no point of that name";
@@ -85,20 +85,20 @@ static const char *why_not(const struct resection *r, const struct spot *s,
         return "the point has a height alone";
     if (s->kind != SPOT_PLACED)
         return "the point's text is not coordinates";
-    return is_taken(r, shown) ? "the point is named twice" : NULL;
+    return *taken(r, s) ? "the point is named twice" : NULL;
 }
 
 /* Takes the point that a word names: DONE, or TROUBLE after a complaint. */
 static int take_name(struct resection *r, const struct spot *s,
                      const struct buffer *shown)
 {
-    const char *why = why_not(r, s, (const char *)shown->bytes);
+    const char *why = why_not(r, s);
 
     if (why != NULL) {
         complain("%s: %s: %s", r->o->word[0], (const char *)shown->bytes, why);
         return TROUBLE;
     }
-    return aim_at(r, s) == 0 ? DONE : out_of_memory();
+    return aim_at(r, s);
 }
 
 /* Takes the points whose names a pattern matches, less those that were taken
@@ -106,29 +106,24 @@ static int take_name(struct resection *r, const struct spot *s,
 static int take_matching(struct resection *r, const struct pattern *p,
                          const char *typed)
 {
-    struct buffer shown = { NULL, 0, 0 };
-    size_t before = r->count, placeless = 0;
-    int done = 0;
+    size_t matched = 0, placeless = 0;
+    int status = DONE;
 
-    for (size_t i = 0; i < r->site.count && done == 0; i++) {
+    for (size_t i = 0; i < r->site.count && status == DONE; i++) {
         const struct spot *s = &r->site.spots[i];
 
         if (!pattern_matches(p, s->name, s->name_length))
             continue;
+        matched++;
         placeless += s->kind != SPOT_PLACED;
-        done = spot_show(&shown, s);
-        if (done == 0 && s->kind == SPOT_PLACED &&
-            !is_taken(r, (const char *)shown.bytes))
-            done = aim_at(r, s);
+        if (s->kind == SPOT_PLACED && !*taken(r, s))
+            status = aim_at(r, s);
     }
-    buffer_free(&shown);
-    if (done != 0)
-        return out_of_memory();
     if (placeless > 0)
         complain("%s: %s: %lu without a place passed over", r->o->word[0],
                  typed, (unsigned long)placeless);
-    if (r->count > before)
-        return DONE;
+    if (status != DONE || matched > placeless)
+        return status;
     complain("%s: no name matches %s", r->o->word[0], typed);
     return TROUBLE;
 }
@@ -167,7 +162,9 @@ static int take_sights(struct resection *r)
     r->names = calloc(most, sizeof *r->names);
     r->points = calloc(most, sizeof *r->points);
     r->rays = calloc(most, sizeof *r->rays);
-    if (r->names == NULL || r->points == NULL || r->rays == NULL)
+    r->taken = calloc(most, 1);
+    if (r->names == NULL || r->points == NULL || r->rays == NULL ||
+        r->taken == NULL)
         return out_of_memory();
     site_sort(&r->site);
     for (int i = 1; i < r->o->words && status == DONE; i++)
@@ -455,6 +452,7 @@ static void resection_free(struct resection *r)
     free(r->names);
     free(r->points);
     free(r->rays);
+    free(r->taken);
     site_close(&r->site);
 }
 

@@ -285,6 +285,62 @@ static void say_unnamed(const struct plan *p)
                  p->unnamed == 1 ? "name has" : "names have");
 }
 
+static int by_number(const void *a, const void *b)
+{
+    double left = *(const double *)a, right = *(const double *)b;
+
+    return left < right ? -1 : left > right;
+}
+
+static double median_of(double *numbers, size_t count)
+{
+    qsort(numbers, count, sizeof *numbers, by_number);
+    return numbers[count / 2];
+}
+
+/* The middle of the points, and how far off half of them are; `room` has room
+ * for as many numbers. */
+static double spread_of(const struct plan *p, struct at *middle, double *room)
+{
+    for (size_t i = 0; i < p->count; i++)
+        room[i] = p->marks[i].at.east;
+    middle->east = median_of(room, p->count);
+    for (size_t i = 0; i < p->count; i++)
+        room[i] = p->marks[i].at.north;
+    middle->north = median_of(room, p->count);
+    for (size_t i = 0; i < p->count; i++)
+        room[i] = hypot(p->marks[i].at.east - middle->east,
+                        p->marks[i].at.north - middle->north);
+    return median_of(room, p->count);
+}
+
+/* Names the farthest point if it is so far off that the others are drawn small
+ * for it: 0, or -1 for no memory. */
+static int warn_of_far(const struct plan *p)
+{
+    double *room = calloc(p->count, sizeof *room);
+    double spread, far = 0;
+    struct at middle;
+    size_t which = 0;
+
+    if (room == NULL)
+        return -1;
+    spread = spread_of(p, &middle, room);
+    for (size_t i = 0; i < p->count; i++) {
+        double away = hypot(p->marks[i].at.east - middle.east,
+                            p->marks[i].at.north - middle.north);
+
+        which = away > far ? i : which;
+        far = fmax(far, away);
+    }
+    free(room);
+    if (far > 20 * spread && far > 1000)
+        complain("%s: warning: %s is %.3f km from the middle of the points, "
+                 "which are drawn small for it", p->o->word[0],
+                 p->marks[which].text, far / 1000);
+    return 0;
+}
+
 /* Of both files: what is not on the plan has its words. */
 static int say_left_out(const struct plan *p)
 {
@@ -316,7 +372,7 @@ static int make_plan(struct plan *p)
         complain("%s: there is no point with coordinates", p->o->word[0]);
         return REFUSED;
     }
-    status = choose_paper(p);
+    status = warn_of_far(p) == 0 ? choose_paper(p) : out_of_memory();
     if (status != DONE)
         return status;
     say_unnamed(p);

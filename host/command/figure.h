@@ -18,8 +18,12 @@ struct resection {
     struct at *points;
     struct ray *rays;
     size_t count;
+    uint8_t *taken;    /* of each point of the site: is it one of these? */
     struct figure figure;
 };
+
+/* No figure has more directions. */
+#define DIRECTIONS_MOST 1000
 
 /* Millimetres of an axis at the given accuracy of a direction. */
 double axis_mm(const struct resection *r, double axis);
