@@ -16,9 +16,8 @@
 #define WAIT_USUAL 10u
 #define WAIT_MAX 86400u
 
-/* Points that an import reads, and then stores in one go. */
-#define BATCH_POINTS 256u
-#define BATCH_BYTES (1u << 20)
+/* No input of points is longer, in bytes. */
+#define INPUT_MOST ((size_t)1 << 31)
 
 /* Bytes in the longest record of a CSV file, which may say a text twice, and
  * the fields of one that are kept. */

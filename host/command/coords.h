@@ -55,6 +55,9 @@ int site_open(struct site *s, const char *file, unsigned wait);
 /* The same without their texts, which need not be searched then. */
 int site_open_names(struct site *s, const char *file, unsigned wait);
 
+/* All points of an image, which is copied; none if it is refused. */
+int site_of(struct site *s, const uint8_t *image, size_t length);
+
 void site_close(struct site *s);
 
 /* Puts the points in the order of their names' bytes. */
