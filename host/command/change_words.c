@@ -26,11 +26,14 @@ struct parts {
 
 static void parts_of(struct parts *p, const struct piece *text)
 {
+    const struct piece none = { (const uint8_t *)"", 0 };
+    struct piece fields[POINT_FIELDS] = { none, none, none, none };
+
     memset(p, 0, sizeof *p);
-    for (int i = 0; i < POINT_FIELDS; i++)
-        p->fields[i].bytes = (const uint8_t *)"";
     p->any = text != NULL && text->length > 0;
-    p->are = p->any && point_fields(&p->record, *text, p->fields);
+    p->are = p->any && point_fields(&p->record, *text, fields);
+    for (int i = 0; i < POINT_FIELDS; i++)
+        p->fields[i] = p->are ? fields[i] : none;
 }
 
 /* ---- what is lost ---- */

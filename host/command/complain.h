@@ -6,7 +6,8 @@
 enum status {
     DONE = 0,     /* all went well */
     REFUSED = 1,  /* the library refused, no such point, or unsound */
-    TROUBLE = 2   /* wrong usage, or the system failed */
+    TROUBLE = 2,  /* wrong usage, or the system failed */
+    PARTIAL = 3   /* done, but something was left out or cut, as was said */
 };
 
 /* "bhtf: " and a line to standard error; what does not print is escaped. */

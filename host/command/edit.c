@@ -187,12 +187,14 @@ static int store_text(struct edit *e, const struct options *o,
     if (status != DONE)
         return status;
     number = store(target(e), &e->key, text, mode, &read);
-    say_slots(o, o->word[1], read);
     if (number != BHTF_ACCEPTED)
-        return refuse_change(e, o->word[1], number,
-                             number != BHTF_NO_ROOM ? 0
-                                 : room_by_compaction(target(e), &e->key, text,
-                                                      mode));
+        status = refuse_change(e, o->word[1], number,
+                               number != BHTF_NO_ROOM ? 0
+                                   : room_by_compaction(target(e), &e->key,
+                                                        text, mode));
+    say_slots(o, o->word[1], read);
+    if (status != DONE)
+        return status;
     e->changed++;
     if (e->looked && movers_put(&e->movers, &e->key, e->line,
                                 e->had_text ? &old : NULL) != 0)
@@ -215,8 +217,9 @@ static void fields_of(struct piece fields[POINT_FIELDS],
     fields[NOTE] = piece_of(o->note);
 }
 
-/* The text of fields that are what they should be. */
-static int put_fields(struct edit *e, struct buffer *text,
+/* The text of fields that are what they should be; `name` is the command's. */
+static int put_fields(const struct edit *e, const char *name,
+                      struct buffer *text,
                       const struct piece fields[POINT_FIELDS],
                       const struct options *o)
 {
@@ -226,7 +229,8 @@ static int put_fields(struct edit *e, struct buffer *text,
     if (!is_text(e, "note", o->note))
         return TROUBLE;
     if (fault != NO_FAULT)
-        return complain_of_fault(e->place, fault, field, fields[field]);
+        return complain_of_fault(e->input != NULL ? e->place : name, fault,
+                                 field, fields[field]);
     return point_put(text, fields) == 0 ? DONE : out_of_memory();
 }
 
@@ -243,7 +247,7 @@ static int text_of_fields(struct edit *e, struct buffer *text,
         return TROUBLE;
     }
     fields_of(fields, o);
-    return put_fields(e, text, fields, o);
+    return put_fields(e, "add", text, fields, o);
 }
 
 /* Does add take its text from standard input? */
@@ -312,6 +316,8 @@ static int ask_loss(const struct edit *e, const struct options *o,
 
     if (drop_read(o->drop, &dropped) != 0)
         return TROUBLE;
+    if ((o->given & by_fields) == 0)
+        dropped |= LOST_TEXT; /* a whole text was given in its place */
     lost = change_of(t).lost & ~dropped;
     return lost == 0 ? DONE : complain_of_loss(e, o->word[1], lost);
 }
@@ -432,7 +438,7 @@ int edit_set(struct edit *e, const struct options *o)
     if (status == DONE)
         status = set_fields(e, &record, fields, o);
     if (status == DONE)
-        status = put_fields(e, &text, fields, o);
+        status = put_fields(e, "set", &text, fields, o);
     if (text.length > 0)
         piece.bytes = text.bytes;
     piece.length = text.length;
@@ -460,12 +466,12 @@ int edit_delete(struct edit *e, const struct options *o)
 
     if (status != DONE)
         return status;
-    say_slots(o, o->word[1], read);
     number = bhtf_file_delete(e->image.file, e->key.bytes, e->key.length);
     if (number != BHTF_ACCEPTED)
-        return refuse_change(e, o->word[1], number, 0);
-    e->changed++;
-    return DONE;
+        status = refuse_change(e, o->word[1], number, 0);
+    say_slots(o, o->word[1], read);
+    e->changed += status == DONE;
+    return status;
 }
 
 /* ---- rename ---- */

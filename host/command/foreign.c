@@ -82,7 +82,9 @@ static int write_site(struct site *s, const struct options *o)
         status = landxml_write(s, o);
     else
         status = dxf_write(s, o);
-    return status == DONE ? finish_output(left_out) : status;
+    if (status == TROUBLE)
+        return status;
+    return finish_output(left_out != DONE ? left_out : status);
 }
 
 /* Is more than one of these bits set? */

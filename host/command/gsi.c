@@ -11,6 +11,8 @@
  */
 #include "foreign.h"
 
+#include "utf8.h"
+
 #include <math.h>
 #include <string.h>
 
@@ -59,6 +61,15 @@ static struct piece unfilled(struct piece data)
     return piece_trim(data);
 }
 
+/* The same of a point number, which is 0 if it is zeros alone. */
+static struct piece unfilled_number(struct piece data)
+{
+    const struct piece number = unfilled(data);
+    const struct piece zero = { (const uint8_t *)"0", 1 };
+
+    return number.length == 0 && piece_trim(data).length > 0 ? zero : number;
+}
+
 /* A length as a decimal number; 0, or -1 if it is none in metres. */
 static int show_length(char *to, const struct piece *word, char unit)
 {
@@ -85,7 +96,7 @@ static void take_word(struct block *b, const uint8_t *at)
     struct piece data = { at + 7, DATA }, word = { at + 6, DATA + 1 };
 
     if (index == 11) {
-        b->name = unfilled(data);
+        b->name = unfilled_number(data);
         b->has_name = 1;
     } else if (index >= 81 && index <= 83) {
         b->words[index - 81] = word;
@@ -213,10 +224,10 @@ int gsi_read(struct arrivals *a, struct piece file, int quiet)
         file.bytes += used;
         file.length -= used;
     }
-    if (status == DONE && !quiet) {
+    if (status == DONE)
         say_loss(a->input, g.bare, "line", "without coordinates left out");
+    if (status == DONE && !quiet)
         say_others(&g);
-    }
     return status;
 }
 
@@ -224,7 +235,9 @@ int gsi_read(struct arrivals *a, struct piece file, int quiet)
 
 struct losses {
     size_t names;    /* points whose name has no place in GSI */
-    size_t zeros;    /* names or notes that begin with 0 */
+    size_t same;     /* points whose name is another's there */
+    size_t zeros;    /* names that begin with 0 */
+    size_t note_zeros;
     size_t notes;    /* that were cut or changed */
     size_t decimals; /* points with more than five */
 };
@@ -273,28 +286,69 @@ static void put_length(int index, double value, int decimals)
            whole < 0 ? '-' : '+', fabs(whole));
 }
 
-/* Up to 16 characters, filled with zeros; others than ASCII become ?. */
+/* Up to 16 characters, filled with zeros. */
 static void put_text(struct piece text)
 {
     size_t length = text.length < DATA ? text.length : DATA;
 
     for (size_t i = length; i < DATA; i++)
         putchar('0');
-    for (size_t i = 0; i < length; i++)
-        putchar(text.bytes[i] < 32 || text.bytes[i] > 126 ? '?'
-                                                          : text.bytes[i]);
+    fwrite(text.bytes, 1, length, stdout);
     putchar(' ');
+}
+
+/* A letter that ASCII has two others for; else a question mark. */
+static const char *plain_letter(uint32_t character)
+{
+    static const struct {
+        uint32_t letter;
+        const char *plain;
+    } all[] = {
+        { 0xE4, "ae" }, { 0xF6, "oe" }, { 0xFC, "ue" }, { 0xDF, "ss" },
+        { 0xC4, "Ae" }, { 0xD6, "Oe" }, { 0xDC, "Ue" }
+    };
+
+    for (size_t i = 0; i < sizeof all / sizeof all[0]; i++)
+        if (all[i].letter == character)
+            return all[i].plain;
+    return "?";
+}
+
+/* The note in ASCII, one sign for each character that has no other: its
+ * length. */
+static size_t make_plain(char *to, size_t room, struct piece note)
+{
+    size_t length = 0;
+
+    while (note.length > 0 && length + 2 < room) {
+        uint32_t character = note.bytes[0];
+        size_t step = utf8_read(note.bytes, note.length, &character);
+        char own[2] = { (char)character, '\0' };
+        const char *plain = character >= 32 && character < 127
+            ? own : plain_letter(step == 0 ? 0 : character);
+
+        strcpy(to + length, plain);
+        length += strlen(plain);
+        step = step == 0 ? 1 : step;
+        note.bytes += step;
+        note.length -= step;
+    }
+    return length;
 }
 
 static void put_note(struct piece note, struct losses *l)
 {
+    char plain[64];
+    struct piece shown = { (const uint8_t *)plain, 0 };
+
     note = piece_trim(note);
     if (note.length == 0)
         return;
+    shown.length = make_plain(plain, sizeof plain, note);
     l->notes += note.length > DATA || !is_plain(note);
-    l->zeros += note.bytes[0] == '0';
+    l->note_zeros += note.bytes[0] == '0';
     fputs("71....+", stdout);
-    put_text(note);
+    put_text(shown);
 }
 
 static void put_spot(const struct spot *s, struct piece name,
@@ -321,8 +375,11 @@ static void say_losses(const struct losses *l, const char *file)
 {
     say_loss(file, l->names, "point", "left out: GSI-16 has names of 1 to 16 "
                                       "ASCII characters");
-    say_loss(file, l->zeros, "name or note", "with zeros in front, which GSI "
-                                             "loses");
+    say_loss(file, l->same, "point", "left out: without the zeros in front, "
+                                     "which GSI loses, its name is another's");
+    say_loss(file, l->zeros, "name", "with zeros in front, which GSI loses");
+    say_loss(file, l->note_zeros, "note", "with zeros in front, which GSI "
+                                          "loses");
     say_loss(file, l->notes, "note", "cut to 16 ASCII characters");
     say_loss(file, l->decimals, "point", "rounded to 0.01 mm");
 }
@@ -335,9 +392,24 @@ static int take_name(const struct buffer *shown, struct piece *name)
     return name->length <= DATA && is_plain(*name);
 }
 
+/* Would GSI make another point of it, for the zeros in front of its name? */
+static int is_other(const struct site *s, struct piece name)
+{
+    const struct piece left = unfilled_number(name);
+
+    return left.length != name.length &&
+           site_find(s, left.bytes, left.length) != NULL;
+}
+
+/* Other points are missed, and names and notes are not what they were. */
+static int has_losses(const struct losses *l)
+{
+    return l->names + l->same + l->zeros + l->note_zeros + l->notes > 0;
+}
+
 int gsi_write(const struct site *s, const struct options *o)
 {
-    struct losses losses = { 0, 0, 0, 0 };
+    struct losses losses = { 0, 0, 0, 0, 0, 0 };
     struct buffer shown = { NULL, 0, 0 };
     struct record record;
     unsigned long number = 1;
@@ -351,14 +423,15 @@ int gsi_write(const struct site *s, const struct options *o)
             continue;
         if (spot_show(&shown, &s->spots[i]) != 0)
             status = out_of_memory();
-        else if (take_name(&shown, &name))
-            put_spot(&s->spots[i], name, &record, &losses, number++);
-        else
+        else if (!take_name(&shown, &name))
             losses.names++;
+        else if (is_other(s, name))
+            losses.same++;
+        else
+            put_spot(&s->spots[i], name, &record, &losses, number++);
     }
     buffer_free(&shown);
     buffer_free(&record.bytes);
-    if (!o->quiet)
-        say_losses(&losses, o->word[0]);
-    return status;
+    say_losses(&losses, o->word[0]);
+    return status == DONE && has_losses(&losses) ? PARTIAL : status;
 }

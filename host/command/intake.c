@@ -63,6 +63,8 @@ const char *intake_words(const struct buffer *b)
 {
     size_t at = first_byte(b);
 
+    if (begins(b, 0, "BHTFd", 5))
+        return "this is a record of changes; bhtf apply takes it";
     if (begins(b, 0, "BHTF", 4))
         return "this is a control point file; bhtf export prints its points";
     if (begins(b, at, "bhtf-dump ", 10))

@@ -52,11 +52,11 @@ same_points() { # FILE: has the same points and texts as round, and none where t
 
 bhtf export round >round.csv
 bhtf create round2 --key-size 20 --slots 300
-gives "all of an export is imported" 0 "^$points points stored$" bhtf import round2 round.csv
+gives "all of an export is imported" 0 "^$points points stored$" bhtf import round2 round.csv --encoding bytes --allow-near --allow-far
 holds "with equal texts" same_points round2
 bhtf export round --crlf >round-crlf.csv
 bhtf create round3 --key-size 20 --slots 300
-bhtf import round3 round-crlf.csv --quiet
+bhtf import round3 round-crlf.csv --encoding bytes --allow-near --allow-far --quiet
 holds "with line ends of the other kind too" same_points round3
 gives "a text of fields stands in its columns" 0 '^four,4482113\.402,5351874\.118,489\.271,bolt,,$' cat round.csv
 gives "one with needless quotes in both" 0 '^needless,1,2,3,bolt,"""1"",2,3,bolt",$' cat round.csv
@@ -280,9 +280,9 @@ random_round() { # SEED
   "$program" load random2 random1.dump -q && cmp random1.dump <("$program" dump random2) || return 1
   rm random2
   "$program" create random2 -k 24 -s 1000 -S 256K --seed "$1" && "$program" export random1 >random.csv &&
-    "$program" import random2 random.csv -q && cmp random1.dump <("$program" dump random2) || return 1
+    "$program" import random2 random.csv -q --encoding bytes --allow-near --allow-far && cmp random1.dump <("$program" dump random2) || return 1
   "$program" create random3 -k 24 -s 1000 -S 256K --seed "$1" && "$program" export random1 --crlf >random.csv &&
-    "$program" import random3 random.csv -q && cmp random1.dump <("$program" dump random3)
+    "$program" import random3 random.csv -q --encoding bytes --allow-near --allow-far && cmp random1.dump <("$program" dump random3)
 }
 for seed in 1 2 $((RANDOM)); do holds "900 random texts there and back, seed $seed" random_round $seed; done
 
