@@ -790,7 +790,7 @@ slowly() { seq 300 | sed 's/.*/S&,&,&,&,/'; sleep 0.8; seq 301 900 | sed 's/.*/S
 slowly >slow.in &
 helpers+=($!)
 script -qec "bhtf import slow slow.in -c PENZD" /dev/null >progress </dev/null
-gives "a long import shows its progress on a terminal" 0 $'\rbhtf: [0-9]+ points stored' cat progress
+gives "a long import shows its progress on a terminal" 0 $'\rbhtf: [0-9]+ points read' cat progress
 slowly >slow.in2 &
 helpers+=($!)
 script -qec "bhtf import slow slow.in2 --replace --quiet -c PENZD" /dev/null >progress </dev/null

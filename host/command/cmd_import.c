@@ -394,11 +394,7 @@ static int read_all(struct import *m)
         status = read_point(m);
         if (!import_goes_on(m, status, m->record.line))
             return status;
-        if (m->crowd.count % 256 == 255)
-            progress_show(&m->progress, (unsigned long)m->crowd.count,
-                          m->csv.taken);
     }
-    progress_end(&m->progress);
     return DONE;
 }
 
@@ -547,12 +543,35 @@ static int read_foreign(struct import *m)
     return read_all(m);
 }
 
+static unsigned long lines_in(const uint8_t *part, size_t length)
+{
+    unsigned long lines = 0;
+
+    for (size_t i = 0; i < length; i++)
+        lines += part[i] == '\n';
+    return lines;
+}
+
 /* The input's bytes, whole. */
 static int read_bytes(struct import *m)
 {
+    unsigned long lines = 0;
+    size_t before, more;
+    int done;
+
     if (m->file == stdin)
         tell_waiting(m->o->word[0], "lines of CSV", m->o->quiet);
-    if (buffer_read(&m->bytes, m->file, INPUT_MOST) == 0 || interrupted)
+    progress_begin(&m->progress, "read", stream_length(m->file), m->o->quiet);
+    do {
+        before = m->bytes.length;
+        done = buffer_read(&m->bytes, m->file, before + INPUT_PART);
+        more = m->bytes.length - before;
+        lines += lines_in(m->bytes.bytes + before, more);
+        progress_show(&m->progress, lines, m->bytes.length);
+    } while (done == 0 && more == INPUT_PART && !interrupted &&
+             m->bytes.length < INPUT_MOST);
+    progress_end(&m->progress);
+    if (done == 0 || interrupted)
         return DONE;
     complain("%s: cannot be read: %s", m->input, strerror(errno));
     return TROUBLE;
@@ -625,7 +644,6 @@ static int read_input(struct import *m)
         status = use_bytes(m);
     if (status != DONE)
         return status;
-    progress_begin(&m->progress, "read", m->bytes.length, m->o->quiet);
     status = m->kind != 0 ? read_foreign(m) : read_csv(m);
     if (status == DONE && !interrupted)
         status = import_store(m);
