@@ -347,6 +347,17 @@ static size_t strip_from(const struct scene *s, double which, double northing)
     return low;
 }
 
+/* Names the pair, if it is one and was none. */
+static size_t look_at_pair(struct scene *s, const struct spot_at *a,
+                           const struct spot_at *b)
+{
+    if ((a->mover == NULL && b->mover == NULL) || apart(a, b) >= NEAR ||
+        was_near(a, b))
+        return 0;
+    name_near(s, a, b);
+    return 1;
+}
+
 /* The pairs that a point makes with those of a strip, from `k` on. */
 static size_t look_in_strip(struct scene *s, const struct spot_at *a, size_t k,
                             double which)
@@ -354,19 +365,12 @@ static size_t look_in_strip(struct scene *s, const struct spot_at *a, size_t k,
     size_t found = 0;
 
     for (; k < s->count && strip(&s->spots[k]) == which &&
-           s->spots[k].northing < a->northing + NEAR; k++) {
-        const struct spot_at *b = &s->spots[k];
-
-        if ((a->mover == NULL && b->mover == NULL) || apart(a, b) >= NEAR ||
-            was_near(a, b))
-            continue;
-        name_near(s, a, b);
-        found++;
-    }
+           s->spots[k].northing < a->northing + NEAR; k++)
+        found += look_at_pair(s, a, &s->spots[k]);
     return found;
 }
 
-static size_t look_for_near(struct scene *s)
+static size_t look_in_strips(struct scene *s)
 {
     size_t found = 0;
 
@@ -379,6 +383,32 @@ static size_t look_for_near(struct scene *s)
                                                 a->northing - NEAR),
                                strip(a) + 1);
     }
+    return found;
+}
+
+/* One point beside all others; a pair of two that moved is met once. */
+static size_t look_beside(struct scene *s, size_t i)
+{
+    size_t found = 0;
+
+    for (size_t k = 0; k < s->count; k++)
+        if (k > i || (k < i && s->spots[k].mover == NULL))
+            found += look_at_pair(s, &s->spots[i], &s->spots[k]);
+    return found;
+}
+
+/* A few points are not worth sorting all others for. */
+enum { FEW = 16 };
+
+static size_t look_for_near(struct scene *s)
+{
+    size_t found = 0;
+
+    if (s->moved > FEW)
+        found = look_in_strips(s);
+    for (size_t i = 0; i < s->count && s->moved <= FEW; i++)
+        if (s->spots[i].mover != NULL)
+            found += look_beside(s, i);
     say_rest(s);
     return found;
 }
