@@ -394,6 +394,9 @@ static int read_all(struct import *m)
         status = read_point(m);
         if (!import_goes_on(m, status, m->record.line))
             return status;
+        if (m->record.line % 256 == 0)
+            progress_show(&m->progress, (unsigned long)m->crowd.count,
+                          m->csv.taken);
     }
     return DONE;
 }
@@ -644,7 +647,9 @@ static int read_input(struct import *m)
         status = use_bytes(m);
     if (status != DONE)
         return status;
+    progress_begin(&m->progress, "read", m->bytes.length, m->o->quiet);
     status = m->kind != 0 ? read_foreign(m) : read_csv(m);
+    progress_end(&m->progress);
     if (status == DONE && !interrupted)
         status = import_store(m);
     progress_end(&m->progress);
