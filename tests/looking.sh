@@ -53,7 +53,7 @@ site() {
   local name=$1
   shift
   rm -f "$name"
-  bhtf create "$name" "$@" && bhtf import "$name" - --columns PENZD --quiet
+  bhtf create "$name" "$@" && bhtf import "$name" - --columns PENZD --quiet --allow-far --allow-near --allow-swapped
 }
 
 # renders FILE: well-formed, no reference outside, and librsvg makes a picture of it
@@ -408,7 +408,8 @@ bhtf create g2
 test_that "what GSI holds besides is said" gives 0 'words not carried over: 21 22 31 41 42 84 85 86 87 88' \
   bhtf import g2 "$data/sample.gsi" --gsi
 test_that "lines without coordinates are counted" grep -q '3 lines without coordinates' said
-test_that "--quiet" equal '' "$(bhtf import g2 "$data/sample.gsi" --gsi --replace --quiet 2>&1)"
+test_that "--quiet: lines that are left out, and no more" equal "bhtf: $data/sample.gsi: 3 lines without coordinates left out" \
+  "$(bhtf import g2 "$data/sample.gsi" --gsi --replace --quiet 2>&1)"
 bhtf export g --gsi >g.gsi
 bhtf create g3
 bhtf import g3 g.gsi --gsi --quiet
@@ -424,14 +425,14 @@ test_that "names without a place are said" gives 3 '2 points left out: GSI-16 ha
 test_that "rounding is said" gives 3 '1 point rounded to 0.01 mm' bhtf export loss --gsi
 bhtf create slash
 bhtf add slash 'a\x5Cx41b' 1,2,3,
-bhtf add slash ' b\xFE' 1,2,3,
+bhtf add slash '\x20b\xFE' 1,2,4,
 bhtf export slash --gsi >slash.gsi 2>said
 test_that "names with odd bytes have no place in GSI" grep -q '1 point left out: GSI-16 has names' said
 bhtf create slash2
 bhtf import slash2 slash.gsi --gsi --quiet
 test_that "a backslash has one" gives 1 '^0 same, 0 new, 1 gone, 0 moved, 1 with' bhtf diff slash slash2
 bad_gsi() { printf '%s\n' "$2" >bad.gsi; gives 2 "$1" bhtf import g bad.gsi --gsi; }
-test_that "GSI-8" bad_gsi 'line 1: .*GSI-8 is not read' '110001+00000101 81..00+00002041 82..00+00006075'
+test_that "GSI-8" bad_gsi 'this is GSI-8, which is not read' '110001+00000101 81..00+00002041 82..00+00006075'
 test_that "a word cut short" bad_gsi 'line 1: here is no word' '*110001+0000000000CP-102 81..00+00000044821879'
 test_that "no sign" bad_gsi 'line 1: here is no word' '*110001 0000000000CP-102 '
 test_that "feet" bad_gsi 'not 16 digits in metres' '*110001+0000000000000101 81..01+0000000000002041 82..01+0000000000006075 '

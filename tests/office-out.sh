@@ -296,8 +296,8 @@ matches() {
 }
 for i in $(seq 100); do test_that "a pattern, number $i" matches "$i"; done
 printf '%s\n' 'X ' | sed 's/X /X\\x20,1,2,,/' | site ends
-bhtf add ends 'a*b' 1,2,,
-bhtf add ends 'axb' 1,2,,
+bhtf add ends 'a*b' 3,2,,
+bhtf add ends 'axb' 5,2,,
 test_that "a blank at the end is a character" equal 'X\x20' "$(bhtf list ends 'X?')"
 test_that "a word that is a name is that point" equal 'a*b' "$(bhtf list ends 'a*b')"
 test_that "a pattern quoted" equal 'a*b' "$(bhtf list ends 'a\*[b]')"

@@ -16,9 +16,10 @@
 #define WAIT_USUAL 10u
 #define WAIT_MAX 86400u
 
-/* Points that an import reads, and then stores in one go. */
-#define BATCH_POINTS 256u
-#define BATCH_BYTES (1u << 20)
+/* No input of points is longer, in bytes, and how much of one is read in one
+ * go. */
+#define INPUT_MOST ((size_t)1 << 31)
+#define INPUT_PART ((size_t)4096)
 
 /* Bytes in the longest record of a CSV file, which may say a text twice, and
  * the fields of one that are kept. */

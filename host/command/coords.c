@@ -158,6 +158,17 @@ int site_of_image(struct site *s, const uint8_t *image, size_t length)
     return read_spots(s);
 }
 
+int site_of(struct site *s, const uint8_t *image, size_t length)
+{
+    memset(s, 0, sizeof *s);
+    if (buffer_put(&s->copy, image, length) != 0)
+        return out_of_memory();
+    if (ask_header(s->copy.bytes, s->copy.length,
+                   &s->key_size) != BHTF_ACCEPTED)
+        return DONE;
+    return read_spots(s);
+}
+
 void site_close(struct site *s)
 {
     if (!s->borrowed)

@@ -61,6 +61,9 @@ int site_open_names(struct site *s, const char *file, unsigned wait);
  * site: DONE, or TROUBLE after a complaint. */
 int site_of_image(struct site *s, const uint8_t *image, size_t length);
 
+/* All points of an image, which is copied; none if it is refused. */
+int site_of(struct site *s, const uint8_t *image, size_t length);
+
 void site_close(struct site *s);
 
 /* Does the text have coordinates, or a height alone? */

@@ -53,13 +53,13 @@ int arrive(struct arrivals *a, unsigned long line, struct piece name,
     return done;
 }
 
-int foreign_options(const struct options *o)
+int foreign_options(uint64_t given)
 {
     const uint64_t others = OPTION_COLUMNS | OPTION_DELIMITER |
                             OPTION_DECIMAL | OPTION_SKIP | OPTION_ANY_TEXT;
     const uint64_t both = OPTION_GSI | OPTION_LANDXML;
 
-    if ((o->given & both) == both || (o->given & both && o->given & others)) {
+    if ((given & both) == both || (given & both && given & others)) {
         complain("import: --gsi or --landxml, without options for CSV");
         return TROUBLE;
     }
@@ -69,7 +69,7 @@ int foreign_options(const struct options *o)
 /* No file of points is longer. */
 enum { FOREIGN_MOST = 1 << 28 };
 
-int foreign_read(struct arrivals *a, FILE *from, const struct options *o)
+int foreign_read(struct arrivals *a, FILE *from, uint64_t kind, int quiet)
 {
     struct buffer bytes = { NULL, 0, 0 };
     struct piece file;
@@ -83,8 +83,7 @@ int foreign_read(struct arrivals *a, FILE *from, const struct options *o)
     }
     file.bytes = bytes.bytes != NULL ? bytes.bytes : (const uint8_t *)"";
     file.length = bytes.length;
-    status = (o->given & OPTION_GSI ? gsi_read : landxml_read)(a, file,
-                                                               o->quiet);
+    status = (kind == OPTION_GSI ? gsi_read : landxml_read)(a, file, quiet);
     buffer_free(&bytes);
     return status;
 }

@@ -61,6 +61,15 @@ static struct piece unfilled(struct piece data)
     return piece_trim(data);
 }
 
+/* The same of a point number, which is 0 if it is zeros alone. */
+static struct piece unfilled_number(struct piece data)
+{
+    const struct piece number = unfilled(data);
+    const struct piece zero = { (const uint8_t *)"0", 1 };
+
+    return number.length == 0 && piece_trim(data).length > 0 ? zero : number;
+}
+
 /* A length as a decimal number; 0, or -1 if it is none in metres. */
 static int show_length(char *to, const struct piece *word, char unit)
 {
@@ -87,11 +96,7 @@ static void take_word(struct block *b, const uint8_t *at)
     struct piece data = { at + 7, DATA }, word = { at + 6, DATA + 1 };
 
     if (index == 11) {
-        b->name = unfilled(data);
-        if (b->name.length == 0 && at[7] == '0') {
-            b->name.bytes = at + 7; /* zeros alone are the number 0 */
-            b->name.length = 1;
-        }
+        b->name = unfilled_number(data);
         b->has_name = 1;
     } else if (index >= 81 && index <= 83) {
         b->words[index - 81] = word;
@@ -219,10 +224,10 @@ int gsi_read(struct arrivals *a, struct piece file, int quiet)
         file.bytes += used;
         file.length -= used;
     }
-    if (status == DONE && !quiet) {
+    if (status == DONE)
         say_loss(a->input, g.bare, "line", "without coordinates left out");
+    if (status == DONE && !quiet)
         say_others(&g);
-    }
     return status;
 }
 

@@ -26,6 +26,21 @@
     "      --no-sync      do not wait for the disk: faster, and safe if the\n" \
     "                     command is killed, but not if the power fails\n"
 
+#define LOG \
+    "      --log          begin FILE.log beside the file; one that is there is\n" \
+    "                     gone on with by every change\n"
+
+#define ALLOW \
+    "Refused, with their names, unless these are given:\n" \
+    "      --allow-far    points far from all others, in plan or in height\n" \
+    "      --allow-near   points within a centimetre of another\n" \
+    "      --allow-swapped  points that would lie near the others if easting and\n" \
+    "                     northing changed places\n"
+
+#define DROP \
+    "      --drop FIELDS  what --replace may take away: words out of easting,\n" \
+    "                     northing, height, note and text, with commas\n"
+
 #define QUIET "  -q, --quiet        say nothing but errors and warnings\n"
 
 #define PATTERNS \
@@ -35,7 +50,8 @@
 
 static const struct command commands[] = {
     { "create", OPTION_KEY_SIZE | OPTION_SLOTS | OPTION_SEED | OPTION_SIZE |
-                OPTION_FORMAT | OPTION_NO_SYNC, 1, 1, run_create,
+                OPTION_FORMAT | OPTION_NO_SYNC | OPTION_LOG, 1, 1,
+      run_create,
       "bhtf create FILE [--key-size K] [--slots N] [--seed S] [--size BYTES] "
       "..\n"
       "Makes an empty file. An existing file is never overwritten.\n"
@@ -50,11 +66,13 @@ static const struct command commands[] = {
       "                     {image}, also as 64K or 16M; unless given, the\n"
       "                     table and {slot_bytes} bytes a slot\n"
       "      --format V     1.0.2 unless given; 1.0.1 for a station that refuses\n"
-      "                     1.0.2 (5), until an empty text is stored\n" NO_SYNC },
+      "                     1.0.2 (5), until an empty text is stored\n"
+      LOG NO_SYNC },
     { "add", OPTION_REPLACE | OPTION_APPEND | OPTION_EASTING |
              OPTION_NORTHING | OPTION_HEIGHT | OPTION_NOTE |
              OPTION_NO_TEXT | OPTION_SLOTS_READ | OPTION_DELTA |
-             OPTION_NO_SYNC, 2, 3, run_add,
+             OPTION_DROP | OPTION_ALLOWED | OPTION_LOG | OPTION_NO_SYNC, 2, 3,
+      run_add,
       "bhtf add FILE NAME [TEXT] [--replace | --append] [--slots] ..\n"
       "bhtf add FILE NAME --easting E --northing N [--height H] [--note TEXT]\n"
       "bhtf add FILE NAME --no-text\n"
@@ -67,22 +85,66 @@ static const struct command commands[] = {
       "one is\n"
       "of version 1.0.2, which stations that know only 1.0.1 refuse (5).\n"
       "      --no-text      store the point without a text\n"
-      "A point that is already there is refused, but for\n"
-      "  -r, --replace      put the text in place of its own\n"
-      "  -a, --append       put the text behind its own\n"
-      SLOTS_READ DELTA NO_SYNC QUIET WAITING NAMES },
-    { "withdraw", OPTION_SLOTS_READ | OPTION_DELTA | OPTION_NO_SYNC, 2, 2,
+      "A point that is already there is refused, except with\n"
+      "  -r, --replace      put the text in place of its own; refused if that\n"
+      "                     would take a coordinate or a note away: see bhtf "
+      "set\n" DROP
+      "  -a, --append       put the text behind its own\n" ALLOW
+      SLOTS_READ DELTA LOG NO_SYNC QUIET WAITING NAMES },
+    { "set", OPTION_EASTING | OPTION_NORTHING | OPTION_HEIGHT | OPTION_NOTE |
+             OPTION_ALLOWED | OPTION_DELTA | OPTION_LOG | OPTION_NO_SYNC, 2, 2,
+      run_set,
+      "bhtf set FILE NAME [--easting E --northing N] [--height H] [--note "
+      "TEXT]\n"
+      "Changes what is given of a point that is there, and nothing else; says "
+      "what\n"
+      "changed. An empty value takes a height or a note away.\n"
+      "  -E, --easting E    a number, with a decimal point\n"
+      "  -N, --northing N\n"
+      "  -H, --height H\n"
+      "  -t, --note TEXT\n" ALLOW
+      DELTA LOG NO_SYNC QUIET WAITING NAMES },
+    { "rename", OPTION_DELTA | OPTION_LOG | OPTION_NO_SYNC, 3, 3, run_rename,
+      "bhtf rename FILE NAME NEW\n"
+      "Gives a point another name, under which no other is. Its text stays.\n"
+      DELTA LOG NO_SYNC WAITING NAMES },
+    { "withdraw", OPTION_SLOTS_READ | OPTION_DELTA | OPTION_LOG |
+                  OPTION_NO_SYNC, 2, 2,
       run_withdraw,
       "bhtf withdraw FILE NAME [--slots] [--delta FILE]\n"
       "Takes a point's text away; the point stays, without a text.\n"
-      SLOTS_READ DELTA NO_SYNC WAITING NAMES },
-    { "delete", OPTION_SLOTS_READ | OPTION_DELTA | OPTION_NO_SYNC |
-                OPTION_DRY_RUN, 2, ANY_NUMBER, run_take_out,
+      SLOTS_READ DELTA LOG NO_SYNC WAITING NAMES },
+    { "delete", OPTION_SLOTS_READ | OPTION_DELTA | OPTION_LOG |
+                OPTION_NO_SYNC | OPTION_DRY_RUN, 2, ANY_NUMBER, run_take_out,
       "bhtf delete FILE NAME [--slots] [--delta FILE]\n"
       "bhtf delete FILE PATTERN.. [--dry-run] [--delta FILE]\n"
       "Takes points out: all that are named, as one change, or none.\n"
       "  -n, --dry-run      change nothing; print the names\n"
-      SLOTS_READ DELTA NO_SYNC QUIET WAITING NAMES PATTERNS },
+      SLOTS_READ DELTA LOG NO_SYNC QUIET WAITING NAMES PATTERNS },
+    { "batch", OPTION_DRY_RUN | OPTION_ALLOWED | OPTION_DELTA | OPTION_LOG |
+               OPTION_NO_SYNC, 1, 2, run_batch,
+      "bhtf batch FILE [CHANGES] [--dry-run] ..\n"
+      "Makes several changes as one: all of them, or, if one is refused, none. "
+      "A line\n"
+      "of CHANGES, or of standard input if that is - or not given, is a change "
+      "as on\n"
+      "the command line, without bhtf and FILE: add, set, rename, withdraw or "
+      "delete.\n"
+      "Quotes of either kind keep blanks; # begins a comment.\n"
+      "  -n, --dry-run      change nothing; say what would be refused\n" ALLOW
+      DELTA LOG NO_SYNC QUIET WAITING NAMES },
+    { "log", 0, 1, 2, run_log,
+      "bhtf log FILE [NAME]\n"
+      "Prints the log beside the file: when and by whom it was changed, and of "
+      "each\n"
+      "point the text before and after; of one point, if it is named. Status 1 "
+      "if an\n"
+      "entry was changed or taken away, or the file was changed without the "
+      "log.\n"
+      "A log is begun by --log at a change, or by BHTF_LOG=yes in the "
+      "environment.\n"
+      "  -q, --quiet        print no entries; only say whether it is whole\n"
+      WAITING NAMES },
     { "get", OPTION_TSV | OPTION_JSON | OPTION_SLOTS_READ, 2, ANY_NUMBER,
       run_get,
       "bhtf get FILE NAME.. [--tsv | --json] [--slots]\n"
@@ -128,8 +190,8 @@ static const struct command commands[] = {
       "does not\n"
       "mean right: a digit changed in a text is not seen.\n"
       QUIET WAITING },
-    { "compact", OPTION_DRY_RUN | OPTION_DELTA | OPTION_NO_SYNC, 1, 1,
-      run_compact,
+    { "compact", OPTION_DRY_RUN | OPTION_DELTA | OPTION_LOG | OPTION_NO_SYNC,
+      1, 1, run_compact,
       "bhtf compact FILE [--dry-run] [--delta FILE]\n"
       "Gives the bytes of texts that were replaced, withdrawn or deleted back, "
       "and\n"
@@ -137,7 +199,7 @@ static const struct command commands[] = {
       "as\n"
       "it is, with the words of check and status 1.\n"
       "  -n, --dry-run      change nothing; say what would be\n"
-      DELTA NO_SYNC QUIET WAITING },
+      DELTA LOG NO_SYNC QUIET WAITING },
     { "book", 0, 1, 1, run_book,
       "bhtf book FILE\n"
       "Prints the book that calls on a sound file start from: its terms, and "
@@ -154,35 +216,50 @@ static const struct command commands[] = {
       "many\n"
       "bhtf compact would free.\n"
       WAITING },
-    { "import", OPTION_REPLACE | OPTION_COLUMNS | OPTION_DELIMITER |
-                OPTION_DECIMAL | OPTION_SKIP | OPTION_ANY_TEXT |
+    { "import", OPTION_REPLACE | OPTION_UPDATE | OPTION_DROP |
+                OPTION_COLUMNS | OPTION_DELIMITER | OPTION_DECIMAL |
+                OPTION_ENCODING | OPTION_SKIP | OPTION_ANY_TEXT |
                 OPTION_DRY_RUN | OPTION_GSI | OPTION_LANDXML |
-                OPTION_DELTA | OPTION_NO_SYNC | OPTION_KEEP_GOING, 2, 2,
-      run_import,
-      "bhtf import FILE CSV [--columns ORDER] [--replace] [--dry-run] ..\n"
+                OPTION_ALLOWED | OPTION_DELTA | OPTION_LOG | OPTION_NO_SYNC |
+                OPTION_KEEP_GOING, 2, 2, run_import,
+      "bhtf import FILE CSV [--columns ORDER] [--update | --replace] "
+      "[--dry-run] ..\n"
       "Stores a point for each line of a CSV file; of standard input if CSV is "
       "-.\n"
       "A heading says which column is which: name, easting, northing, height,\n"
-      "note or the usual other words, in any order. All of it is stored, or, "
-      "if a\n"
-      "line is refused, nothing. A line of empty fields is a point without a "
-      "text;\n"
-      "yes in a column empty makes it one with an empty text.\n"
+      "note or the usual other words, in any order; lengths are metres. All of "
+      "it is\n"
+      "stored, or, if a line is refused, nothing. A line of empty fields is a "
+      "point\n"
+      "without a text; yes in a column empty makes it one with an empty text.\n"
+      "GSI-16 and LandXML are told by their first bytes.\n"
       "  -c, --columns ORDER  the columns of a file without a heading: PNEZD,\n"
       "                     PENZD, or words as above, with commas between "
       "them;\n"
       "                     - for one to pass over\n"
-      "  -d, --delimiter D  comma, semicolon or tab; found out unless given\n"
+      "  -d, --delimiter D  comma, semicolon or tab; found out unless given. Or\n"
+      "                     blank, in any number\n"
       "      --decimal C    , where numbers have a decimal comma\n"
+      "      --encoding E   windows-1252, or what iconv knows; UTF-8 unless "
+      "given.\n"
+      "                     bytes keeps bytes as they are\n"
       "      --skip N       pass over the first N lines\n"
       "      --any-text     take coordinates that are not numbers\n"
-      "  -r, --replace      replace points that are already there\n"
+      "      --update       of points that are already there change what the "
+      "lines\n"
+      "                     give, and nothing else; an empty field gives "
+      "nothing\n"
+      "  -r, --replace      replace points that are already there; refused "
+      "where\n"
+      "                     that would take a coordinate or a note away\n" DROP
       "      --keep-going   store the other lines if some are refused\n"
-      "  -n, --dry-run      store nothing; say what would happen, and every\n"
-      "                     line that would be refused\n"
+      "  -n, --dry-run      store nothing; say of each point what would become "
+      "of\n"
+      "                     it, the worst first, and each line that would be\n"
+      "                     refused\n"
       "      --gsi          CSV is a Leica GSI-16 file\n"
       "      --landxml      CSV is a LandXML file; its CgPoints are read\n"
-      DELTA NO_SYNC QUIET WAITING NAMES },
+      ALLOW DELTA LOG NO_SYNC QUIET WAITING NAMES },
     { "export", OPTION_CRLF | OPTION_GSI | OPTION_LANDXML | OPTION_DXF |
                 OPTION_BY, 1, ANY_NUMBER, run_export,
       "bhtf export FILE [PATTERN..] [--by ORDER] [--crlf | --gsi | --landxml | "
@@ -207,27 +284,29 @@ static const struct command commands[] = {
       "names. load makes an equal file of it.\n"
       QUIET WAITING },
     { "load", OPTION_KEY_SIZE | OPTION_SLOTS | OPTION_SEED | OPTION_SIZE |
-              OPTION_FORMAT | OPTION_NO_SYNC, 1, 2, run_load,
+              OPTION_FORMAT | OPTION_LOG | OPTION_NO_SYNC, 1, 2, run_load,
       "bhtf load FILE [DUMP] [--size BYTES] [--slots N] ..\n"
       "Makes a file of what dump printed; of standard input if DUMP is - or "
       "not\n"
       "given. An existing file is never overwritten. In place of what the dump "
       "says:\n"
       "  -k, --key-size K   bytes in a name\n"
-      "  -s, --slots N      points that it can hold\n"
+      "  -s, --slots N      points that it can hold; the file becomes longer, so "
+      "that\n"
+      "                     as much room is left for the text of each\n"
       "      --seed S       number by which names are scattered\n"
       "  -S, --size BYTES   length of the file\n"
       "      --format V     its version; 1.0.1 for a station that refuses 1.0.2 "
       "(5).\n"
       "                     An empty text then has no place\n"
-      NO_SYNC QUIET },
+      LOG NO_SYNC QUIET },
     { "delta", 0, 2, 2, run_delta,
       "bhtf delta OLD NEW > CHANGES\n"
       "Prints, for bhtf apply, what changed from OLD to NEW: a record of bytes, "
       "with\n"
       "check sums of both. Both files have the same length.\n"
       QUIET WAITING },
-    { "apply", OPTION_DRY_RUN | OPTION_NO_SYNC, 1, 2, run_apply,
+    { "apply", OPTION_DRY_RUN | OPTION_LOG | OPTION_NO_SYNC, 1, 2, run_apply,
       "bhtf apply COPY [CHANGES] [--dry-run]\n"
       "Makes of COPY what the office's file became: CHANGES, or standard input "
       "if\n"
@@ -240,7 +319,7 @@ static const struct command commands[] = {
       "then as it was. Names the points that change, as diff does, and the "
       "sum.\n"
       "  -n, --dry-run      change nothing; say what would be\n"
-      NO_SYNC QUIET WAITING },
+      LOG NO_SYNC QUIET WAITING },
     { "diff", OPTION_TSV | OPTION_TOLERANCE, 2, ANY_NUMBER, run_diff,
       "bhtf diff OLD NEW [PATTERN..] [--tolerance MM] [--tsv]\n"
       "Says point by point what became of OLD in NEW: new, gone, moved by how "
@@ -364,8 +443,12 @@ void help_print(FILE *to)
           "\n"
           "  bhtf create FILE            make an empty file\n"
           "  bhtf add FILE NAME [TEXT]   store a point\n"
+          "  bhtf set FILE NAME ..       change a coordinate or a note\n"
+          "  bhtf rename FILE NAME NEW   give a point another name\n"
           "  bhtf withdraw FILE NAME     take a point's text away\n"
           "  bhtf delete FILE NAME       take a point out\n"
+          "  bhtf batch FILE CHANGES     make several such changes as one\n"
+          "  bhtf log FILE [NAME]        print who changed what, and when\n"
           "  bhtf get FILE NAME..        print texts of points\n"
           "  bhtf count FILE             print the number of points\n"
           "  bhtf list FILE              print the names\n"

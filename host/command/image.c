@@ -60,7 +60,7 @@ static int take_bytes(struct image *i)
     i->bytes = (uint8_t *)bhtf_file_image(i->file, &i->length);
     if (i->writing && bhtf_file_begin(i->file) != BHTF_ACCEPTED)
         return fail(bhtf_file_error(i->file));
-    return 0;
+    return i->writing ? log_begin(&i->log, i->path, i->bytes, i->length) : 0;
 }
 
 uint8_t *image_writable(struct image *i)
@@ -128,11 +128,19 @@ static int name_new(struct image *i)
     bhtf_file_new *created = i->created;
 
     i->created = NULL;
-    return bhtf_file_new_end(created) == BHTF_ACCEPTED ? 0 : fail(&i->why);
+    if (bhtf_file_new_end(created) != BHTF_ACCEPTED)
+        return fail(&i->why);
+    return log_start(i->path);
 }
 
 static int commit(struct image *i)
 {
+    const uint8_t *bytes = bhtf_file_image(i->file, &i->length);
+
+    if (log_put(&i->log, bytes, i->length, i->sync) != 0) {
+        complain("%s: is as it was", i->path);
+        return -1;
+    }
     i->committed = bhtf_file_commit(i->file) == BHTF_ACCEPTED;
     i->unsure = !i->committed && bhtf_file_unsure(i->file);
     return i->committed ? 0 : fail(bhtf_file_error(i->file));
@@ -143,6 +151,7 @@ static int close_file(struct image *i)
     uint32_t number = bhtf_file_close(i->file);
 
     i->file = NULL;
+    log_end(&i->log);
     if (number == BHTF_ACCEPTED)
         return 0;
     complain("%s: cannot be closed", i->path);

@@ -25,7 +25,9 @@ struct landxml {
     struct buffer note;
     struct buffer text;
     int units;                /* metres were met */
+    int gone;                 /* it is destroyed, abandoned or proposed */
     size_t references;
+    size_t left_out;          /* points of such a state */
     char others[OTHERS][OTHER]; /* parts of the file that are not points */
     size_t other_count;
     int status;
@@ -76,6 +78,14 @@ static void keep(struct landxml *x, struct buffer *to, const char *word)
         stop_for_memory(x);
 }
 
+/* Is the point none that can be used? */
+static int is_gone(const char *state)
+{
+    return state != NULL && (strcmp(state, "destroyed") == 0 ||
+                             strcmp(state, "abandoned") == 0 ||
+                             strcmp(state, "proposed") == 0);
+}
+
 static void begin_point(struct landxml *x, const char **attributes)
 {
     const char *note = attribute(attributes, "desc");
@@ -85,7 +95,9 @@ static void begin_point(struct landxml *x, const char **attributes)
     x->refers = attribute(attributes, "pntRef") != NULL;
     x->text.length = 0;
     keep(x, &x->name, attribute(attributes, "name"));
-    keep(x, &x->note, note != NULL ? note : attribute(attributes, "code"));
+    keep(x, &x->note, note != NULL && note[0] != '\0'
+                          ? note : attribute(attributes, "code"));
+    x->gone = is_gone(attribute(attributes, "state"));
 }
 
 static void check_unit(struct landxml *x, const char *element,
@@ -197,6 +209,10 @@ static void end_point(struct landxml *x)
         x->references++;
         return;
     }
+    if (x->gone) {
+        x->left_out++;
+        return;
+    }
     if (x->name.length == 0) {
         stop(x, x->line, "the CgPoint has no name");
         return;
@@ -221,16 +237,15 @@ static void XMLCALL end(void *user, const char *name)
     x->depth--;
 }
 
-/* What -q does not silence. */
-static void warn(const struct landxml *x)
+static void say_rest(const struct landxml *x, int quiet)
 {
     if (!x->units)
         complain("%s: warning: the file does not say its units; metres are "
                  "taken", x->a->input);
-}
-
-static void say_rest(const struct landxml *x)
-{
+    say_loss(x->a->input, x->left_out, "CgPoint", "destroyed, abandoned or "
+                                                  "proposed left out");
+    if (quiet)
+        return;
     say_loss(x->a->input, x->references, "CgPoint", "that refers to another "
                                                     "point left out");
     for (size_t i = 0; i < x->other_count; i++)
@@ -262,9 +277,7 @@ int landxml_read(struct arrivals *a, struct piece file, int quiet)
     parse(&x, file);
     XML_ParserFree(x.parser);
     if (x.status == DONE)
-        warn(&x);
-    if (x.status == DONE && !quiet)
-        say_rest(&x);
+        say_rest(&x, quiet);
     buffer_free(&x.name);
     buffer_free(&x.note);
     buffer_free(&x.text);
