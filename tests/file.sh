@@ -81,6 +81,7 @@ holds "the programs build" make -C tests/file OUT="$work/programs" LIB="$lib" LD
 # ---- calls, readers and writers, cuts ----
 
 mkdir "$work/layer" "$work/cuts" "$work/busy"
+chmod 755 "$work" # parts run as nobody
 counted "the layer's calls" "$work/programs/layer" "$work/layer"
 counted "two writers and six readers" "$work/programs/busy" "$seconds" "$work/busy/site"
 counted "and writers that are killed" "$work/programs/busy" "$seconds" "$work/busy/site2" kill
@@ -138,7 +139,7 @@ holds "bhtf_file.3 has every call and answer" every_call
 # ---- disks ----
 
 as_other() { if [ "$(id -u)" -eq 0 ]; then setpriv --reuid 65534 --regid 65534 --clear-groups "$@"; else "$@"; fi; }
-chmod 755 "$work" "$work/usr" "$work/usr/lib" "$work/host"
+chmod 755 "$work/usr" "$work/usr/lib" "$work/host"
 mkdir "$work/closed"
 cp "$site" "$work/closed/site"
 chmod 666 "$work/closed/site"
@@ -213,9 +214,9 @@ holds "calls that list what they change: builds" builds
 holds "calls that list what they change: cut" runs 13 4
 
 copies
-sed -i 's/^#ifdef O_TMPFILE/#ifdef NO_TMPFILE/' "$work/copy/layer_create.c"
-holds "a new file under a temporary name: builds" builds
-holds "a new file under a temporary name: cut" runs 0 4
+sed -i 's/^#ifdef O_TMPFILE/#ifdef NO_TMPFILE/' "$work/copy/layer_name.c"
+holds "new files and journals under temporary names: builds" builds
+holds "new files and journals under temporary names: cut" runs 9 4
 
 # fault NAME FILE OLD NEW SCENES: the cuts of a layer with OLD made NEW, which must stand there once, are not all passed
 fault() {
@@ -238,36 +239,38 @@ END
   fi
 }
 fault "the mark before the content is flushed" layer_journal.c '    if (error == 0)
-        error = flush(f, f->journal);
+        error = layer_flush(f, f->journal);
     if (error == 0 && !f->named' '    if (error == 0 && !f->named' 3
 fault "stretches before the mark is flushed" layer_journal.c '    error = set_mark(f, MARK);
     if (error == 0)
-        error = flush(f, f->journal);' '    error = set_mark(f, MARK);' 3
+        error = layer_flush(f, f->journal);' '    error = set_mark(f, MARK);' 3
 fault "the mark taken away before the file is flushed" layer_journal.c '    if (error == 0)
-        error = flush(f, f->fd);
+        error = layer_flush(f, f->fd);
+    if (error == 0)
+        error = write_base(f, after);
     if (error == 0)
         error = set_mark(f, 0);' '    if (error == 0)
+        error = write_base(f, after);
+    if (error == 0)
         error = set_mark(f, 0);
     if (error == 0)
-        error = flush(f, f->fd);' 3
+        error = layer_flush(f, f->fd);' 3
 fault "no mark" layer_journal.c 'error = set_mark(f, MARK);' 'error = 0;' 3
-fault "new content before mark 0 is flushed" layer_journal.c '    if (f->unmarked)
-        error = flush(f, f->journal);
-    if (error != 0) {' '    if (error != 0) {' 9
-fault "the journal's name not flushed" layer_journal.c '!(f->how.flags & BHTF_FILE_NO_SYNC))
-        error = layer_sync_directory(f->directory);' '!(f->how.flags & BHTF_FILE_NO_SYNC))
-        error = 0;' 3
-fault "a recovery before the mark is flushed" layer_journal.c 'number = flush_found(f);' 'number = BHTF_ACCEPTED;' 99
+fault "new content before mark 0 is flushed" layer_journal.c 'int error = f->unmarked ? layer_flush(f, f->journal) : 0;' \
+  'int error = 0;' 9
+fault "a file's sum that is not kept" layer_journal.c 'error = write_base(f, after);' 'error = 0;' 9
+fault "the journal's name not flushed" layer_journal.c '? 0 : layer_sync_names(f->directory, f->journal);' '? 0 : 0;' 3
+fault "a recovery before the mark is flushed" layer_recover.c 'number = flush_found(f);' 'number = BHTF_ACCEPTED;' 99
 fault "a reader that does not look for a journal" layer.c '            number = layer_journal_read(f);
         if (number != BHTF_FILE_REPLACED ||' '            number = 0;
         if (number != BHTF_FILE_REPLACED ||' 3
 fault "a writer that does not look for a journal" layer.c 'number = layer_journal_recover(f, deadline);' 'number = 0;' 3
-fault "a commit that is not flushed" layer_journal.c 'error = flush(f, f->fd);' 'error = 0;' 3
+fault "a commit that is not flushed" layer_journal.c 'error = layer_flush(f, f->fd);' 'error = 0;' 3
 fault "a page that is forgotten" layer.c 'page <= (from + size - 1) / LAYER_PAGE; page++)
         f->touched' 'page < (from + size - 1) / LAYER_PAGE; page++)
         f->touched' 3
 fault "a new file named before it is flushed" layer_create.c 'fsync(m->fd) != 0))' '0))' 0
-fault "a new file's name not flushed" layer_create.c 'error = layer_sync_directory(m->directory);' 'error = 0;' 0
+fault "a new file's name not flushed" layer_create.c 'error = layer_sync_names(m->directory, m->fd);' 'error = 0;' 0
 
 echo "$passed passed, $failed failed"
 [ "$failed" -eq 0 ] && [ "$passed" -gt 0 ]

@@ -36,6 +36,9 @@ extern "C" {
 #define BHTF_FILE_BROKEN 109u    /* the disk failed in an earlier change: close,
                                     and open again */
 
+#define BHTF_FILE_OWNER 110u     /* the journal belongs to one who may not write
+                                    to the file */
+
 #define BHTF_FILE_WORDS 512u     /* bytes in the longest sentence */
 
 struct bhtf_file_error {
