@@ -171,7 +171,7 @@ gives "a journal that cannot be removed" 2 'office: cannot be closed' failing un
 "$bhtf" add "$office" B y --delta "$changes"
 gives "an import says then what it stored" 2 '^12 points stored' failing unlink "$bhtf" import "$office" host/site.csv --delta "$changes"
 gives "a disk that fails when the mark is there" 2 'whether its points are stored in .* is told' \
-  failing 3 "$bhtf" import "$office" "$work/steel.csv" --replace --delta "$changes"
+  failing 4 "$bhtf" import "$office" "$work/steel.csv" --replace --delta "$changes"
 gives "the next command finishes that; its own change fails" 2 'nothing was stored' \
   failing 4 "$bhtf" import "$office" host/site.csv --replace --delta "$changes"
 gives "each change that was made has its record, and no other" 0 '^4 records applied' "$bhtf" apply "$copy" "$changes"
@@ -187,6 +187,28 @@ if [ "$(id -u)" -eq 0 ]; then
     failing unlink setpriv --reuid 65534 --regid 65534 --groups 2000 "$bhtf" add "$work/group/site" C z
   gives "makes a journal for the group" 0 '^2000 664$' stat -c '%g %a' "$work/group/site.journal"
 fi
+
+# ---- a journal that is damaged ----
+
+half=$work/half
+"$bhtf" create "$half" --key-size 12 --slots 100
+cp "$half" "$half.before"
+failing 3 "$bhtf" import "$half" host/site.csv --quiet 2>/dev/null
+cp "$half" "$half.after"
+cp "$half.before" "$half"
+dd if="$half.after" of="$half" bs=2100 count=1 conv=notrunc 2>/dev/null
+truncate -s -1 "$half.journal"
+gives "half a change whose journal is cut is not read" 2 'is damaged, and the file may be half written' "$bhtf" count "$half"
+gives "nor written" 2 'bhtf recover' "$bhtf" add "$half" A x
+gives "recover says what is known" 1 'recover .*--finish' "$bhtf" recover "$half"
+gives "and its choices, one of them" 2 'not both' "$bhtf" recover "$half" --finish --set-aside
+cp "$half.journal" "$half.kept"
+gives "sets the journal aside" 0 'half\.journal\.aside-1 now' "$bhtf" recover "$half" --set-aside
+holds "which is kept" cmp "$half.kept" "$half.journal.aside-1"
+mv "$half.journal.aside-1" "$half.journal"
+gives "or finishes the change" 0 'the change is made' "$bhtf" recover "$half" --finish
+holds "as it should be" cmp "$half.after" "$half"
+gives "then there is none" 0 'there is none' "$bhtf" recover "$half"
 
 # ---- seeded faults ----
 

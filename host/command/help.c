@@ -229,6 +229,13 @@ static const struct command commands[] = {
       "then as it was.\n"
       "  -n, --dry-run      change nothing; say what would be\n"
       NO_SYNC QUIET WAITING },
+    { "recover", OPTION_FINISH | OPTION_SET_ASIDE, 1, 1, run_recover,
+      "bhtf recover FILE [--finish | --set-aside]\n"
+      "Says what is known of the journal beside FILE, where commands refuse the\n"
+      "file because of it: status 1 if a person has to choose.\n"
+      "      --finish       make the change that is in the journal\n"
+      "      --set-aside    leave the file as it stands, and give the journal\n"
+      "                     another name\n" WAITING QUIET },
     { "diff", OPTION_TSV, 2, 2, run_diff,
       "bhtf diff OLD NEW [--tsv]\n"
       "Says point by point what became of OLD in NEW: new, gone, moved by how\n"
@@ -333,6 +340,7 @@ void help_print(FILE *to)
           "  bhtf load FILE DUMP         make a file of such a text\n"
           "  bhtf delta OLD NEW          print what changed, for a copy\n"
           "  bhtf apply COPY             bring a copy up to date with that\n"
+          "  bhtf recover FILE           look at a journal that stops commands\n"
           "  bhtf diff OLD NEW           say what became of the points\n"
           "  bhtf plot FILE              print a plan as SVG\n"
           "  bhtf figure FILE --station E,N NAME..\n"

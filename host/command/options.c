@@ -58,6 +58,8 @@ static const struct row all[] = {
     { 0, "--gsi", OPTION_GSI, PLAIN, 0, 0, 0 },
     { 0, "--landxml", OPTION_LANDXML, PLAIN, 0, 0, 0 },
     { 0, "--dxf", OPTION_DXF, PLAIN, 0, 0, 0 },
+    { 0, "--finish", OPTION_FINISH, PLAIN, 0, 0, 0 },
+    { 0, "--set-aside", OPTION_SET_ASIDE, PLAIN, 0, 0, 0 },
     { 'w', "--wait", 0, NUMBER, AT(wait), 0, WAIT_MAX },
     { 'q', "--quiet", 0, PLAIN, AT(quiet), 0, 0 },
     { 'h', "--help", 0, PLAIN, AT(help), 0, 0 },

@@ -337,7 +337,7 @@ static uint32_t open_reader(bhtf_file *f, int64_t deadline)
             number = learn_length(f);
         if (number == BHTF_ACCEPTED)
             number = map_view(f, &f->image, PROT_READ, MAP_SHARED);
-        if (number == BHTF_ACCEPTED)
+        if (number == BHTF_ACCEPTED && !f->unasked)
             number = layer_journal_read(f);
         if (number != BHTF_FILE_REPLACED || tries == 100)
             return number;
@@ -358,6 +358,8 @@ static uint32_t open_writer(bhtf_file *f, int64_t deadline)
         number = learn_length(f);
     if (number == BHTF_ACCEPTED)
         number = map_view(f, &f->disk, access, MAP_SHARED);
+    if (f->unasked)
+        return number;
     if (number == BHTF_ACCEPTED)
         number = layer_journal_recover(f, deadline);
     if (number == BHTF_ACCEPTED)
@@ -374,8 +376,8 @@ static uint32_t open_writer(bhtf_file *f, int64_t deadline)
         ? BHTF_ACCEPTED : layer_fail(f, BHTF_FILE_SYSTEM, ENOMEM, "cannot open");
 }
 
-bhtf_file *bhtf_file_open(const char *path, const struct bhtf_file_how *how,
-                          struct bhtf_file_error *why)
+static bhtf_file *open_handle(const char *path, const struct bhtf_file_how *how,
+                              int unasked, struct bhtf_file_error *why)
 {
     bhtf_file *f = make_handle(path, how);
     int64_t deadline;
@@ -385,6 +387,7 @@ bhtf_file *bhtf_file_open(const char *path, const struct bhtf_file_how *how,
         no_memory(path, why);
         return NULL;
     }
+    f->unasked = unasked;
     deadline = layer_deadline(f);
     number = f->writing ? open_writer(f, deadline) : open_reader(f, deadline);
     if (number == BHTF_ACCEPTED)
@@ -393,6 +396,18 @@ bhtf_file *bhtf_file_open(const char *path, const struct bhtf_file_how *how,
         *why = f->why;
     free_handle(f);
     return NULL;
+}
+
+bhtf_file *bhtf_file_open(const char *path, const struct bhtf_file_how *how,
+                          struct bhtf_file_error *why)
+{
+    return open_handle(path, how, 0, why);
+}
+
+bhtf_file *layer_open_unasked(const char *path, const struct bhtf_file_how *how,
+                              struct bhtf_file_error *why)
+{
+    return open_handle(path, how, 1, why);
 }
 
 uint32_t bhtf_file_close(bhtf_file *file)

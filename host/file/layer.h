@@ -26,6 +26,7 @@ struct bhtf_file {
                              made without a name */
     const char *draft_entry;
     int writing;
+    int unasked;          /* its journal is not asked */
     int fd;
     size_t length;
     uint8_t *image;       /* what calls see: a writer's own copy */

@@ -430,3 +430,168 @@ uint32_t layer_journal_recover(bhtf_file *f, int64_t deadline)
     forget(&j);
     return number;
 }
+
+/* ---- a person ---- */
+
+static uint32_t state_of(enum verdict v)
+{
+    return v == UNFINISHED ? BHTF_FILE_UNFINISHED
+         : v == OF_NO_USE ? BHTF_FILE_OF_NO_USE
+         : v == FOREIGN ? BHTF_FILE_FOREIGN
+         : v == NOT_THEIRS ? BHTF_FILE_OWNER : BHTF_FILE_JOURNAL;
+}
+
+static int is_sound(const uint8_t *image, size_t length)
+{
+    uint32_t verdict, slot;
+
+    return bhtf_check(image, length, &verdict, &slot) == BHTF_ACCEPTED &&
+           verdict == 0;
+}
+
+/* How many of the change's stretches are in the file. */
+static void count_written(const uint8_t *image, const struct found *j,
+                          struct bhtf_file_journal *to)
+{
+    const uint8_t *pairs = content_of(j) + 4, *bytes;
+
+    to->stretches = layer_u32(content_of(j));
+    bytes = pairs + 8 * (size_t)to->stretches;
+    for (uint32_t i = 0; i < to->stretches; i++) {
+        size_t size = layer_u32(pairs + 8 * (size_t)i + 4);
+
+        to->written += memcmp(image + layer_u32(pairs + 8 * (size_t)i), bytes,
+                              size) == 0;
+        to->bytes += size;
+        bytes += size;
+    }
+}
+
+/* Is the file sound with the change? Asked on a copy. */
+static int is_sound_after(const bhtf_file *f, const struct found *j)
+{
+    uint8_t mark = j->bytes[j->length - 1];
+    uint8_t *own = mmap(NULL, f->length, PROT_READ | PROT_WRITE,
+                        MAP_PRIVATE | MAP_NORESERVE, f->fd, 0);
+    int is;
+
+    if (own == MAP_FAILED)
+        return 0;
+    j->bytes[j->length - 1] = MARK;
+    is = bhtf_recover(own, f->length, j->bytes + LAYER_PAGE,
+                      (size_t)j->length - LAYER_PAGE) == BHTF_ACCEPTED &&
+         is_sound(own, f->length);
+    j->bytes[j->length - 1] = mark;
+    munmap(own, f->length);
+    return is;
+}
+
+static void tell(const bhtf_file *f, const uint8_t *image,
+                 const struct found *j, struct bhtf_file_journal *to)
+{
+    to->sound = f->length > 0 && is_sound(image, f->length);
+    if (j->fd < 0)
+        return;
+    to->state = state_of(judge(f, image, j));
+    to->owner = (uint32_t)j->about.st_uid;
+    to->length = (uint64_t)j->about.st_size;
+    to->mark = j->mark;
+    to->head = j->head_whole;
+    to->content = j->content_whole &&
+                  j->head.number[FILE_LENGTH] == f->length;
+    if (!to->content)
+        return;
+    to->same = is_same_file(f, image, j);
+    count_written(image, j, to);
+    to->sound_after = is_sound_after(f, j);
+}
+
+/* The mark is put where it should be; then it is an unfinished change like any
+ * other. */
+static uint32_t finish_chosen(bhtf_file *f, struct found *j,
+                              const struct bhtf_file_journal *known,
+                              int64_t deadline)
+{
+    const uint8_t mark = MARK;
+    uint32_t number;
+    int error;
+
+    if (!known->content || !known->same || known->state == BHTF_FILE_OWNER)
+        return layer_fail(f, known->state > BHTF_FILE_OF_NO_USE
+                          ? known->state : BHTF_FILE_JOURNAL, 0,
+                          "its journal has no whole change of this file, and "
+                          "cannot be finished; nothing was touched");
+    number = open_again(f, j);
+    if (number != BHTF_ACCEPTED)
+        return number;
+    error = layer_write_at(f->journal, &mark, 1, j->length - 1);
+    if (error == 0)
+        error = layer_flush(f, f->journal);
+    close(f->journal);
+    f->journal = -1;
+    if (error != 0)
+        return layer_fail_on_journal(f, "cannot be written", error);
+    j->bytes[j->length - 1] = MARK;
+    return finish_found(f, j, deadline);
+}
+
+static uint32_t set_aside(bhtf_file *f, const struct found *j,
+                          struct bhtf_file_journal *to)
+{
+    int error = EEXIST;
+
+    for (int i = 1; i < 1000 && error == EEXIST; i++) {
+        char name[600];
+
+        snprintf(to->aside, sizeof to->aside, ".journal.aside-%d", i);
+        snprintf(name, sizeof name, "%s%s", f->entry, to->aside);
+        error = layer_give_name(f->directory, j->fd, f->journal_entry, name);
+    }
+    if (error == 0)
+        error = layer_sync_names(f->directory, f->fd);
+    return error == 0 ? BHTF_ACCEPTED
+                      : layer_fail_on_journal(f, "cannot be renamed", error);
+}
+
+static uint32_t choose(bhtf_file *f, uint32_t choice, struct found *j,
+                       struct bhtf_file_journal *to)
+{
+    const uint8_t *image = f->writing ? f->disk : f->image;
+    uint32_t number = find_journal(f, j);
+
+    if (number != BHTF_ACCEPTED)
+        return number;
+    tell(f, image, j, to);
+    if (choice == BHTF_FILE_LOOK)
+        return BHTF_ACCEPTED;
+    if (j->fd < 0)
+        return layer_fail(f, BHTF_FILE_MISUSE, 0, "it has no journal");
+    return choice == BHTF_FILE_FINISH
+        ? finish_chosen(f, j, to, layer_deadline(f)) : set_aside(f, j, to);
+}
+
+uint32_t bhtf_file_recover(const char *path, uint32_t choice,
+                           const struct bhtf_file_how *how,
+                           struct bhtf_file_journal *journal,
+                           struct bhtf_file_error *why)
+{
+    struct bhtf_file_how manner = { 0, 10000, NULL, NULL };
+    struct found j;
+    uint32_t number;
+    bhtf_file *f;
+
+    memset(journal, 0, sizeof *journal);
+    memset(&j, 0, sizeof j);
+    j.fd = journal->mark = -1;
+    if (how != NULL)
+        manner = *how;
+    manner.flags = choice == BHTF_FILE_LOOK ? 0 : BHTF_FILE_WRITE;
+    f = layer_open_unasked(path, &manner, why);
+    if (f == NULL)
+        return why->number;
+    number = choose(f, choice, &j, journal);
+    *why = f->why;
+    forget(&j);
+    bhtf_file_close(f);
+    return number;
+}

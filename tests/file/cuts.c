@@ -480,6 +480,7 @@ static int none_of_them(size_t change) { (void)change; return 0; }
 static int all_of_them(size_t change) { (void)change; return 1; }
 static int only_one(size_t change) { return change == chosen; }
 static int all_but_one(size_t change) { return change != chosen; }
+static int torn_one(size_t change) { return change == chosen ? 2 : 1; }
 static int any_of_them(size_t change) { (void)change; return rand() % 3; }
 
 static void try_state(struct run *r, size_t events, int acknowledged,
@@ -508,6 +509,7 @@ static void cut_by_power(struct run *r)
         for (chosen = 0; chosen < open_changes && chosen < 40; chosen++) {
             try_state(r, events, acknowledged, only_one, "only");
             try_state(r, events, acknowledged, all_but_one, "all but");
+            try_state(r, events, acknowledged, torn_one, "torn");
         }
         for (chosen = 0; chosen < random_states; chosen++)
             try_state(r, events, acknowledged, any_of_them, "random");

@@ -470,6 +470,7 @@ static void flip(const char *path, off_t at)
 /* ---- damage ---- */
 
 static uint8_t half[SIZE], after[SIZE];
+static char now_aside[700];
 
 static void read_file(uint8_t *bytes)
 {
@@ -643,6 +644,54 @@ static void try_damaged(void)
     holds("a journal that is proved to be of no use does not stop",
           has(file, "X", "unfinished"));
     unlink(journal);
+}
+
+/* What a person may choose where a journal is damaged. */
+static void try_recover(void)
+{
+    static uint8_t now[SIZE];
+    struct bhtf_file_journal j;
+    struct bhtf_file_error why;
+
+    make_fresh();
+    holds("no journal is told", bhtf_file_recover(file, BHTF_FILE_LOOK, NULL, &j,
+          &why) == 0 && j.state == BHTF_FILE_NO_JOURNAL && j.sound);
+    holds("and cannot be finished", bhtf_file_recover(file, BHTF_FILE_FINISH,
+          NULL, &j, &why) == BHTF_FILE_MISUSE);
+    leave_half();
+    holds("an unfinished change is told", bhtf_file_recover(file, BHTF_FILE_LOOK,
+          NULL, &j, &why) == 0 && j.state == BHTF_FILE_UNFINISHED &&
+          j.mark == 0xA5 && j.head && j.content && j.same && j.sound_after &&
+          j.written < j.stretches && is_there(journal));
+    damage_mark_zero();
+    holds("one without its mark", bhtf_file_recover(file, BHTF_FILE_LOOK, NULL,
+          &j, &why) == 0 && j.state == BHTF_FILE_JOURNAL && j.mark == 0 &&
+          j.content && j.same);
+    read_file(now);
+    holds("looking touches nothing", memcmp(now, half, SIZE) == 0);
+    holds("can be finished", bhtf_file_recover(file, BHTF_FILE_FINISH, NULL, &j,
+          &why) == 0 && !is_there(journal));
+    read_file(now);
+    holds("and is", memcmp(now, after, SIZE) == 0 &&
+          has(file, "X", "unfinished"));
+    leave_half();
+    damage_last_page();
+    holds("so can one whose last page is cut", bhtf_file_recover(file,
+          BHTF_FILE_FINISH, NULL, &j, &why) == 0 && !is_there(journal) &&
+          has(file, "X", "unfinished"));
+    leave_half();
+    damage_content();
+    holds("but not one without its content", bhtf_file_recover(file,
+          BHTF_FILE_FINISH, NULL, &j, &why) == BHTF_FILE_JOURNAL &&
+          is_there(journal));
+    holds("that is set aside", bhtf_file_recover(file, BHTF_FILE_SET_ASIDE, NULL,
+          &j, &why) == 0 && !is_there(journal) &&
+          strcmp(j.aside, ".journal.aside-1") == 0);
+    read_file(now);
+    holds("and the file is as it stood", memcmp(now, half, SIZE) == 0);
+    snprintf(now_aside, sizeof now_aside, "%s%s", file, j.aside);
+    holds("the journal is kept", is_there(now_aside));
+    unlink(now_aside);
 }
 
 /* ---- handles ---- */
@@ -1230,6 +1279,7 @@ int main(int argc, char **argv)
     try_unreadable();
     try_foreign();
     try_damaged();
+    try_recover();
     try_moved(argv[1]);
     try_hard_links();
     try_owner();
