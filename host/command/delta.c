@@ -229,6 +229,11 @@ const uint8_t *delta_before(const uint8_t *head)
     return head + BEFORE_AT;
 }
 
+uint32_t delta_length(const uint8_t *head)
+{
+    return read_u32(head + LENGTH_AT);
+}
+
 /* Up to the check sum. */
 static enum delta_answer read_head(const uint8_t *bytes, size_t left)
 {

@@ -49,8 +49,9 @@ enum delta_answer delta_read(struct delta *d, const uint8_t *bytes,
 #define DELTA_HEAD 80u
 size_t delta_size(const uint8_t *head);
 
-/* The check sum before, in such a head. */
+/* In such a head: the check sum before, and the length of the images. */
 const uint8_t *delta_before(const uint8_t *head);
+uint32_t delta_length(const uint8_t *head);
 
 /* What stands where a record should begin, of which only `left` bytes are
  * there. */

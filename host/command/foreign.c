@@ -1,6 +1,8 @@
 /* What the formats of other programs have in common. */
 #include "foreign.h"
 
+#include "command_limits.h"
+
 #include <errno.h>
 #include <string.h>
 
@@ -46,9 +48,6 @@ int foreign_options(const struct options *o)
     return DONE;
 }
 
-/* No file of points is longer. */
-enum { FOREIGN_MOST = 1 << 28 };
-
 int foreign_read(struct arrivals *a, FILE *from, const struct options *o)
 {
     struct buffer bytes = { NULL, 0, 0 };
@@ -56,8 +55,14 @@ int foreign_read(struct arrivals *a, FILE *from, const struct options *o)
     int status;
 
     a->line = 1;
-    if (buffer_read(&bytes, from, FOREIGN_MOST) != 0) {
+    if (buffer_read(&bytes, from, (size_t)FOREIGN_MOST + 1) != 0) {
         complain("%s: cannot be read: %s", a->input, strerror(errno));
+        buffer_free(&bytes);
+        return TROUBLE;
+    }
+    if (bytes.length > FOREIGN_MOST) {
+        complain("%s: has more than %lu bytes; import it in parts", a->input,
+                 (unsigned long)FOREIGN_MOST);
         buffer_free(&bytes);
         return TROUBLE;
     }
