@@ -188,6 +188,33 @@ if [ "$(id -u)" -eq 0 ]; then
   gives "makes a journal for the group" 0 '^2000 664$' stat -c '%g %a' "$work/group/site.journal"
 fi
 
+# ---- inputs without end, and what a power cut leaves of a record ----
+
+endless() { yes | (ulimit -v 300000 && timeout 20 "$bhtf" apply "$copy" -); }
+gives "apply of an endless input" 2 'record 1: this is no delta' endless
+too_long() { head -c 268435457 /dev/zero | "$bhtf" import "$office" - --gsi; }
+gives "a file of another program that is too long" 2 'has more than 268435456 bytes' too_long
+"$bhtf" delta "$copy" "$office" >"$work/one"
+gives "a delta that is cut in its head" 2 'record 1: the delta was cut short' sh -c "head -c 60 '$work/one' | '$bhtf' apply '$copy' -"
+gives "or in its content" 2 'record 1: the delta was cut short' sh -c "head -c -1 '$work/one' | '$bhtf' apply '$copy' -"
+"$bhtf" create "$work/other" --size 8K --slots 20
+gives "one for a file of another length" 1 'record 1 of .* is for a file of' "$bhtf" apply "$work/other" "$work/one"
+tail_of() { # NAME COMMAND: what the command puts after the last record is dropped
+  cp "$changes" "$work/tail"
+  eval "$2"
+  gives "$1" 0 'warning: its last record was of a change that was cut short' "$bhtf" add "$office" "T$RANDOM" x --delta "$work/tail"
+  cp "$work/tail" "$changes"
+}
+tail_of "after the last record: zeros" 'head -c 150 /dev/zero >>"$work/tail"'
+tail_of "after the last record: its beginning" 'head -c 100 "$work/one" >>"$work/tail"'
+tail_of "after the last record: bytes" 'head -c 700 /dev/urandom >>"$work/tail"'
+printf 'a text\n' >"$work/text"
+gives "a file that is none of records is left alone" 2 'not a file of whole records' "$bhtf" add "$office" U x --delta "$work/text"
+"$bhtf" create "$work/private" --size 8K --slots 20
+chmod 600 "$work/private"
+"$bhtf" add "$work/private" A x --delta "$work/private.delta"
+gives "a file of records has the rights of its file" 0 '^600$' stat -c %a "$work/private.delta"
+
 # ---- a journal that is damaged ----
 
 half=$work/half

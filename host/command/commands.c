@@ -4,9 +4,11 @@
 #include "delta_append.h"
 #include "image_header.h"
 #include "command_limits.h"
+#include "long_work.h"
 #include "point.h"
 #include "progress.h"
 #include "put_point.h"
+#include "terminal.h"
 
 #include <errno.h>
 #include <string.h>
@@ -350,6 +352,17 @@ int run_withdraw(const struct options *o)
 
 /* ---- delete ---- */
 
+/* In a full table a delete looks at every slot, and at every one between a
+ * point and its home. */
+static void warn_of_delete(const char *file, const struct image *i)
+{
+    const struct header h = header_read(i->bytes);
+
+    if (h.count >= h.slots)
+        say_duration(file, "delete", h.slots +
+                     slots_displaced(i->bytes, i->length, &h), h.key_size);
+}
+
 int run_delete(const struct options *o)
 {
     struct buffer key = { NULL, 0, 0 };
@@ -362,6 +375,7 @@ int run_delete(const struct options *o)
         struct answer a = { 0, 0, 0 };
         uint32_t offset, length;
 
+        warn_of_delete(o->word[0], &i);
         bhtf_lookup_slots(i.bytes, i.length, key.bytes, key.length, &offset,
                           &length, &a.slots_read);
         a.number = bhtf_file_delete(i.file, key.bytes, key.length);
@@ -380,8 +394,7 @@ static int print_text(const struct buffer *text, const struct options *o)
 
     if (text->length == 0 && !o->quiet)
         complain("%s: %s: the point's text is empty", o->word[0], o->word[1]);
-    if (text->length > 0)
-        fwrite(text->bytes, 1, text->length, stdout);
+    put_bytes(text->bytes, text->length);
     if (text->length > 0 && text->bytes[text->length - 1] != '\n' &&
         on_terminal)
         putchar('\n');

@@ -94,7 +94,7 @@ static int write_site(struct site *s, const struct options *o)
 /* Is more than one of these bits set? */
 static int several(uint64_t given)
 {
-    given &= OPTION_FOREIGN | OPTION_CRLF;
+    given &= OPTION_FOREIGN | OPTION_CRLF | OPTION_SPREADSHEET;
     return (given & (given - 1)) != 0;
 }
 
@@ -104,7 +104,8 @@ int export_foreign(const struct options *o)
     int status;
 
     if (several(o->given)) {
-        complain("export: --crlf, --gsi, --landxml or --dxf, one of them");
+        complain("export: --gsi, --landxml or --dxf, one of them, and without "
+                 "options for CSV");
         return TROUBLE;
     }
     status = site_open(&s, o->word[0], (unsigned)o->wait);

@@ -176,15 +176,18 @@ static const struct command commands[] = {
       "      --gsi          CSV is a Leica GSI-16 file\n"
       "      --landxml      CSV is a LandXML file; its CgPoints are read\n"
       DELTA NO_SYNC QUIET WAITING NAMES },
-    { "export", OPTION_CRLF | OPTION_GSI | OPTION_LANDXML | OPTION_DXF, 1, 1,
+    { "export", OPTION_CRLF | OPTION_SPREADSHEET | OPTION_GSI | OPTION_LANDXML |
+                OPTION_DXF, 1, 1,
       run_export,
-      "bhtf export FILE [--crlf | --gsi | --landxml | --dxf]\n"
+      "bhtf export FILE [--crlf] [--spreadsheet] | --gsi | --landxml | --dxf\n"
       "Prints the points as import reads them, with a heading. Texts that are "
       "not\n"
       "easting,northing,height,note stand in a column text; an empty text is a "
       "yes\n"
       "in a column empty.\n"
       "      --crlf         end lines with carriage return and line feed\n"
+      "      --spreadsheet  an apostrophe in front of names, notes and texts that\n"
+      "                     a spreadsheet would run; import gets that, too\n"
       "      --gsi          as Leica GSI-16\n"
       "      --landxml      as CgPoints of LandXML 1.2\n"
       "      --dxf          as points and names of DXF, release 12\n"

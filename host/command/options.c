@@ -58,6 +58,7 @@ static const struct row all[] = {
     { 0, "--gsi", OPTION_GSI, PLAIN, 0, 0, 0 },
     { 0, "--landxml", OPTION_LANDXML, PLAIN, 0, 0, 0 },
     { 0, "--dxf", OPTION_DXF, PLAIN, 0, 0, 0 },
+    { 0, "--spreadsheet", OPTION_SPREADSHEET, PLAIN, 0, 0, 0 },
     { 0, "--finish", OPTION_FINISH, PLAIN, 0, 0, 0 },
     { 0, "--set-aside", OPTION_SET_ASIDE, PLAIN, 0, 0, 0 },
     { 'w', "--wait", 0, NUMBER, AT(wait), 0, WAIT_MAX },
