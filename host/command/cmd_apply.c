@@ -61,8 +61,8 @@ static int read_up_to(struct refresh *r, FILE *file, size_t most)
     return TROUBLE;
 }
 
-/* A record's head says how much follows: what is none, or is for a file of
- * another length than the copy, is not read on. */
+/* A record's head says how much follows: what is none, or is longer than any
+ * for the copy, is not read on. */
 static int ask_head(const struct refresh *r, size_t start, uint64_t own,
                     size_t *size)
 {
@@ -72,7 +72,7 @@ static int ask_head(const struct refresh *r, size_t start, uint64_t own,
     *size = got < DELTA_HEAD ? 0 : delta_size(head);
     if (*size == 0)
         return complain_of_record(r, delta_begins(head, got));
-    if (own > 0 && delta_length(head) != own)
+    if (own > 0 && *size > delta_longest(own))
         return refuse_length(r, r->count, delta_length(head), own);
     if (*size > APPLY_MOST - start) {
         complain("%s: has more than %lu bytes; apply it in parts. %s is as it "

@@ -209,8 +209,7 @@ int delta_put(struct buffer *to, const struct state *before,
     return buffer_put(to, sum, SHA256_SIZE);
 }
 
-/* No record of images of that length is longer: see content_put. */
-static uint64_t longest(uint32_t length)
+uint64_t delta_longest(uint64_t length)
 {
     return (uint64_t)LEAST + 2 * PAIR + length;
 }
@@ -221,7 +220,7 @@ size_t delta_size(const uint8_t *head)
     uint32_t length = read_u32(head + LENGTH_AT);
 
     return memcmp(head, magic, sizeof magic) == 0 && size >= LEAST &&
-           length <= BHTF_IMAGE_MAX && size <= longest(length) ? size : 0;
+           length <= BHTF_IMAGE_MAX && size <= delta_longest(length) ? size : 0;
 }
 
 const uint8_t *delta_before(const uint8_t *head)

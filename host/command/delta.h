@@ -53,6 +53,9 @@ size_t delta_size(const uint8_t *head);
 const uint8_t *delta_before(const uint8_t *head);
 uint32_t delta_length(const uint8_t *head);
 
+/* No record of images of that length is longer: see content_put. */
+uint64_t delta_longest(uint64_t length);
+
 /* What stands where a record should begin, of which only `left` bytes are
  * there. */
 enum delta_answer delta_begins(const uint8_t *bytes, size_t left);

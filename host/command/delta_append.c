@@ -240,41 +240,40 @@ static int is_first_cut(const struct delta_append *f)
            memcmp(delta_before(head), f->before.sum, SHA256_SIZE) == 0;
 }
 
+static int refuse_tail(const struct delta_append *f, const struct image *i,
+                       const struct tail *t, enum leads leads)
+{
+    return refuse_records(f, i, t->end < f->end ? "not a file of whole records"
+                          : leads == BROKEN ? "its last record is damaged"
+                          : leads == FROM_FILE
+                          ? "its records do not go on from each other"
+                          : "its last record leads to another file, or there "
+                            "was a change without --delta since");
+}
+
 /* A change goes on where the last record ends that leads to the file. After it
  * may stand one record whose change was not made, whole or not, and nothing
  * that is another record: that would be of a change that was. */
 static int ask_last(struct delta_append *f, const struct image *i)
 {
     struct tail t;
-    enum leads leads, front;
+    enum leads leads;
 
     if (find_tail(f, &t) != 0)
         return fail(f, "cannot be read");
     if (t.count == 0)
         return is_zero(f, 0) || is_first_cut(f)
-            ? drop_behind(f, 0)
-            : refuse_records(f, i, "not a file of whole records");
+            ? drop_behind(f, 0) : refuse_tail(f, i, &t, NOWHERE);
     leads = ask_record(f, t.last, t.end);
     if (leads == UNREAD)
         return fail(f, "cannot be read");
     if (leads == TO_FILE)
         return t.end == f->end ? 0 : drop_behind(f, t.end);
-    if (t.count == 1)
-        return leads == FROM_FILE || (leads == BROKEN && is_first_cut(f))
-            ? drop_behind(f, 0)
-            : refuse_records(f, i, leads == BROKEN
-                             ? "its last record is damaged"
-                             : "its last record leads to another file, or there "
-                               "was a change without --delta since");
-    front = ask_record(f, t.before, t.last);
-    if (front == TO_FILE && leads != NOWHERE)
+    if (t.count == 1
+            ? leads == FROM_FILE || (leads == BROKEN && is_first_cut(f))
+            : leads != NOWHERE && ask_record(f, t.before, t.last) == TO_FILE)
         return drop_behind(f, t.last);
-    return refuse_records(f, i, leads == BROKEN
-                          ? "its last record is damaged"
-                          : leads == FROM_FILE
-                          ? "its records do not go on from each other"
-                          : "its last record leads to another file, or there "
-                            "was a change without --delta since");
+    return refuse_tail(f, i, &t, leads);
 }
 
 static int ask_records(struct delta_append *f, const struct image *i)

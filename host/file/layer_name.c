@@ -53,8 +53,8 @@ int layer_is_entry(int directory, const char *name, int fd)
 
 uint32_t layer_replaced(bhtf_file *f)
 {
-    return layer_fail(f, BHTF_FILE_REPLACED, 0, "another program removed, moved "
-                      "or replaced the file while it was in use");
+    return layer_fail(f, BHTF_FILE_REPLACED, 0, "another program removed or "
+                      "replaced the file while it was in use");
 }
 
 uint32_t layer_ask_name(bhtf_file *f)
