@@ -2,7 +2,8 @@
 # The file layer: its calls, writers and readers at once, changes cut by KILL and by the power, the library as others use it, disks
 # that are full or must not be written, and seeded faults, each of which must be found. A line for each test; the last line is
 # 'N passed, M failed', and the status 0 only if M is 0.
-#   tests/file.sh [--seed N] [--thorough]   thorough: thousands of random cuts, and a minute of readers and writers
+#   tests/file.sh [--seed N] [--thorough]   thorough: thousands of random cuts, a minute of readers and writers, an hour of inputs
+#                                           that nobody means
 #   LIB=path     the proved library, from the repository's root; target/staticlib/libstation.a unless given
 #   LDLIBS=..    if it needs more
 set -u
@@ -10,11 +11,11 @@ cd "$(dirname "$0")/.." || exit 2
 root=$PWD
 
 seed=$RANDOM
-random=20 states=6 seconds=5
+random=20 states=6 seconds=5 fuzzed=56
 while [ $# -gt 0 ]; do
   case $1 in
     --seed) seed=$2; shift ;;
-    --thorough) random=600 states=60 seconds=60 ;;
+    --thorough) random=600 states=60 seconds=60 fuzzed=3600 ;;
     *) echo "unknown: $1" >&2; exit 2 ;;
   esac
   shift
@@ -167,9 +168,9 @@ office=$work/office changes=$work/changes copy=$work/copy.bhtf
 failing() { LD_PRELOAD=$work/programs/failing.so FAILS=$1 "${@:2}"; }
 "$bhtf" create "$office" --key-size 12 --slots 100 && cp "$office" "$copy"
 sed 's/brass/steel/' host/site.csv >"$work/steel.csv"
-gives "a journal that cannot be removed" 2 'office: cannot be closed' failing unlink "$bhtf" add "$office" A x --delta "$changes"
+gives "a journal that cannot be removed" 0 'office: warning: the change is stored' failing unlink "$bhtf" add "$office" A x --delta "$changes"
 "$bhtf" add "$office" B y --delta "$changes"
-gives "an import says then what it stored" 2 '^12 points stored' failing unlink "$bhtf" import "$office" host/site.csv --delta "$changes"
+gives "an import says then what it stored" 0 '^12 points stored' failing unlink "$bhtf" import "$office" host/site.csv --delta "$changes"
 gives "a disk that fails when the mark is there" 2 'whether its points are stored in .* is told' \
   failing 4 "$bhtf" import "$office" "$work/steel.csv" --replace --delta "$changes"
 gives "the next command finishes that; its own change fails" 2 'nothing was stored' \
@@ -183,7 +184,7 @@ if [ "$(id -u)" -eq 0 ]; then
   chown -R 65533:2000 "$work/group"
   chmod 775 "$work/group" "$work/programs"
   chmod 664 "$work/group/site"
-  gives "a writer that is of the file's group" 2 'site: cannot be closed' \
+  gives "a writer that is of the file's group" 0 'site: warning: the change is stored' \
     failing unlink setpriv --reuid 65534 --regid 65534 --groups 2000 "$bhtf" add "$work/group/site" C z
   gives "makes a journal for the group" 0 '^2000 664$' stat -c '%g %a' "$work/group/site.journal"
 fi
@@ -236,6 +237,54 @@ mv "$half.journal.aside-1" "$half.journal"
 gives "or finishes the change" 0 'the change is made' "$bhtf" recover "$half" --finish
 holds "as it should be" cmp "$half.after" "$half"
 gives "then there is none" 0 'there is none' "$bhtf" recover "$half"
+
+# ---- texts on a terminal, and in a spreadsheet ----
+
+on_terminal() { python3 tests/file/terminal.py "$bhtf" "$@" </dev/null; }
+printf '1,2,3,\033]0;title\007\033[2J\302\233\342\200\256' | "$bhtf" add "$office" ESC
+"$bhtf" add "$office" '=1+1' '1,-2,3,@SUM(1)'
+quoted='1,2,3,\\x1B\]0;title\\x07\\x1B\[2J\\xC2\\x9B\\xE2\\x80\\xAE'
+gives "get on a terminal" 0 "^$quoted\$" on_terminal get "$office" ESC
+gives "get of several" 0 "^ESC<09>$quoted\$" on_terminal get "$office" ESC '=1+1'
+gives "export" 0 "^ESC,$quoted" on_terminal export "$office"
+gives "list --tsv" 0 "${quoted#1,2,3,}" on_terminal list "$office" --tsv
+clean() { ! "$bhtf" "$@" 2>/dev/null | LC_ALL=C grep -aqP '[\x00-\x08\x0B-\x1F\x7F]|\xC2[\x80-\x9F]|\xE2\x80\xAE'; }
+holds "list --json has no bytes that change a terminal" clean list "$office" --json
+holds "nor has export --landxml" clean export "$office" --landxml
+gives "what goes to a file is as it is" 0 '^4 ' sh -c "'$bhtf' get '$office' ESC | LC_ALL=C grep -aobP '\033|\007|\302\233' | wc -l | sed 's/\$/ /'"
+gives "formulas are made harmless" 0 "^'=1\+1,1,-2,3,'@SUM" "$bhtf" export "$office" --spreadsheet
+gives "if asked for" 0 '^=1\+1,1,-2,3,@SUM' "$bhtf" export "$office"
+gives "a report that cannot be written says what is stored" 2 'standard output: .*; the change is stored' \
+  sh -c "'$bhtf' import '$office' host/site.csv --replace >/dev/full"
+
+# ---- a table that was made to be slow ----
+
+cat >"$work/slow.py" <<'END'
+import struct, sys
+image = bytearray(open(sys.argv[1], "rb").read())
+size, slots = struct.unpack(">II", image[12:20])
+for i in range(slots):
+    image[2048 + i * (size + 4):2048 + (i + 1) * (size + 4)] = b"%0*d" % (size, i) + bytes(4)
+image[20:24] = struct.pack(">I", slots)
+open(sys.argv[1], "wb").write(image)
+END
+"$bhtf" create "$work/slow" --key-size 8 --slots 200000
+python3 "$work/slow.py" "$work/slow"
+cp "$work/slow" "$work/slow.before"
+gives "stat says beforehand how long it may take" 124 'stat may take some [0-9]+ (seconds|minutes)' timeout -s INT 1 "$bhtf" stat "$work/slow"
+gives "and delete" 124 'delete may take some [0-9]+ (seconds|minutes)' timeout -s INT 1 "$bhtf" delete "$work/slow" 00000007
+holds "an interrupt leaves the file as it was" cmp "$work/slow" "$work/slow.before"
+holds "and no journal" test ! -e "$work/slow.journal"
+
+# ---- with the sanitizers ----
+
+holds "the host builds with the sanitizers" make -C host OUT="$work/sane" SANITIZE=yes "${settings[@]}"
+holds "the programs, too" make -C tests/file OUT="$work/sane/programs" LIB="$work/sane/libbhtf.a" LDLIBS="${LDLIBS:-}" \
+  CFLAGS="-std=c99 -O1 -g -Wno-format-truncation -I../../host/include -fsanitize=address,undefined -fno-sanitize-recover=all" \
+  "$work/sane/programs/layer"
+mkdir "$work/layer2" "$work/fuzzed"
+counted "the layer's calls with the sanitizers" env ASAN_OPTIONS=detect_leaks=0 "$work/sane/programs/layer" "$work/layer2"
+counted "inputs that nobody means" bash tests/file/fuzz.sh "$fuzzed" "$work/fuzzed"
 
 # ---- seeded faults ----
 

@@ -156,6 +156,8 @@ static void make_right(uint8_t *bytes, size_t length)
            delta_size(bytes + at) <= length - at) {
         size_t size = delta_size(bytes + at);
 
+        bytes[at + 12] = bytes[at + 13] = bytes[at + 15] = 0;
+        bytes[at + 14] = SIZE >> 8;
         if (at == 0)
             sha256(first, SIZE, bytes + 16);
         sha256(bytes + at, size - SHA256_SIZE, bytes + at + size - SHA256_SIZE);
@@ -175,8 +177,26 @@ static void try_delta(uint8_t *bytes, size_t length, int right)
     RUN("add", site, "NEW", "text", "--no-sync", "--delta", records);
 }
 
+/* Do pairs lie in the image, so that sums can be taken over them? */
+static int pairs_lie(const uint8_t *content, size_t length)
+{
+    uint64_t last = 0, count = length < 4 ? length : layer_u32(content);
+
+    if (length < 4 + 8 * count)
+        return 0;
+    for (uint64_t i = 0; i < count; i++) {
+        uint64_t from = layer_u32(content + 4 + 8 * i);
+
+        if (from < last || from + layer_u32(content + 8 + 8 * i) > SIZE)
+            return 0;
+        last = from + layer_u32(content + 8 + 8 * i);
+    }
+    return 1;
+}
+
 static void make_journal_right(uint8_t *bytes, size_t length)
 {
+    const uint8_t *content = bytes + LAYER_PAGE;
     struct head h;
 
     if (length < JOURNAL_LEAST)
@@ -188,6 +208,13 @@ static void make_journal_right(uint8_t *bytes, size_t length)
     h.number[CONTENT_LENGTH] %= length - 2 * LAYER_PAGE + 1;
     h.number[CONTENT_SUM] = layer_content_sum(bytes + LAYER_PAGE,
                                               h.number[CONTENT_LENGTH]);
+    if (bytes[HEAD_BYTES] % 2 == 0 &&
+        pairs_lie(content, h.number[CONTENT_LENGTH])) {
+        h.number[REACH] = SIZE;
+        h.number[OTHERS_SUM] = layer_sum(half, SIZE, 0, SIZE) -
+            layer_sum_met(half, SIZE, content + 4, layer_u32(content), 0) +
+            layer_sum_met(half, SIZE, content + 4, layer_u32(content), 1);
+    }
     layer_put_head(bytes, &h);
 }
 

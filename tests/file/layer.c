@@ -1215,7 +1215,7 @@ static void try_large(void)
 /* An older copy of a large file that is put back, which differs in one text. */
 static void try_large_foreign(void)
 {
-    enum { LARGE = 40 << 20, TEXT = 3 << 20, TEXTS = 12 };
+    enum { LARGE = 40 << 20, TEXT = 3 << 20, TEXTS = 5 };
     static char text[TEXT + 1];
     uint8_t *image = calloc(LARGE, 1), *older = malloc(LARGE);
     int refused = 0;
