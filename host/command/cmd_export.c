@@ -3,13 +3,18 @@
  * A text that these fields alone would not give back stands, byte for byte, in
  * a column of its own, and one more column says yes where the text is empty;
  * without it, empty fields are no text. The file has these columns only if a
- * point needs them. */
+ * point needs them.
+ *
+ * A spreadsheet takes a cell that begins with = + - @ for a formula, and runs
+ * it. With --spreadsheet such a name, note or text gets an apostrophe in front;
+ * it does not come back as it was. */
 #include "commands.h"
 
 #include "csv_columns.h"
 #include "foreign.h"
 #include "progress.h"
 #include "selection.h"
+#include "terminal.h"
 
 #include <string.h>
 #include <unistd.h>
@@ -19,6 +24,7 @@ struct export {
     const char *line_end;
     int texts;             /* is there a column for texts? */
     int empties;           /* is there one for empty texts? */
+    int spreadsheet;       /* nothing may be taken for a formula */
     struct buffer name;
     struct buffer line;
     struct buffer again;   /* a text that is put together again */
@@ -78,6 +84,25 @@ static void find_columns(struct export *e, const struct site *s)
 
 /* ---- a line ---- */
 
+/* A cell of words, as it is or harmless. */
+static int put_words(struct export *e, struct piece p)
+{
+    struct buffer cell = { NULL, 0, 0 };
+    int done;
+
+    if (!e->spreadsheet || p.length == 0 ||
+        memchr("=+-@\t\r", p.bytes[0], 6) == NULL)
+        return csv_put(&e->line, p);
+    done = buffer_put_byte(&cell, '\'') | buffer_put(&cell, p.bytes, p.length);
+    if (done == 0) {
+        p.bytes = cell.bytes;
+        p.length = cell.length;
+        done = csv_put(&e->line, p);
+    }
+    buffer_free(&cell);
+    return done;
+}
+
 static int put_fields(struct export *e, struct piece text, int empty)
 {
     const struct piece none = { (const uint8_t *)"", 0 };
@@ -93,10 +118,12 @@ static int put_fields(struct export *e, struct piece text, int empty)
     } else if (text.length > 0)
         back = comes_back(e, text, fields);
     for (int i = 0; i < POINT_FIELDS; i++)
-        done |= buffer_put_byte(&e->line, ',') | csv_put(&e->line, fields[i]);
+        done |= buffer_put_byte(&e->line, ',') |
+                (i == NOTE ? put_words(e, fields[i])
+                           : csv_put(&e->line, fields[i]));
     if (e->texts)
         done |= buffer_put_byte(&e->line, ',') |
-                csv_put(&e->line, back ? none : text);
+                put_words(e, back ? none : text);
     if (e->empties)
         done |= buffer_put_byte(&e->line, ',') |
                 csv_put(&e->line, empty ? yes : none);
@@ -116,11 +143,11 @@ static int put_line(struct export *e, const struct spot *s)
         return leave_out(e->file, &e->name, s->number);
     name.bytes = e->name.bytes;
     name.length = e->name.length;
-    if (csv_put(&e->line, name) != 0 ||
+    if (put_words(e, name) != 0 ||
         put_fields(e, s->text, s->kind == SPOT_EMPTY) != 0 ||
         buffer_put(&e->line, e->line_end, strlen(e->line_end)) != 0)
         return out_of_memory();
-    fwrite(e->line.bytes, 1, e->line.length, stdout);
+    put_bytes(e->line.bytes, e->line.length);
     return DONE;
 }
 
@@ -172,6 +199,7 @@ int run_export(const struct options *o)
     memset(&e, 0, sizeof e);
     e.file = o->word[0];
     e.line_end = o->given & OPTION_CRLF ? "\r\n" : "\n";
+    e.spreadsheet = (o->given & OPTION_SPREADSHEET) != 0;
     status = site_open(&s, o->word[0], (unsigned)o->wait);
     if (status == DONE)
         status = export_csv(&e, o, &s, by_name);

@@ -37,4 +37,8 @@
 #define DUMP_VERSION 1u
 #define DUMP_LINE_MAX (4u * (BHTF_MESSAGE_MAX + BHTF_KEY_MAX) + 64u)
 
+/* Bytes of a file of another program, and of deltas, that are read at once. */
+#define FOREIGN_MOST (1u << 28)
+#define APPLY_MOST (1u << 31)
+
 #endif

@@ -4,6 +4,7 @@
 #include "csv.h"
 #include "image_header.h"
 #include "command_limits.h"
+#include "terminal.h"
 
 #include <string.h>
 #include <unistd.h>
@@ -218,8 +219,7 @@ static int print_text(const struct buffer *text, const struct options *o)
 
     if (text->length == 0 && !o->quiet)
         complain("%s: %s: the point's text is empty", o->word[0], o->word[1]);
-    if (text->length > 0)
-        fwrite(text->bytes, 1, text->length, stdout);
+    put_bytes(text->bytes, text->length);
     if (text->length > 0 && text->bytes[text->length - 1] != '\n' &&
         on_terminal)
         putchar('\n');

@@ -56,6 +56,9 @@
 #define OPTION_LANDXML OPTION(41)
 #define OPTION_DXF OPTION(42)
 #define OPTION_TOLERANCE OPTION(50)
+#define OPTION_FINISH OPTION(56)
+#define OPTION_SET_ASIDE OPTION(57)
+#define OPTION_SPREADSHEET OPTION(58)
 
 /* In place of the largest number of words: as many as there are. */
 enum { ANY_NUMBER = -1 };
@@ -135,6 +138,7 @@ int run_dump(const struct options *o);
 int run_load(const struct options *o);
 int run_delta(const struct options *o);
 int run_apply(const struct options *o);
+int run_recover(const struct options *o);
 int run_diff(const struct options *o);
 int run_plot(const struct options *o);
 int run_figure(const struct options *o);

@@ -19,4 +19,7 @@ int out_of_memory(void);
 /* Flushes standard output: `status`, or TROUBLE if it could not be written. */
 int finish_output(int status);
 
+/* From now on a failure of standard output says that the change is stored. */
+void tell_stored(void);
+
 #endif

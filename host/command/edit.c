@@ -7,6 +7,7 @@
 
 #include "change_words.h"
 #include "image_header.h"
+#include "long_work.h"
 #include "progress.h"
 #include "utf8.h"
 
@@ -459,6 +460,17 @@ int edit_withdraw(struct edit *e, const struct options *o)
     return status == DONE ? store_text(e, o, NULL, BHTF_WITHDRAW) : status;
 }
 
+/* In a full table a delete looks at every slot, and at every one between a
+ * point and its home. */
+static void warn_of_delete(const char *file, const struct image *i)
+{
+    const struct header h = header_read(i->bytes);
+
+    if (h.count >= h.slots)
+        say_duration(file, "delete", h.slots +
+                     slots_displaced(i->bytes, i->length, &h), h.key_size);
+}
+
 int edit_delete(struct edit *e, const struct options *o)
 {
     uint32_t read = 0, number;
@@ -466,6 +478,7 @@ int edit_delete(struct edit *e, const struct options *o)
 
     if (status != DONE)
         return status;
+    warn_of_delete(o->word[0], &e->image);
     number = bhtf_file_delete(e->image.file, e->key.bytes, e->key.length);
     if (number != BHTF_ACCEPTED)
         status = refuse_change(e, o->word[1], number, 0);

@@ -2,6 +2,7 @@
 #include "foreign.h"
 
 #include "selection.h"
+#include "command_limits.h"
 
 #include <errno.h>
 #include <string.h>
@@ -66,9 +67,6 @@ int foreign_options(uint64_t given)
     return DONE;
 }
 
-/* No file of points is longer. */
-enum { FOREIGN_MOST = 1 << 28 };
-
 int foreign_read(struct arrivals *a, FILE *from, uint64_t kind, int quiet)
 {
     struct buffer bytes = { NULL, 0, 0 };
@@ -76,8 +74,14 @@ int foreign_read(struct arrivals *a, FILE *from, uint64_t kind, int quiet)
     int status;
 
     a->line = 1;
-    if (buffer_read(&bytes, from, FOREIGN_MOST) != 0) {
+    if (buffer_read(&bytes, from, (size_t)FOREIGN_MOST + 1) != 0) {
         complain("%s: cannot be read: %s", a->input, strerror(errno));
+        buffer_free(&bytes);
+        return TROUBLE;
+    }
+    if (bytes.length > FOREIGN_MOST) {
+        complain("%s: has more than %lu bytes; import it in parts", a->input,
+                 (unsigned long)FOREIGN_MOST);
         buffer_free(&bytes);
         return TROUBLE;
     }
@@ -127,7 +131,7 @@ static int write_site(struct site *s, const struct options *o, int by_name)
 /* Is more than one of these bits set? */
 static int several(uint64_t given)
 {
-    given &= OPTION_FOREIGN | OPTION_CRLF;
+    given &= OPTION_FOREIGN | OPTION_CRLF | OPTION_SPREADSHEET;
     return (given & (given - 1)) != 0;
 }
 
@@ -139,7 +143,8 @@ int export_foreign(const struct options *o)
     if (order_read(o, 1, &by_name) != DONE)
         return TROUBLE;
     if (several(o->given)) {
-        complain("export: --crlf, --gsi, --landxml or --dxf, one of them");
+        complain("export: --gsi, --landxml or --dxf, one of them, and without "
+                 "options for CSV");
         return TROUBLE;
     }
     status = site_open(&s, o->word[0], (unsigned)o->wait);

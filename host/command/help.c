@@ -260,10 +260,10 @@ static const struct command commands[] = {
       "      --gsi          CSV is a Leica GSI-16 file\n"
       "      --landxml      CSV is a LandXML file; its CgPoints are read\n"
       ALLOW DELTA LOG NO_SYNC QUIET WAITING NAMES },
-    { "export", OPTION_CRLF | OPTION_GSI | OPTION_LANDXML | OPTION_DXF |
-                OPTION_BY, 1, ANY_NUMBER, run_export,
-      "bhtf export FILE [PATTERN..] [--by ORDER] [--crlf | --gsi | --landxml | "
-      "--dxf]\n"
+    { "export", OPTION_CRLF | OPTION_SPREADSHEET | OPTION_GSI | OPTION_LANDXML |
+                OPTION_DXF | OPTION_BY, 1, ANY_NUMBER, run_export,
+      "bhtf export FILE [PATTERN..] [--by ORDER] [--crlf] [--spreadsheet] |\n"
+      "            --gsi | --landxml | --dxf\n"
       "Prints the points as import reads them, with a heading. Texts that are "
       "not\n"
       "easting,northing,height,note stand in a column text; an empty text is a "
@@ -273,6 +273,8 @@ static const struct command commands[] = {
       "others by\n"
       "                     name\n"
       "      --crlf         end lines with carriage return and line feed\n"
+      "      --spreadsheet  an apostrophe in front of names, notes and texts that\n"
+      "                     a spreadsheet would run; import gets that, too\n"
       "      --gsi          as Leica GSI-16\n"
       "      --landxml      as CgPoints of LandXML 1.2\n"
       "      --dxf          as points and names of DXF, release 12\n"
@@ -320,6 +322,13 @@ static const struct command commands[] = {
       "sum.\n"
       "  -n, --dry-run      change nothing; say what would be\n"
       LOG NO_SYNC QUIET WAITING },
+    { "recover", OPTION_FINISH | OPTION_SET_ASIDE, 1, 1, run_recover,
+      "bhtf recover FILE [--finish | --set-aside]\n"
+      "Says what is known of the journal beside FILE, where commands refuse the\n"
+      "file because of it: status 1 if a person has to choose.\n"
+      "      --finish       make the change that is in the journal\n"
+      "      --set-aside    leave the file as it stands, and give the journal\n"
+      "                     another name\n" WAITING QUIET },
     { "diff", OPTION_TSV | OPTION_TOLERANCE, 2, ANY_NUMBER, run_diff,
       "bhtf diff OLD NEW [PATTERN..] [--tolerance MM] [--tsv]\n"
       "Says point by point what became of OLD in NEW: new, gone, moved by how "
@@ -465,6 +474,7 @@ void help_print(FILE *to)
           "  bhtf show CHANGES [COPY]    say what that changes\n"
           "  bhtf copy FILE NEW          make a copy with the same bytes\n"
           "  bhtf sum FILE..             print a short sum to compare by voice\n"
+          "  bhtf recover FILE           look at a journal that stops commands\n"
           "  bhtf diff OLD NEW           say what became of the points\n"
           "  bhtf plot FILE              print a plan as SVG\n"
           "  bhtf figure FILE --station E,N NAME..\n"

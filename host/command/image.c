@@ -14,8 +14,8 @@
 static void end_on_bus_error(int number)
 {
     static const char words[] =
-        "bhtf: the file was cut short by another program, or its disk failed, "
-        "while it was in use\n";
+        "bhtf: the file was cut short by another program, or its disk is full "
+        "or failed, while it was in use\n";
     ssize_t ignored = write(STDERR_FILENO, words, sizeof words - 1);
 
     (void)ignored;
@@ -142,10 +142,14 @@ static int commit(struct image *i)
         return -1;
     }
     i->committed = bhtf_file_commit(i->file) == BHTF_ACCEPTED;
+    if (i->committed)
+        tell_stored();
     i->unsure = !i->committed && bhtf_file_unsure(i->file);
     return i->committed ? 0 : fail(bhtf_file_error(i->file));
 }
 
+/* Where the change is on the disk, a journal that stays is a matter of the next
+ * writer. */
 static int close_file(struct image *i)
 {
     uint32_t number = bhtf_file_close(i->file);
@@ -154,8 +158,12 @@ static int close_file(struct image *i)
     log_end(&i->log);
     if (number == BHTF_ACCEPTED)
         return 0;
-    complain("%s: cannot be closed", i->path);
-    return -1;
+    if (i->committed)
+        complain("%s: warning: the change is stored, but its journal cannot be "
+                 "removed", i->path);
+    else
+        complain("%s: cannot be closed", i->path);
+    return i->committed ? 0 : -1;
 }
 
 int image_close(struct image *i)

@@ -293,7 +293,8 @@ static void put_head(const char *file)
     struct stat about;
     struct tm utc;
 
-    if (stat(file, &about) == 0 && gmtime_r(&about.st_mtime, &utc) != NULL)
+    if (stat(file, &about) == 0 && gmtime_r(&about.st_mtime, &utc) != NULL &&
+        utc.tm_year >= -900 && utc.tm_year < 8100) /* years of four digits */
         strftime(date, sizeof date, "date=\"%Y-%m-%d\" time=\"%H:%M:%S\"",
                  &utc);
     printf("<?xml version=\"1.0\" encoding=\"UTF-8\"?>\n"

@@ -130,7 +130,10 @@ size_t xml_put(FILE *to, const char *bytes, size_t length)
         uint32_t c;
         size_t used = utf8_read((const uint8_t *)bytes, length, &c);
 
-        if (used > 0 && is_xml(c)) {
+        if (used > 0 && is_xml(c) && c >= 160 &&
+            utf8_prints((const uint8_t *)bytes, length) == 0) {
+            fprintf(to, "&#x%lX;", (unsigned long)c);
+        } else if (used > 0 && is_xml(c)) {
             put_escaped(to, bytes, used);
         } else {
             fputs("\xEF\xBF\xBD", to);
