@@ -122,8 +122,8 @@ class Book:
         return 0, len(self.entries)
 
     def compact(self):
-        # Job 2: "In the book this step makes held the text's length and U the sum of 4 + length over texts that are not empty." Job 4: "after
-        # compaction an entry has an offset exactly when its text is not none, and U sums 4 + length over those".
+        # Job 2: "In the book this step makes held the text's length and U the sum of 4 + length over texts that are not empty." Job 4:
+        # "after compaction an entry has an offset exactly when its text is not none, and U sums 4 + length over those".
         self.U = 0
         for entry in self.entries.values():
             entry.held = len(entry.text or b'')
@@ -140,8 +140,8 @@ class Book:
         return (16,) if list_length < 8 or work_length < self.L else call()
 
     def journaled(self, call, work_length, told_17):
-        # Job 9: "To the book an uncut call of this form is one of Job 8's form; a 17 .. is the one thing it is told from the file: it answers
-        # that and changes nothing." The file asks 17 "after all other questions", so that a number of the book's own goes before it.
+        # Job 9: "To the book an uncut call of this form is one of Job 8's form; a 17 .. is the one thing it is told from the file: it
+        # answers that and changes nothing." The file asks 17 "after all other questions", so that a number of the book's own goes before.
         if work_length < self.L:
             return (16,)
         if not told_17:

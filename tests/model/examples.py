@@ -88,7 +88,8 @@ def listing():
 
 
 def fnv_1():
-    # "published FNV-1 vectors of 1 to 32 bytes (the hash before the modulo) on an image with F = 0, E = 255 and scramble number i equal to i"
+    # "published FNV-1 vectors of 1 to 32 bytes (the hash before the modulo) on an image with F = 0, E = 255 and scramble number i equal
+    # to i"
     for key, expected in ((b'a', 0x050C5D7E), (b'b', 0x050C5D7D), (b'foobar', 0x31F0B262)):
         image = fresh(len(key), 4, 8192)
         file.put(image, 32, 0)
@@ -153,10 +154,11 @@ def epochs():
     for when, text in ((3, b'three'), (7, b'seven')):
         key = b'P1' + when.to_bytes(4, 'big')
         assert file.add(image, key, text, 1) == book.add(key, text, 1) == (0,)
-    for t, expected in ((2, (14, 0, None)), (3, (0, 3, b'three')), (6, (0, 3, b'three')), (7, (0, 7, b'seven')), (2**32 - 1, (0, 7, b'seven'))):
+    three, seven = (0, 3, b'three'), (0, 7, b'seven')
+    for t, expected in ((2, (14, 0, None)), (3, three), (6, three), (7, seven), (2 ** 32 - 1, seven)):
         number, when, at, length = file.at_epoch(image, b'P1', t)
         assert (number, when, bytes(image[at:at + length]) if at else None) == book.at_epoch(b'P1', t) == expected
 
 
-EXAMPLES = [data_offsets, last_pages, hashes, four_slots, three_slots, room, replacing, zero_key, listing, fnv_1, recovered, refreshed, by_column,
-            half_legible, epochs]
+EXAMPLES = [data_offsets, last_pages, hashes, four_slots, three_slots, room, replacing, zero_key, listing, fnv_1, recovered, refreshed,
+            by_column, half_legible, epochs]
