@@ -17,6 +17,7 @@ class Chance:
     def __init__(self, rng, model):
         self.rng, self.model = rng, model
         self.pool = [b'\1']
+        self.favourite = b'\1'
 
     def odds(self, part):
         return self.rng.random() < part
@@ -50,6 +51,8 @@ class Chance:
             N = min(N, most_slots)
             D = self.model.data_offset(K, N)
             L = D + 4096 * rng.choice((0, 1, 1, 1, 2, 3, rng.randint(0, 8)))
+            if self.odds(0.01):  # room for messages with a length above 16 bits
+                return K, N, L + 69632
             if L <= 65536:
                 return K, N, L
 
@@ -66,6 +69,7 @@ class Chance:
                 self.pool.append(rng.choice(names) + when.to_bytes(4, 'big'))
             else:
                 self.pool.append(bytes(rng.choices(letters, k=K)))
+        self.favourite = rng.choice(self.pool)
 
     def key(self, image):
         rng = self.rng
@@ -79,7 +83,9 @@ class Chance:
             _, slot, at = self.model.walk(image, rng.randrange(self.model.head(image).N))
             if at:
                 return bytes(image[at:at + self.model.head(image).K])
-        return rng.choice(self.pool)
+        if self.odds(0.6):  # else the key of a call before, so that more happens to one point
+            self.favourite = rng.choice(self.pool)
+        return self.favourite
 
     # ---- images ----
 
@@ -114,6 +120,18 @@ class Chance:
                 self.model.add(image, key, self.stuff(self.rng.randint(0, 12)), self.rng.choice((1, 2, 2, 3, 4)))
         return image
 
+    def crowd(self):
+        """A created image of about 256 points without messages."""
+        rng, model = self.rng, self.model
+        image = bytearray(8192)
+        K, N = rng.randint(2, 4), rng.randint(254, 300)
+        assert model.create(image, K, N, rng.randrange(2 ** 32)) == (0,)
+        points = rng.randint(252, 257)
+        while model.head(image).C < min(points, N):
+            model.add(image, rng.randbytes(K), b'', 3)
+        self.draw_pool(K, 8)
+        return image
+
     def opened(self):
         """A sound image that these calls did not make: another header, rubbish where nothing is kept, messages in any order with gaps
         between them."""
@@ -137,6 +155,14 @@ class Chance:
             entries = [image[model.slot_at(h, i):model.slot_at(h, i) + size] for i in range(h.N)]
             rng.shuffle(entries)
             image[2048:table_end] = b''.join(entries)
+        for _ in range(rng.choice((0, 10)) if slots else 0):  # in another, two may change places if both are still found
+            swapped = bytearray(image)
+            places = [model.slot_at(h, rng.choice(slots)) for _ in range(2)]
+            keys = [bytes(image[at:at + h.K]) for at in places]
+            for at, key in zip(places, reversed(keys)):
+                swapped[at:at + h.K] = key
+            if all(model.slot_at(h, model.search(swapped, key)[1] or 0) == at for at, key in zip(places, reversed(keys))):
+                image = swapped
         rng.shuffle(slots)
         X = h.D
         for slot in slots:
@@ -277,16 +303,16 @@ class Chance:
         if model.opening(image) == 0 and self.odds(0.5):
             _, _, length = model.lookup(image, key)
             room = len(image) - model.head(image).X - 4  # what fills the image to its last byte
-            lengths = [room, room - length] if self.odds(0.15) else [*lengths, length, length]
+            lengths = [room, room - length] if self.odds(0.15) else [*lengths, length, length, length // 2]
         n = self.near(*lengths)
-        return self.stuff(n if n < 70000 else 5)
+        return self.stuff(n if n < 200_000 else 5)
 
     def work(self, image):
         rng = self.rng
         n = len(image)
         if self.odds(0.05):
             n = max(0, rng.choice((0, n - 1, n + 1, n + 99, rng.randint(0, n))))
-        return bytes(n) if self.odds(0.5) else b'\xC3' * n
+        return rng.choice((bytes(n), b'\xC3' * n, rng.randbytes(n)))
 
     def changed(self, image, name, args):
         """What the plain call would change, by the model: the old image, and the new."""
@@ -402,7 +428,7 @@ class Chance:
             N = rng.choice((0, 0, 1_048_576, 1_048_577, 65536, 2 ** 32 - 1, 2 ** 31))
             L = rng.choice((L, self.model.data_offset(K % 7, 5507)))
         if self.odds(0.1):
-            L = rng.choice((0, 1, 4095, 4096, 4097, L + 1, L - 1))
+            L = rng.choice((0, 1, 4095, 4096, 4097, L + 1, max(0, L - 1)))
         return self.stuff(L), K, N, rng.choice((0, rng.randrange(2 ** 32)))
 
     def call(self, name, image):

@@ -140,27 +140,23 @@ class Run:
         self.seen = collections.Counter()
         self.failed = {}
         self.calls = self.lists = 0
-        self.shrinking = False
+        self.shrink_seconds = 0
 
     # ---- the library beside the model ----
 
-    def differs(self, name, args):
-        """None where library and model agree, else both answers."""
-        try:
-            mine = self.library.do(name, args)
-        except Touched as touched:
-            return (str(touched), []), self.model.do(name, args)
-        its = self.model.do(name, args)
-        return None if mine == its else (mine, its)
-
-    def beside(self, kind, name, args):
-        self.calls += 1
+    def both(self, name, args):
+        """What the library and what the model made of a call."""
         try:
             mine = self.library.do(name, args)
         except Touched as touched:
             mine = str(touched), []
-        its = self.model.do(name, args)
+        return mine, self.model.do(name, args)
+
+    def beside(self, kind, name, args):
+        """One call by both. Returns what it answered and left, where they agree."""
+        self.calls += 1
         self.seen[f'{name} on {kind}'] += 1
+        mine, its = self.both(name, args)
         if mine != its:
             self.report(kind, name, args)
         answers, after = mine
@@ -171,23 +167,22 @@ class Run:
 
     def report(self, kind, name, args):
         args = self.shrink(name, args)
-        (mine, slices), (its, expected) = self.differs(name, args)
+        (mine, slices), (its, expected) = self.both(name, args)
         raise Difference(f'{name} on {kind}', [
             *sparse(args[0]), *call_lines(name, args), f'  library: {mine}', f'  model:   {its}', *first_differences(slices, expected)])
 
     def shrink(self, name, args):
         """Smaller arguments on which library and model still differ: shorter slices, then zeros for bytes."""
-        until = time.monotonic() + (0 if self.shrinking is None else 15)
+        until = time.monotonic() + self.shrink_seconds
         args = list(args)
 
         def holds(i, smaller):
             if time.monotonic() > until:
                 return False
-            trial = args[:i] + [smaller] + args[i + 1:]
-            if self.differs(name, trial):
+            mine, its = self.both(name, args[:i] + [smaller] + args[i + 1:])
+            if mine != its:
                 args[i] = smaller
-                return True
-            return False
+            return mine != its
 
         slices = [i for i, arg in enumerate(args) if not isinstance(arg, int)]
         for i in slices:
@@ -276,7 +271,7 @@ class Run:
         if found is None:
             raise Difference(group, ['not seen when the list was played again', f'  library: {pair[0]}', f'  book:    {pair[1]}'])
         calls, pair = found
-        until = time.monotonic() + (0 if self.shrinking is None else 15)
+        until = time.monotonic() + self.shrink_seconds
         n = len(calls) - 1
         while n >= 0 and time.monotonic() < until:
             fewer = self.plays(start, calls[:n] + calls[n + 1:])
@@ -337,8 +332,10 @@ class Run:
             self.report_list('closing clause', start, calls, pair)
 
     def nearly_full(self, draw):
-        """A created image with at most one slot or a few bytes left."""
+        """A created image with at most one slot or a few bytes left; now and then one with C about to outgrow a byte."""
         rng, model = draw.rng, self.drawing
+        if draw.odds(0.02):
+            return draw.crowd()
         image = draw.created(most_slots=rng.choice((2, 5, 9)), small=True)
         h = model.head(image)
         for key in draw.pool:
@@ -521,6 +518,7 @@ class Run:
 
 def full_run(library, options):
     run = Run(library, next(fault for fault in FAULTS if fault.name == options.fault) if options.fault else None)
+    run.shrink_seconds = 15
     passed = failed = 0
     if not options.no_examples:
         import examples
@@ -584,7 +582,6 @@ def try_faults(library, options):
             print(f'not tried: {fault.name}: the library has no {fault.needs}')
             continue
         run = Run(library, fault)
-        run.shrinking = None
         begun = time.monotonic()
         found = None
         n = 0
