@@ -32,7 +32,7 @@ counted() {
 
 if gcc -shared -o "$room/libmodel.so" -Wl,--whole-archive "$lib" -Wl,--no-whole-archive; then
   run=(python3 -B tests/model/run.py --library "$room/libmodel.so")
-  counted "${run[@]}" --seconds "$seconds" ${MODEL_SEED:+--seed "$MODEL_SEED"}
+  counted "${run[@]}" --large --seconds "$seconds" ${MODEL_SEED:+--seed "$MODEL_SEED"}
   counted "${run[@]}" --seconds 60 --seed 1 --faults
 else
   failed=$((failed + 1))

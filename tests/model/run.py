@@ -1,6 +1,6 @@
 """Drives the library beside the model, and the book beside both, on random lists of calls, and compares all that they answer and leave.
 
-    run.py --library FILE [--seed N] [--seconds N] [--calls N] [--list N] [--no-examples] [--faults | --fault NAME]
+    run.py --library FILE [--seed N] [--seconds N] [--calls N] [--list N] [--large] [--no-examples] [--faults | --fault NAME]
 
 Each list of calls begins from an image of some kind. After every call the numbers, the results and every byte of every slice are compared,
 but for a working slice's. On lists from a created image or another sound one the book goes along. A list is drawn from the seed and its own
@@ -18,6 +18,7 @@ import os
 import random
 import sys
 import time
+import traceback
 import types
 
 import chance
@@ -47,6 +48,7 @@ CALL_FLOOR = 25     # calls of one name on images of one kind
 NUMBER_FLOOR = 3    # calls of one name that answered one number
 BOOK_FLOOR = 100    # calls of one name beside the book
 LONG_FLOOR = 50     # calls with long slices
+LARGE_FLOOR = 5     # calls on a large table
 DIFFERENCES = 5     # after as many the run ends
 
 
@@ -477,6 +479,44 @@ class Run:
         for N in (1_048_576, 1_048_577):  # 4 and 3
             self.beside('fresh', 'create', (bytes(8192), 1, N, 0))
 
+    def large(self, seed):
+        """Check and compaction on a table with more texts than a library could keep at hand: 140,000, in any order, some dead, some gaps;
+        then with two points led into one message."""
+        rng, model = random.Random(f'{seed}/large'), self.drawing
+        K, N, texts = 3, 200_000, 140_000
+        image = bytearray(model.data_offset(K, N) + 300 * 4096)
+        model.create(image, K, N, seed % 2 ** 32)
+        h = model.head(image)
+        slots = []
+        for n in rng.sample(range(95 ** 3), texts):
+            key = bytes((32 + n % 95, 32 + n // 95 % 95, 32 + n // 95 ** 2))
+            _, slot, _ = model.search(image, key)
+            image[model.slot_at(h, slot):model.slot_at(h, slot) + K] = key
+            slots.append(slot)
+        rng.shuffle(slots)
+        X = h.D
+        for slot in slots:
+            X += rng.choice((0, 0, 1))
+            m = rng.randrange(3)
+            image[X:X + 4 + m] = rng.choice((b'a', b'a', b'a', b'd')) + m.to_bytes(3, 'big') + rng.randbytes(m)
+            model.set_offset(image, slot, X)
+            X += 4 + m
+        model.put(image, model.X_AT, X)
+        model.put(image, model.C_AT, texts)
+        cases = [('check', (image,)), ('compact_listed', (image, bytes(len(image)), bytes(4 * len(image))))]
+        for _ in range(3):
+            spliced = bytearray(image)
+            one, other = rng.sample(slots, 2)
+            model.set_offset(spliced, one, model.offset_in(image, other))
+            cases.append(('check', (spliced,)))
+        for name, args in cases:
+            self.seen['large table'] += 1
+            self.calls += 1
+            mine, its = self.both(name, (bytes(args[0]), *args[1:]))
+            if mine != its:
+                raise Difference('large table', [f'{name}, --large --seed {seed}', f'  library: {mine[0]}', f'  model:   {its[0]}',
+                                                 *first_differences(mine[1], its[1])])
+
     def play(self, seed, n):
         """List n of a seed."""
         rng = random.Random(f'{seed}/{n}')
@@ -512,57 +552,69 @@ class Run:
         for name in self.names:
             numbers = sorted(int(key.split()[-1]) for key in self.seen if key.startswith(name + ' answers '))
             print(f'{name} answered ' + ', '.join(f'{number}: {self.seen[f"{name} answers {number}"]}' for number in numbers))
-        for other in ('closing clause', 'cut and recovered', 'slots read within the bound', 'long slices'):
+        for other in ('closing clause', 'cut and recovered', 'slots read within the bound', 'long slices', 'large table'):
             print(f'{other}: {self.seen[other]}')
+
+
+def try_examples():
+    """Document 01's worked examples on the model itself."""
+    import examples  # here, since it imports the model that load() put in place
+    passed = failed = 0
+    for example in examples.EXAMPLES:
+        try:
+            example()
+            passed += 1
+        except AssertionError:
+            failed += 1
+            print(f'FAILED: example {example.__name__}')
+            traceback.print_exc(file=sys.stdout)
+    return passed, failed
+
+
+def attempt(run, options, what, n=None):
+    """Does a piece of work. A difference fails its group, and is printed if it is the group's first."""
+    try:
+        what()
+    except Difference as difference:
+        if difference.group not in run.failed:
+            print(f'DIFFERENCE: {difference.group} (--seed {options.seed}' + ('' if n is None else f' --list {n}') + ')')
+            print('\n'.join('  ' + line for line in difference.lines), flush=True)
+        run.failed.setdefault(difference.group, n)
+
+
+def play_lists(run, options):
+    begun = told = time.monotonic()
+    n = 0
+    while len(run.failed) < DIFFERENCES:
+        now = time.monotonic()
+        if options.calls and run.calls >= options.calls or options.seconds and now - begun >= options.seconds:
+            break
+        if now - told > 60:
+            told = now
+            print(f'{now - begun:.0f} s: {run.lists} lists, {run.calls} calls', flush=True)
+        attempt(run, options, lambda: run.play(options.seed, n), n)
+        n += 1
 
 
 def full_run(library, options):
     run = Run(library, next(fault for fault in FAULTS if fault.name == options.fault) if options.fault else None)
     run.shrink_seconds = 15
-    passed = failed = 0
-    if not options.no_examples:
-        import examples
-        for example in examples.EXAMPLES:
-            try:
-                example()
-                passed += 1
-            except AssertionError:
-                failed += 1
-                print(f'FAILED: example {example.__name__}')
-                import traceback
-                traceback.print_exc(file=sys.stdout)
+    passed, failed = (0, 0) if options.no_examples else try_examples()
     begun = time.monotonic()
-    lists = iter([options.list]) if options.list is not None else iter(range(10 ** 12))
-    told = begun
-    work = [run.longest] if options.list is None else []
-    while True:
-        now = time.monotonic()
-        if options.calls and run.calls >= options.calls or options.seconds and now - begun >= options.seconds:
-            break
-        if len(run.failed) >= DIFFERENCES:
-            break
-        if now - told > 60:
-            told = now
-            print(f'{now - begun:.0f} s: {run.lists} lists, {run.calls} calls', flush=True)
-        n = None
-        try:
-            if work:
-                work.pop()()
-                continue
-            n = next(lists, None)
-            if n is None:
-                break
-            run.play(options.seed, n)
-        except Difference as difference:
-            if difference.group not in run.failed:
-                print(f'DIFFERENCE: {difference.group} (--seed {options.seed} --list {n})')
-                print('\n'.join('  ' + line for line in difference.lines), flush=True)
-            run.failed[difference.group] = n
+    floors = {}
+    if options.list is not None:
+        attempt(run, options, lambda: run.play(options.seed, options.list), options.list)
+    else:
+        floors = run.floors()
+        attempt(run, options, run.longest)
+        if options.large:
+            floors['large table'] = LARGE_FLOOR
+            attempt(run, options, lambda: run.large(options.seed))
+        play_lists(run, options)
     run.table()
     print(f'seed {options.seed}: {run.lists} lists, {run.calls} calls in {time.monotonic() - begun:.0f} s')
     missing = [name for name in LATER if name not in run.names]
     print(f'drove {", ".join(run.names)}' + (f'; not exported: {", ".join(missing)}' if missing else ''))
-    floors = {} if options.list is not None else run.floors()
     for group in sorted(set(floors) | set(run.failed)):
         if group in run.failed:
             failed += 1
@@ -607,6 +659,7 @@ def main():
     parser.add_argument('--seconds', type=float, default=None, help='end after as long, or a fault that long')
     parser.add_argument('--calls', type=int, default=None, help='end after as many calls')
     parser.add_argument('--list', type=int, default=None, help='play this list of the seed alone')
+    parser.add_argument('--large', action='store_true', help='begin with a table of 140,000 texts, which takes a while')
     parser.add_argument('--no-examples', action='store_true', help='leave the worked examples of the model out')
     parser.add_argument('--faults', action='store_true', help='try seeded faults instead')
     parser.add_argument('--fault', help='run with this fault, to see what is said of it')
