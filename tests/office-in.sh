@@ -124,6 +124,8 @@ unchanged "bytes that are no Windows-1252" s 2 'line 2: the byte 81 is not UTF-8
   bhtf import s - < <(printf 'name,e,n\nA\201B,4482100,5351800\n')
 unchanged "an encoding that nobody knows" s 2 '--encoding klingon is not known' bhtf import s note.csv --encoding klingon
 unchanged "one that it is not" s 2 'line 2: what stands there is not utf-16|is not ASCII|is not us-ascii' bhtf import s note.csv --encoding us-ascii
+gives "UTF-8 that is taken for it is warned of" 0 'warning: line 2: its letters are UTF-8' \
+  bhtf import s - --encoding windows-1252 --dry-run <<<$'name,e,n,note\nU8,4482125,5351820,Tribüne'
 iconv -f UTF-8 -t UTF-16 <<<$'name,e,n\nwide,4482120,5351820' >wide.csv
 gives "UTF-16, if named" 0 '^1 point stored$' bhtf import s wide.csv --encoding utf-16
 unchanged "a typed name that is not UTF-8" s 2 'the name S\\xFCd is not UTF-8' bhtf add s $'S\374d' x
