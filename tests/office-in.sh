@@ -156,6 +156,8 @@ unchanged "a name that stands twice" s 1 'line 4: A: stands on line 2 of this in
   bhtf import s - --replace <<<$'P,E,N\nA,4482151,5351801\nB,4482155,5351806\nA,4482159,5351801'
 gives "twice the same is one" 0 '^2 points stored: 2 new, 0 changed, 0 equal$' \
   bhtf import s - --replace <<<$'P,E,N\nA,4482151,5351801\nB,4482155,5351806\nA,4482151,5351801'
+gives "a longer name that begins so is another matter" 1 '^1 point stored: 1 new' \
+  bhtf import s - --replace --keep-going <<<$'P,E,N\n12345678901234567890X,4482152,5351801\n12345678901234567890,4482153,5351802'
 unchanged "y and x" s 2 'x and y are each easting to some and northing to others; --columns' bhtf import s - <<<$'Pt,Y,X,Z\n1,5351874.118,4482113.402,489.2'
 gives "rows of a spreadsheet without anything" 0 '^1 point stored$' bhtf import s - <<<$';;\nname;easting;northing\nH1;4482160;5351860\n;;\n;;;;;\n'
 unchanged "a row without a name" s 1 'line 3: there is no name' bhtf import s - <<<$'name;easting;northing\nH2;4482161;5351860\n;4482162;5351860'
