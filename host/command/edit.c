@@ -532,7 +532,22 @@ int run_add(const struct options *o)
     return status;
 }
 
-int run_set(const struct options *o) { return edit_once(o, edit_set); }
-int run_rename(const struct options *o) { return edit_once(o, edit_rename); }
-int run_withdraw(const struct options *o) { return edit_once(o, edit_withdraw); }
-int run_delete(const struct options *o) { return edit_once(o, edit_delete); }
+int run_set(const struct options *o)
+{
+    return edit_once(o, edit_set);
+}
+
+int run_rename(const struct options *o)
+{
+    return edit_once(o, edit_rename);
+}
+
+int run_withdraw(const struct options *o)
+{
+    return edit_once(o, edit_withdraw);
+}
+
+int run_delete(const struct options *o)
+{
+    return edit_once(o, edit_delete);
+}
