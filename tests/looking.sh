@@ -87,7 +87,7 @@ bhtf add odd other 'free text'
 bhtf add odd bare --no-text
 bhtf add odd visited ''
 printf '1,2,3,caf\351' | bhtf add odd bytes
-bhtf add odd 'caf\xC3\xA9' '1,2,,'
+bhtf add odd 'caf\xC3\xA9' '1,2,,' --allow-near
 test_that "tabs and ends of lines are escaped" gives 0 '	1\.5	2	3	a\\tb\\\\c\\nd$' bhtf list odd tabs --tsv
 test_that "another text is a note" gives 0 '^other	[0-9]+				free text$' bhtf list odd other --tsv
 test_that "JSON numbers" gives 0 '"easting":7\.50,"northing":-0\.5,"height":5,"note":"say \\"yes\\""\}' bhtf list odd 'q*' --json
@@ -138,8 +138,8 @@ bhtf add b CP-104 '4482301.777,5351779.466,490.553,nail in asphalt' --replace
 bhtf add b BM-2 '4482333.497,5351690.115,492.115,height bolt in pump house' --replace
 bhtf add b CP-108 '4482096.845,5351741.559,489.830,steel tube' --replace
 bhtf add b CP-105 '4482296.0380,5351702.891,491.207,"pillar, forced centring"' --replace
-bhtf add b CP-106 '4482229.581,5351668.240,,"pillar, forced centring"' --replace
-bhtf add b BM-1 'gone to the museum' --replace
+bhtf add b CP-106 '4482229.581,5351668.240,,"pillar, forced centring"' --replace --drop height
+bhtf add b BM-1 'gone to the museum' --replace --drop easting,northing,height,note
 test_that "nothing changed" gives 0 '^12 same, 0 new, 0 gone, 0 moved, 0 with another text$' bhtf diff a a
 test_that "quiet and nothing changed" gives 0 '' bhtf diff a a --quiet
 test_that "gone" gives 1 '^gone +CP-103 +4482254\.116 5351832\.905 490\.018$' bhtf diff a b
@@ -470,7 +470,7 @@ bhtf export odd --landxml >odd.xml 2>said
 test_that "odd names and notes in LandXML" xmllint --noout odd.xml
 test_that "what XML cannot hold is said" grep -q '1 note with characters that XML cannot hold' said
 bhtf create x3
-test_that "they come back" gives 0 '^4 points stored$' bhtf import x3 odd.xml --landxml
+test_that "they come back" gives 0 '^4 points stored$' bhtf import x3 odd.xml --landxml --allow-near
 test_that "with their ends of lines" equal "$(bhtf get odd tabs)" "$(bhtf get x3 tabs)"
 bad_xml() { printf '%s\n' "$2" >bad.xml; gives 2 "$1" bhtf import x bad.xml --landxml; }
 in_xml() { echo "<LandXML><CgPoints>$1</CgPoints></LandXML>"; }
@@ -505,7 +505,7 @@ mutate='mt_srand((int)$argv[1]); $text = file_get_contents($argv[2]); $bytes = "
   echo $text;'
 survives() { # OPTION SAMPLE NUMBER
   php -r "$mutate" "$((seed + $3))" "$2" >mutated
-  bhtf import mutants mutated "$1" --replace >said 2>&1
+  bhtf import mutants mutated "$1" --replace --drop easting,northing,height,note --allow-far --allow-near --allow-swapped >said 2>&1
   [ $? -le 2 ] && ! grep -qE 'Sanitizer|runtime error' said && return 0
   return 1
 }

@@ -124,6 +124,8 @@ unchanged "bytes that are no Windows-1252" s 2 'line 2: the byte 81 is not UTF-8
   bhtf import s - < <(printf 'name,e,n\nA\201B,4482100,5351800\n')
 unchanged "an encoding that nobody knows" s 2 '--encoding klingon is not known' bhtf import s note.csv --encoding klingon
 unchanged "one that it is not" s 2 'line 2: what stands there is not utf-16|is not ASCII|is not us-ascii' bhtf import s note.csv --encoding us-ascii
+gives "UTF-8 that is taken for it is warned of" 0 'warning: line 2: its letters are UTF-8' \
+  bhtf import s - --encoding windows-1252 --dry-run <<<$'name,e,n,note\nU8,4482125,5351820,Tribüne'
 iconv -f UTF-8 -t UTF-16 <<<$'name,e,n\nwide,4482120,5351820' >wide.csv
 gives "UTF-16, if named" 0 '^1 point stored$' bhtf import s wide.csv --encoding utf-16
 unchanged "a typed name that is not UTF-8" s 2 'the name S\\xFCd is not UTF-8' bhtf add s $'S\374d' x
@@ -154,6 +156,8 @@ unchanged "a name that stands twice" s 1 'line 4: A: stands on line 2 of this in
   bhtf import s - --replace <<<$'P,E,N\nA,4482151,5351801\nB,4482155,5351806\nA,4482159,5351801'
 gives "twice the same is one" 0 '^2 points stored: 2 new, 0 changed, 0 equal$' \
   bhtf import s - --replace <<<$'P,E,N\nA,4482151,5351801\nB,4482155,5351806\nA,4482151,5351801'
+gives "a longer name that begins so is another matter" 1 '^1 point stored: 1 new' \
+  bhtf import s - --replace --keep-going <<<$'P,E,N\n12345678901234567890X,4482152,5351801\n12345678901234567890,4482153,5351802'
 unchanged "y and x" s 2 'x and y are each easting to some and northing to others; --columns' bhtf import s - <<<$'Pt,Y,X,Z\n1,5351874.118,4482113.402,489.2'
 gives "rows of a spreadsheet without anything" 0 '^1 point stored$' bhtf import s - <<<$';;\nname;easting;northing\nH1;4482160;5351860\n;;\n;;;;;\n'
 unchanged "a row without a name" s 1 'line 3: there is no name' bhtf import s - <<<$'name;easting;northing\nH2;4482161;5351860\n;4482162;5351860'

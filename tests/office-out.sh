@@ -275,7 +275,12 @@ test_that "the sum to compare by voice" sh -c "bhtf apply station changes | grep
 test_that "a copy that has them: which points were written" equal "$(printf 'written CP-104\nwritten NEW-1')" \
   "$(bhtf show changes station | grep '^written' | LC_ALL=C sort)"
 cp flip strange
-test_that "a copy that they do not fit" gives 1 'no record of changes begins at this copy' bhtf show changes strange
+test_that "a copy that they do not fit" gives 1 'bhtf apply would refuse changes: 3 of its records do not go on' bhtf show changes strange
+test_that "records that are doubled" gives 0 '^record 2: .*: the copy has it$' sh -c 'cat changes changes | bhtf show - station'
+test_that "and where they would be applied" gives 0 '^10 same, 1 new, 1 gone, 1 moved' sh -c 'cat changes changes | bhtf show - s'
+test_that "one that is missing" gives 1 'would refuse standard input: 1 of its records does not go on' \
+  sh -c "(head -c $(bhtf show changes | sed -n 's/^record 1: .*, \([0-9]*\) bytes, .*/\1/p') changes; tail -c $(bhtf show changes |
+    sed -n 's/^record 3: .*, \([0-9]*\) bytes, .*/\1/p') changes) | bhtf show - s"
 test_that "show of what is no delta" gives 2 'no delta' bhtf show s
 head -c 100 changes >cut
 test_that "show of one that was cut" gives 2 'cut short' bhtf show cut

@@ -129,7 +129,8 @@ struct form {
 
 static struct form form_of(double mm)
 {
-    static const struct form fine = { 3, 1 }, usual = { 1, 1 }, far = { 3, 1000 };
+    static const struct form fine = { 3, 1 }, usual = { 1, 1 };
+    static const struct form far = { 3, 1000 };
 
     if (fabs(mm) >= 1000)
         return far;

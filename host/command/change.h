@@ -72,8 +72,8 @@ void reckoning_free(struct reckoning *r);
 
 /* ---- all points of two files ---- */
 
-/* Prints to `out` a line for each point that changed, in the order of names, and sorts
- * both sites for it: DONE, or TROUBLE after a complaint. */
+/* Prints to `out` a line for each point that changed, in the order of names,
+ * and sorts both sites for it: DONE, or TROUBLE after a complaint. */
 int differences_print(struct reckoning *r, struct site *old, struct site *now,
                       int tsv, FILE *out);
 

@@ -9,6 +9,9 @@
 #include <stdio.h>
 #include <string.h>
 
+/* Bytes of a text that are shown in a message. */
+enum { TEXT_SHOWN = 80 };
+
 /* Less is what rounding leaves of a number. */
 #define MILLIMETRES_LEAST 0.001
 
@@ -58,6 +61,20 @@ static int put_words(struct buffer *to, const char *words)
     return buffer_put(to, words, strlen(words));
 }
 
+/* In quotes; of a long text its beginning, and two points. */
+static int put_quoted(struct buffer *to, struct piece text)
+{
+    size_t shown = text.length;
+
+    if (shown > TEXT_SHOWN) {
+        shown = TEXT_SHOWN;
+        while (shown > 0 && (text.bytes[shown] & 0xC0) == 0x80)
+            shown--;
+    }
+    return quoted_put(to, text.bytes, shown) |
+           put_words(to, shown < text.length ? ".." : "");
+}
+
 int lost_put(struct buffer *to, unsigned lost, struct piece old)
 {
     struct parts p;
@@ -73,7 +90,7 @@ int lost_put(struct buffer *to, unsigned lost, struct piece old)
         done |= put_words(to, lost_words[i]);
         done |= buffer_put_byte(to, ' ');
         done |= i < NOTE ? buffer_put(to, value.bytes, value.length)
-                         : quoted_put(to, value.bytes, value.length);
+                         : put_quoted(to, value);
         first = 0;
     }
     buffer_free(&p.record.bytes);
@@ -205,7 +222,7 @@ static int put_value(struct buffer *to, struct piece value, int quoted)
 {
     if (value.length == 0)
         return put_words(to, "none");
-    return quoted ? quoted_put(to, value.bytes, value.length)
+    return quoted ? put_quoted(to, value)
                   : buffer_put(to, value.bytes, value.length);
 }
 
@@ -237,7 +254,7 @@ static int put_text(struct buffer *to, const struct piece *text)
 {
     if (text == NULL)
         return put_words(to, "none");
-    return quoted_put(to, text->bytes, text->length);
+    return put_quoted(to, *text);
 }
 
 static int put_texts(struct buffer *to, struct texts t)

@@ -111,7 +111,7 @@ int say_unsound(FILE *to, const struct buffer *copy, int quiet)
 }
 
 /* The words end with what sound does not mean: the file has no sum of its own
- * texts, so that only a comparison sees a digit that another program changed. */
+ * texts, so that only a comparison sees a digit that others changed. */
 static void print_sound(const struct buffer *copy)
 {
     const struct header h = header_read(copy->bytes);
@@ -124,8 +124,9 @@ static void print_sound(const struct buffer *copy)
            (unsigned long)(h.next - h.data),
            (unsigned long)space_measure(copy, &h).dead);
     short_sum(sum, copy->bytes, copy->length);
-    printf("sum %s; sound does not mean right: a digit changed in a text is not "
-           "seen,\nexcept where the sum is compared with the office's\n", sum);
+    printf("sum %s; sound does not mean right: a digit changed in a text is "
+           "not seen,\nexcept where the sum is compared with the office's\n",
+           sum);
 }
 
 static int print_verdict(const struct buffer *copy, const struct options *o)

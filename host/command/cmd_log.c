@@ -48,15 +48,26 @@ static int print_point(const struct log_point *p)
     return done == 0 ? DONE : out_of_memory();
 }
 
-static void print_head(const struct log_entry *e)
+/* What a log holds may be anything: it is printed as a dump would have it, but
+ * without the quotes. */
+static void print_safely(const uint8_t *bytes, size_t length)
 {
     struct buffer line = { NULL, 0, 0 };
 
-    if (quoted_put(&line, e->command.bytes, e->command.length) == 0)
-        printf("%lu  %.*s  %s  %.*s\n", e->number, (int)e->when.length,
-               (const char *)e->when.bytes, (const char *)e->who.bytes,
-               (int)line.length - 2, (const char *)line.bytes + 1);
+    if (quoted_put(&line, bytes, length) == 0)
+        fwrite(line.bytes + 1, 1, line.length - 2, stdout);
     buffer_free(&line);
+}
+
+static void print_head(const struct log_entry *e)
+{
+    printf("%lu  ", e->number);
+    print_safely(e->when.bytes, e->when.length);
+    fputs("  ", stdout);
+    print_safely(e->who.bytes, e->who.length);
+    fputs("  ", stdout);
+    print_safely(e->command.bytes, e->command.length);
+    putchar('\n');
 }
 
 static int is_asked(const struct history *h, const struct log_point *p)

@@ -47,7 +47,8 @@ static void show_details(char *to, size_t room, const struct became *b,
         unsigned detail;
         const char *words;
     } all[] = {
-        { DETAIL_PLACE_NEW, " place new" }, { DETAIL_PLACE_GONE, " place gone" },
+        { DETAIL_PLACE_NEW, " place new" },
+        { DETAIL_PLACE_GONE, " place gone" },
         { DETAIL_HEIGHT_NEW, " h new" }, { DETAIL_HEIGHT_GONE, " h gone" },
         { DETAIL_NOTE, " note" }
     };

@@ -11,19 +11,24 @@
 #include <stdlib.h>
 #include <string.h>
 
+/* What a record is to the copy. */
+enum fit { FIT_UNKNOWN, FIT_APPLIED, FIT_HAD, FIT_NONE, FIT_OTHER, FITS };
+
 struct showing {
     const struct options *o;
     const char *input;
     struct buffer stream;
     struct buffer records;  /* struct delta, in their order */
     size_t count;
-    size_t had;             /* how many the copy has: these lead up to it */
+    uint8_t *fits;          /* enum fit of each */
+    size_t had;             /* how many the copy has */
     int has_copy;
     struct buffer before;   /* the copy */
     struct buffer now;      /* and what it becomes */
     uint8_t sum[SHA256_SIZE];
     uint8_t *touched;       /* bytes of the copy that records it has wrote */
     size_t applied;
+    size_t others;          /* records for which apply would refuse all */
 };
 
 static int same_sum(const uint8_t *a, const uint8_t *b)
@@ -88,63 +93,80 @@ static int read_records(struct showing *s)
         s->count++;
         at += d.size;
     } while (at < s->stream.length);
-    return DONE;
+    s->fits = calloc(s->count, 1);
+    return s->fits == NULL ? out_of_memory() : DONE;
 }
 
-/* The records up to the last one that ends at the copy. */
-static void find_had(struct showing *s)
+/* ---- what they are to the copy ---- */
+
+/* Does a record go on where the one before it ends, or repeat it? */
+static int goes_on(const struct delta *front, const struct delta *d)
 {
-    for (size_t i = 0; i < s->count; i++)
-        if (record(s, i)->length == s->now.length &&
-            same_sum(record(s, i)->after, s->sum))
-            s->had = i + 1;
+    return same_sum(front->after, d->before) ||
+           (same_sum(front->before, d->before) &&
+            same_sum(front->after, d->after));
 }
 
-/* Does record i lead up to the copy, by those after it? */
-static int leads_up(const struct showing *s, size_t i)
+/* The records from `first` up to `end` are of this kind. */
+static void mark(struct showing *s, size_t first, size_t end, enum fit fit)
 {
-    while (i + 1 < s->had &&
-           same_sum(record(s, i)->after, record(s, i + 1)->before))
-        i++;
-    return i + 1 == s->had;
-}
-
-/* What a record is to the copy, in words. */
-static const char *take_record(struct showing *s, size_t i)
-{
-    const struct delta *d = record(s, i);
-
-    if (!s->has_copy)
-        return "";
-    if (d->length != s->now.length)
-        return ": for another file";
-    if (i < s->had && leads_up(s, i)) {
-        touch(s, d);
-        return ": the copy has it";
+    for (size_t i = first; i < end; i++) {
+        s->fits[i] = (uint8_t)fit;
+        if (fit == FIT_HAD && s->applied == 0)
+            touch(s, record(s, i));
+        s->had += fit == FIT_HAD;
+        s->others += fit == FIT_NONE || fit == FIT_OTHER;
     }
-    if (i < s->had || !same_sum(d->before, s->sum))
-        return ": does not begin at the copy";
-    content_write(d->content, s->now.bytes);
-    memcpy(s->sum, d->after, SHA256_SIZE);
-    s->applied++;
-    return ": goes on from the copy";
 }
 
-static void print_records(struct showing *s)
+/* As apply goes through them: one that begins at the copy is applied, one that
+ * ends there is had, and so are those that lead up to it without a gap. */
+static void fit_records(struct showing *s)
 {
-    if (s->has_copy)
-        find_had(s);
+    size_t from = 0; /* the first that is to be led up from */
+
+    for (size_t i = 0; i < s->count; i++) {
+        const struct delta *d = record(s, i);
+
+        if (i > from && (d->length != s->now.length ||
+                         !goes_on(record(s, i - 1), d))) {
+            mark(s, from, i, FIT_NONE);
+            from = i;
+        }
+        if (d->length != s->now.length) {
+            mark(s, i, i + 1, FIT_OTHER);
+        } else if (same_sum(d->after, s->sum)) {
+            mark(s, from, i + 1, FIT_HAD);
+        } else if (same_sum(d->before, s->sum)) {
+            mark(s, from, i, FIT_NONE);
+            mark(s, i, i + 1, FIT_APPLIED);
+            content_write(d->content, s->now.bytes);
+            memcpy(s->sum, d->after, SHA256_SIZE);
+            s->applied++;
+        } else {
+            continue;
+        }
+        from = i + 1;
+    }
+    mark(s, from, s->count, FIT_NONE);
+}
+
+static void print_records(const struct showing *s)
+{
+    static const char *const words[FITS] = {
+        "", ": would be applied", ": the copy has it",
+        ": does not go on from here", ": for another file"
+    };
+
     for (size_t i = 0; i < s->count; i++) {
         const struct delta *d = record(s, i);
         char before[SHORT_SUM], after[SHORT_SUM];
-        const char *how = take_record(s, i);
 
         sum_shorten(before, d->before);
         sum_shorten(after, d->after);
-        if (!s->o->quiet)
-            printf("record %lu: %s -> %s, %lu bytes, for a file of %lu%s\n",
-                   (unsigned long)i + 1, before, after,
-                   (unsigned long)d->size, (unsigned long)d->length, how);
+        printf("record %lu: %s -> %s, %lu bytes, for a file of %lu%s\n",
+               (unsigned long)i + 1, before, after, (unsigned long)d->size,
+               (unsigned long)d->length, words[s->fits[i]]);
     }
 }
 
@@ -246,12 +268,17 @@ static int is_kept(const struct showing *s)
 
 static int print_points(struct showing *s)
 {
+    int status = DONE;
+
     if (s->applied > 0)
-        return is_kept(s) ? print_changes(s) : TROUBLE;
-    if (s->had > 0)
-        return print_touched(s);
-    complain("%s: refused: no record of %s begins at this copy or leads to it",
-             s->o->word[1], s->input);
+        status = is_kept(s) ? print_changes(s) : TROUBLE;
+    else if (s->had > 0)
+        status = print_touched(s);
+    if (status != DONE || s->others == 0)
+        return status;
+    complain("%s: bhtf apply would refuse %s: %lu of its records %s not go on "
+             "from this copy", s->o->word[1], s->input,
+             (unsigned long)s->others, s->others == 1 ? "does" : "do");
     return REFUSED;
 }
 
@@ -267,7 +294,9 @@ int run_show(const struct options *o)
         status = read_records(&s);
     if (status == DONE && o->words > 1)
         status = open_copy(&s);
-    if (status == DONE)
+    if (status == DONE && s.has_copy)
+        fit_records(&s);
+    if (status == DONE && !o->quiet)
         print_records(&s);
     if (status == DONE && s.has_copy)
         status = print_points(&s);
@@ -279,5 +308,6 @@ int run_show(const struct options *o)
     buffer_free(&s.before);
     buffer_free(&s.now);
     free(s.touched);
+    free(s.fits);
     return finish_output(status);
 }

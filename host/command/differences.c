@@ -64,7 +64,8 @@ static int print_fields(struct lines *l, const struct became *b,
     int placed = both && old->kind == SPOT_PLACED && now->kind == SPOT_PLACED;
     int levelled = both && old->has_height && now->has_height;
 
-    fprintf(l->out, "%s\t%s", change_word(b->change), (const char *)l->name.bytes);
+    fprintf(l->out, "%s\t%s", change_word(b->change),
+            (const char *)l->name.bytes);
     print_millimetres(l, b->change == MOVED, b->move.all);
     print_coordinates(l, old);
     print_coordinates(l, now);

@@ -383,6 +383,7 @@ static int set_fields(const struct edit *e, struct record *r,
     return DONE;
 }
 
+/* The point's name, and what became of its text. */
 static int say_set(const struct edit *e, const struct options *o,
                    const struct piece *now)
 {
@@ -390,11 +391,13 @@ static int say_set(const struct edit *e, const struct options *o,
     const struct texts t = { 1, e->had_text ? &old : NULL, now };
     const struct change c = change_of(t);
     struct buffer words = { NULL, 0, 0 };
-    int done = change_put(&words, &c, t);
+    int done = name_show(&words, e->key.bytes, e->key.length) |
+               buffer_put(&words, ": ", 2);
 
+    done |= c.kind == CHANGE_NONE ? buffer_put(&words, "unchanged", 9)
+                                  : change_put(&words, &c, t);
     if (done == 0 && !o->quiet)
-        printf("%s: %.*s\n", o->word[1], (int)words.length,
-               (const char *)words.bytes);
+        printf("%.*s\n", (int)words.length, (const char *)words.bytes);
     buffer_free(&words);
     return done == 0 ? finish_output(DONE) : out_of_memory();
 }
@@ -409,11 +412,8 @@ static int set_text(struct edit *e, const struct options *o,
                  "takes a text away", e->place, o->word[1]);
         return REFUSED;
     }
-    if (e->had_text && same_piece(text, old_text(e))) {
-        if (!o->quiet)
-            printf("%s: unchanged\n", o->word[1]);
-        return finish_output(DONE);
-    }
+    if (e->had_text && same_piece(text, old_text(e)))
+        return say_set(e, o, &text);
     status = store_text(e, o, &text, BHTF_REPLACE);
     return status == DONE ? say_set(e, o, &text) : status;
 }
@@ -545,7 +545,22 @@ int run_add(const struct options *o)
     return status;
 }
 
-int run_set(const struct options *o) { return edit_once(o, edit_set); }
-int run_rename(const struct options *o) { return edit_once(o, edit_rename); }
-int run_withdraw(const struct options *o) { return edit_once(o, edit_withdraw); }
-int run_delete(const struct options *o) { return edit_once(o, edit_delete); }
+int run_set(const struct options *o)
+{
+    return edit_once(o, edit_set);
+}
+
+int run_rename(const struct options *o)
+{
+    return edit_once(o, edit_rename);
+}
+
+int run_withdraw(const struct options *o)
+{
+    return edit_once(o, edit_withdraw);
+}
+
+int run_delete(const struct options *o)
+{
+    return edit_once(o, edit_delete);
+}

@@ -182,7 +182,8 @@ static void draw_title(const struct sheet *s, const struct resection *r)
     say_verdict(line, sizeof line, r);
     printf("<g id=\"verdict\" font-weight=\"bold\" fill=\"%s\">\n",
            colours[r->figure.verdict]);
-    svg_text(s->left, 10, 4.6, "start", line);
+    svg_text(s->left, 10, title_size(line, 4.6, s->right - s->left - 12),
+             "start", line);
     fputs("</g>\n", stdout);
     snprintf(line, sizeof line, "%s: resection at %.3f, %.3f; 1 : %.10g",
              file, r->station.east, r->station.north, s->scale);
@@ -190,7 +191,8 @@ static void draw_title(const struct sheet *s, const struct resection *r)
         snprintf(line + strlen(line), sizeof line - strlen(line),
                  "; ellipse for %g mgon, drawn %.10g times as large", r->sigma,
                  ellipse_factor(s, r));
-    svg_text(s->left, 16.5, 3.6, "start", line);
+    svg_text(s->left, 16.5, title_size(line, 3.6, s->right - s->left - 12),
+             "start", line);
 }
 
 int draw_figure(const struct resection *r)

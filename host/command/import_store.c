@@ -53,9 +53,10 @@ static int by_key(const void *a, const void *b)
     return (x->index > y->index) - (x->index < y->index);
 }
 
-/* All keys, one behind the other; a name that is too long is cut, and refused
- * by the library later. 0, or -1 for no memory. */
-static int put_keys(struct import *m, struct buffer *keys)
+/* The names that can be keys, and these one behind the other: 0, or -1 for no
+ * memory. A name that is too long is refused by the library later. */
+static int put_keys(struct import *m, struct buffer *keys,
+                    struct named *names, size_t *count)
 {
     int done = 0;
 
@@ -64,9 +65,13 @@ static int put_keys(struct import *m, struct buffer *keys)
 
         done = key_from(&m->key, m->crowd.bytes.bytes + p->name,
                         p->text - p->name, m->key_size);
-        if (done == 0)
-            done = buffer_put(keys, m->key.bytes, m->key_size);
+        if (done != 0 || m->key.length != m->key_size)
+            continue;
+        names[(*count)++].index = i;
+        done = buffer_put(keys, m->key.bytes, m->key_size);
     }
+    for (size_t i = 0; i < *count && done == 0; i++)
+        names[i].key = keys->bytes + i * m->key_size;
     return done;
 }
 
@@ -77,11 +82,12 @@ static int is_same(const struct import *m, const struct incoming *a,
 }
 
 /* Marks each that an earlier line names, by whether it says the same. */
-static void mark_twice(struct import *m, const struct named *names)
+static void mark_twice(struct import *m, const struct named *names,
+                       size_t count)
 {
     size_t first = 0;
 
-    for (size_t i = 1; i < m->crowd.count; i++) {
+    for (size_t i = 1; i < count; i++) {
         struct incoming *p = &m->crowd.all[names[i].index];
 
         if (memcmp(names[i].key, names[first].key, m->key_size) != 0)
@@ -97,16 +103,13 @@ static int find_twice(struct import *m)
 {
     struct buffer keys = { NULL, 0, 0 };
     struct named *names = calloc(m->crowd.count + 1, sizeof *names);
-    int done = names == NULL ? -1 : put_keys(m, &keys);
+    size_t count = 0;
+    int done = names == NULL ? -1 : put_keys(m, &keys, names, &count);
 
     if (done == 0) {
-        for (size_t i = 0; i < m->crowd.count; i++) {
-            names[i].key = keys.bytes + i * m->key_size;
-            names[i].index = i;
-        }
         named_length = m->key_size;
-        qsort(names, m->crowd.count, sizeof *names, by_key);
-        mark_twice(m, names);
+        qsort(names, count, sizeof *names, by_key);
+        mark_twice(m, names, count);
     }
     free(names);
     buffer_free(&keys);

@@ -169,6 +169,19 @@ int encoding_known(const char *encoding)
     return 0;
 }
 
+/* Bytes above ASCII that are UTF-8 throughout are hardly anything else. */
+static void warn_of_utf8(const struct buffer *b, const char *encoding,
+                         const char *input)
+{
+    size_t i = 0;
+
+    while (i < b->length && b->bytes[i] < 0x80)
+        i++;
+    if (i < b->length && utf8_whole(b->bytes, b->length))
+        complain("%s: warning: line %lu: its letters are UTF-8, and are now "
+                 "taken for %s", input, line_at(b->bytes, i), encoding);
+}
+
 /* One step of iconv: 0, or -1 with errno. */
 static int convert_some(iconv_t with, char **from, size_t *left,
                         struct buffer *to)
@@ -217,5 +230,6 @@ int intake_decode(struct buffer *bytes, const char *encoding,
         return ask_utf8(bytes, input);
     if (is_word(encoding, "bytes") || bytes->length == 0)
         return 0;
+    warn_of_utf8(bytes, encoding, input);
     return convert(bytes, encoding, input);
 }

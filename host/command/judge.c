@@ -229,8 +229,8 @@ static void name_far(struct scene *s, const struct spot_at *at,
 
     if (is_named(s)) {
         put_line(s, at->mover, line, sizeof line);
-        complain("%s: %s%s: its %s lies %.3f %s away from the others", source(s),
-                 line, show(s, &shown, at->key), what,
+        complain("%s: %s%s: its %s lies %.3f %s away from the others",
+                 source(s), line, show(s, &shown, at->key), what,
                  by >= 1000 ? by / 1000 : by, by >= 1000 ? "km" : "m");
     }
     buffer_free(&shown);

@@ -6,7 +6,7 @@
 
 /* * stands for any characters or none, ? for one, [..] for one of several or of
  * a range, [!..] for any other. A character is one of UTF-8, or a byte that is
- * none. \xHH stands for that byte, and a backslash takes the meaning from the *,
+ * none. \xHH stands for that byte, and a backslash takes the meaning from a *,
  * ?, [ or ] after it. A [ that is not closed is itself. */
 struct pattern {
     struct buffer parts;   /* struct part */

@@ -172,8 +172,9 @@ static void draw_title(const struct plan *p)
             (unsigned long)hidden);
     if (p->unnamed > 0)
         add(line, sizeof line, "; %ld without room for the name", p->unnamed);
-    svg_text(p->sheet.left, 16.5, strlen(line) > 110 ? 2.8 : 3.6, "start",
-             line);
+    svg_text(p->sheet.left, 16.5,
+             title_size(line, 3.6, p->sheet.right - p->sheet.left - 12),
+             "start", line);
 }
 
 /* Changed points that have no place stand above the map, as far as there is

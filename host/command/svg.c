@@ -174,6 +174,13 @@ double text_width(const char *text, double size)
     return places_of(text) * size * 0.61;
 }
 
+double title_size(const char *text, double size, double width)
+{
+    double wide = text_width(text, size);
+
+    return wide <= width ? size : size * width / wide;
+}
+
 void file_word(char *to, size_t room, const char *path)
 {
     const char *slash = strrchr(path, '/');

@@ -63,6 +63,10 @@ void svg_text(double x, double y, double size, const char *anchor,
 /* A path's last part, at most so many bytes of it, for a title. */
 void file_word(char *to, size_t room, const char *path);
 
+/* The size of letters, `size` at most, at which a title fits so many
+ * millimetres. */
+double title_size(const char *text, double size, double width);
+
 /* Millimetres that a text takes in a type of fixed width, at most. */
 double text_width(const char *text, double size);
 
