@@ -263,7 +263,6 @@ static uint32_t stop(bhtf_file *f, enum verdict v, const struct found *j)
 {
     char shown[LAYER_SHOWN];
 
-    layer_shown(f->journal_path, shown);
     if (v == NOT_THEIRS)
         return not_theirs(f, &j->about);
     if (v == FOREIGN)

@@ -10,8 +10,8 @@
  *
  * One thread at a time may use a handle. Several handles, also of one process
  * and on one file, are several readers and writers. A process that was forked
- * may close the handles that it has from its parent, and nothing else as long
- * as the parent has them.
+ * may close the handles that it has from its parent; every other call on them
+ * is refused.
  */
 #ifndef BHTF_FILE_H
 #define BHTF_FILE_H
