@@ -223,7 +223,7 @@ static bhtf_file *make_handle(const char *path, const struct bhtf_file_how *how)
     return NULL;
 }
 
-/* No call changes a file that is longer than any: it needs no bits for pages. */
+/* No call changes a file that is longer than any: it needs no bits. */
 static size_t pages_of(const bhtf_file *f)
 {
     return f->length > BHTF_IMAGE_MAX

@@ -163,7 +163,7 @@ struct bhtf_file_journal {
     uint64_t bytes;      /* in them */
     int sound;           /* does bhtf_check find the file sound as it stands, */
     int sound_after;     /* and with the change? */
-    char aside[32];      /* the journal's name behind the file's, if set aside */
+    char aside[32];      /* what follows the file's name, if set aside */
 };
 
 #define BHTF_FILE_NO_JOURNAL 0u
