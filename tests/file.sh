@@ -162,6 +162,41 @@ else
   echo "no small disk can be mounted here"
 fi
 
+# A file system whose blocks are shorter than pages, and a file with holes: a change finds its places, or is refused before it begins.
+tight() {
+  local free left
+  for free in 16 24 32 40 48 56 64 80 96 112; do
+    rm -f "$work/disk/site" "$work/disk/site.journal" "$work/disk/filler"
+    cp --sparse=always "$work/holes" "$work/disk/site"
+    sync -f "$work/disk"
+    left=$(df --output=avail -k "$work/disk" | tail -n 1)
+    head -c $(((left - free) * 1024)) /dev/zero >"$work/disk/filler"
+    sync -f "$work/disk"
+    "$bhtf" import "$work/disk/site" "$work/notes.csv" --quiet >"$work/said" 2>&1 || grep -q 'nothing was changed' "$work/said" ||
+      { echo "$free KiB free"; cat "$work/said"; return 1; }
+    [ ! -e "$work/disk/site.journal" ] || { echo "$free KiB free: a journal is left"; return 1; }
+  done
+}
+"$bhtf" create "$work/holes" --slots 100 --key-size 8 --size 96K
+for i in $(seq 60); do echo "P$i,$i.5,$i.5,1,$(head -c $((i * 9)) /dev/zero | tr '\0' m)"; done |
+  sed '1i name,easting,northing,height,note' >"$work/notes.csv"
+head -c 4194304 /dev/zero >"$work/image"
+if mkfs.ext4 -q -N 64 -m 0 -b 1024 "$work/image" 2>/dev/null && mount -o loop "$work/image" "$work/disk" 2>/dev/null; then
+  mounted=$work/disk
+  holds "a disk of short blocks that becomes full" tight
+  umount "$work/disk" && mounted=
+else
+  echo "no disk of short blocks can be mounted here"
+fi
+truncate -s 15T "$work/sparse"
+takes_little() {
+  python3 -c 'import resource, subprocess, sys
+subprocess.run(sys.argv[1:])
+sys.exit(resource.getrusage(resource.RUSAGE_CHILDREN).ru_maxrss > 100000)' "$bhtf" compact "$work/sparse"
+}
+holds "a file that is too long takes no memory" takes_little
+rm "$work/sparse"
+
 # ---- a command whose disk fails when its change is made ----
 
 office=$work/office changes=$work/changes copy=$work/copy.bhtf

@@ -262,7 +262,8 @@ static int ask_last(struct delta_append *f, const struct image *i)
     if (find_tail(f, &t) != 0)
         return fail(f, "cannot be read");
     if (t.count == 0)
-        return is_zero(f, 0) || is_first_cut(f)
+        return ((uint64_t)f->end <= delta_longest(i->length) &&
+                is_zero(f, 0)) || is_first_cut(f)
             ? drop_behind(f, 0) : refuse_tail(f, i, &t, NOWHERE);
     leads = ask_record(f, t.last, t.end);
     if (leads == UNREAD)

@@ -223,9 +223,11 @@ static bhtf_file *make_handle(const char *path, const struct bhtf_file_how *how)
     return NULL;
 }
 
+/* No call changes a file that is longer than any: it needs no bits. */
 static size_t pages_of(const bhtf_file *f)
 {
-    return f->length / LAYER_PAGE + (f->length % LAYER_PAGE != 0);
+    return f->length > BHTF_IMAGE_MAX
+        ? 0 : f->length / LAYER_PAGE + (f->length % LAYER_PAGE != 0);
 }
 
 static void unmap(bhtf_file *f)
@@ -820,6 +822,10 @@ uint8_t *bhtf_file_batch_image(bhtf_file *file, size_t *image_len)
     *image_len = 0;
     if (ask_batch(file) != BHTF_ACCEPTED)
         return NULL;
+    if (file->length > BHTF_IMAGE_MAX) {
+        refused(file, BHTF_BAD_LENGTH);
+        return NULL;
+    }
     file->all = 1;
     *image_len = file->length;
     return file->image;

@@ -62,7 +62,8 @@ static uint32_t unknown(bhtf_file *f, const char *what, int error)
 
     return layer_fail(f, BHTF_FILE_SYSTEM, error,
                       "nobody knows whether it is whole: its journal %s "
-                      "cannot be %s", layer_shown(f->journal_path, shown), what);
+                      "cannot be %s", layer_shown(f->journal_path, shown),
+                      what);
 }
 
 static uint32_t not_theirs(bhtf_file *f, const struct stat *about)
@@ -142,7 +143,7 @@ static int is_base_whole(const bhtf_file *f, struct found *j)
            j->base.reach <= f->length;
 }
 
-/* The head says where the mark is: bytes that another program put behind it do
+/* The head says where the mark is: bytes that another program put after it do
  * not count. */
 static int read_head(const bhtf_file *f, struct found *j)
 {
@@ -263,7 +264,6 @@ static uint32_t stop(bhtf_file *f, enum verdict v, const struct found *j)
 {
     char shown[LAYER_SHOWN];
 
-    layer_shown(f->journal_path, shown);
     if (v == NOT_THEIRS)
         return not_theirs(f, &j->about);
     if (v == FOREIGN)

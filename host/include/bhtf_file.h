@@ -10,8 +10,8 @@
  *
  * One thread at a time may use a handle. Several handles, also of one process
  * and on one file, are several readers and writers. A process that was forked
- * may close the handles that it has from its parent, and nothing else as long
- * as the parent has them.
+ * may close the handles that it has from its parent; every other call on them
+ * is refused.
  */
 #ifndef BHTF_FILE_H
 #define BHTF_FILE_H
@@ -163,7 +163,7 @@ struct bhtf_file_journal {
     uint64_t bytes;      /* in them */
     int sound;           /* does bhtf_check find the file sound as it stands, */
     int sound_after;     /* and with the change? */
-    char aside[32];      /* the journal's name behind the file's, if set aside */
+    char aside[32];      /* what follows the file's name, if set aside */
 };
 
 #define BHTF_FILE_NO_JOURNAL 0u
