@@ -13,7 +13,8 @@ Readings, where the documents are open:
  2. Check as numbers: a verdict, 0 sound, 1 a slot fails, 2 only the count fails; then the slot, 0 but for verdict 1.
  3. Compaction on an image where nothing is dead does not change X. M stays as it was then, right or wrong, since "a call that changes X
     rewrites M".
- 4. Question 11 takes m = 0 from "a" and from "d", and in images of each version, since Job 4 says "question 11 accepts m = 0" of all.
+ 4. Question 11 takes m = 0 of "a" and of "d", and in images of each version: Job 4's "question 5 accepts up to 2, 8 mode 4, and 11
+    m = 0" makes no difference between them.
  5. Lookup as numbers gives an empty message as its offset and the length 0; Job 4's "lookup tells an empty message from none".
  6. The check's "its message passes 11" means the first half of 11. The other half, "for delete: is C at least 1", is not the message's.
  7. An empty slot's offset field may hold anything. It stays, but that an add that takes the slot overwrites it.
@@ -284,13 +285,13 @@ def add_slots(image, key, data, mode):
         # Job 4: "Mode 4 withdraws a message as empty replace did, ignores its data": "length 0 turns "a" into "d"".
         needs = None
     elif mode == 3:
-        # "append: length 0 changes nothing. An active message is copied with the new bytes behind it into new space, and the old header
-        # becomes "d". Otherwise new space is taken for the new bytes only." Job 4: "Mode 3 with empty data is unchanged."
+        # "Mode 3, append: length 0 changes nothing. An active message is copied with the new bytes behind it into new space, and the old
+        # header becomes "d". Otherwise new space is taken for the new bytes only." Job 4: "Mode 3 with empty data is unchanged."
         needs = len(text or b'') + len(data) if len(data) > 0 else None
     else:
-        # "replace: A length at most that at the offset (0 for no offset) is written there as active, with the rest of the old bytes
-        # zeroed. Otherwise the old header, if there is one, becomes "d" and new space is taken." Job 4: empty data is stored "in new
-        # space of 4 bytes when the point has no offset".
+        # "Mode 2, replace: .. A length at most that at the offset (0 for no offset) is written there as active, with the rest of the old
+        # bytes zeroed. Otherwise the old header, if there is one, becomes "d" and new space is taken." Job 4: empty data is stored "in
+        # new space of 4 bytes when the point has no offset". Mode 1 comes here with an absent key alone.
         in_place = offset != 0 and len(data) <= length_at(image, offset)
         needs = None if in_place else len(data)
 
