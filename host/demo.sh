@@ -73,12 +73,17 @@ say "The site's control points, from a CSV file: first what would happen, then s
 show bhtf import site.bhtf site.csv --dry-run
 show bhtf import site.bhtf site.csv
 
-cp site.bhtf before.bhtf
+say "A copy for a station, and the sum by which both are compared."
+show bhtf copy site.bhtf station.bhtf
+bhtf copy site.bhtf before.bhtf --quiet
 
 say "Two points were destroyed by an excavator, and one was set anew."
-show bhtf delete site.bhtf CP-103
-show bhtf delete site.bhtf RP-WEST
-show bhtf add site.bhtf CP-109 --easting 4482260.870 --northing 5351839.412 --height 490.101 --note 'nail in kerb'
+show bhtf delete site.bhtf CP-103 RP-WEST --delta changes
+show bhtf add site.bhtf CP-109 --easting 4482260.870 --northing 5351839.412 --height 490.101 --note 'nail in kerb' --delta changes
+
+say "The station gets what changed, some hundred bytes, and is told which points."
+show bhtf apply station.bhtf changes
+show bhtf sum site.bhtf station.bhtf
 
 say "Look one up: easting, northing, height, note."
 show bhtf get site.bhtf CP-107

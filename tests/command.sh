@@ -156,11 +156,11 @@ gives "--help" 0 'bhtf create FILE' bhtf --help
 gives "--version" 0 '^bhtf [0-9.]+, file format 1\.0\.2$' bhtf --version
 gives "no command" 2 'bhtf create FILE' bhtf
 gives "unknown command" 2 'no command frob' bhtf frob
-for command in create add withdraw delete get count list check compact book stat import export dump load; do
+for command in create add set rename withdraw delete batch log get count list check compact book stat import export dump load; do
   gives "$command --help" 0 "^bhtf $command FILE" bhtf $command --help
   gives "$command without arguments" 2 'too few arguments' bhtf $command
   gives "$command with an unknown option" 2 'unknown option --frob' bhtf $command x --frob
-  [[ $command =~ ^(get|list)$ ]] || # these take any number
+  [[ $command =~ ^(get|list|delete|export)$ ]] || # these take any number
     gives "$command with too many arguments" 2 'too many' bhtf $command a b c d
 done
 gives "an option of another command" 2 'unknown option --slots' bhtf count x --slots 4
@@ -283,13 +283,13 @@ gives "stat: a miss in a full table" 0 'is not there: 2\.00 on average, 2 at mos
 # ---- import and export ----
 
 printf '%s\r\n' 'Name,Easting,Northing,Height,Note' 'P1,1.50,2.25,3,"a, b"' \
-  'P2,-1,2,3,"say ""yes"""' '' 'P3,,,,' '"P,4","1",2,3,plain' 'P5,1,2,3,"two' 'lines"' >crlf.csv
+  'P2,-1,2,3,"say ""yes"""' '' 'P3,,,,' '"P,4","1",2,3,plain' 'P5,1,2,4,"two' 'lines"' >crlf.csv
 bhtf create csv
 gives "import with quotes, commas and CRLF" 0 '^5 points stored$' bhtf import csv crlf.csv
 same "the text of a point" '1.50,2.25,3,"a, b"' "$(bhtf get csv P1)"
 gives "four empty fields are no text" 1 'has no text' bhtf get csv P3
 printf '%s\r\n' '"P,4",1,2,3,plain' 'P1,1.50,2.25,3,"a, b"' 'P2,-1,2,3,"say ""yes"""' \
-  'P3,,,,' 'P5,1,2,3,"two' 'lines"' 'name,easting,northing,height,note' | LC_ALL=C sort >expected
+  'P3,,,,' 'P5,1,2,4,"two' 'lines"' 'name,easting,northing,height,note' | LC_ALL=C sort >expected
 bhtf export csv --crlf | LC_ALL=C sort >got
 holds "export gives back what import read" cmp expected got
 bhtf export csv >out1
@@ -303,10 +303,10 @@ bhtf delete csv note
 bhtf create csv3
 gives "import from standard input" 0 '5 points' sh -c 'bhtf import csv3 - <out1'
 same "import --quiet" '' "$(bhtf import csv3 out1 --replace --quiet)"
-printf '\357\273\277name,easting,northing,height,note\nB1,1,2,3,last line without end' >bom.csv
+printf '\357\273\277name,easting,northing,height,note\nB1,1,2,5,last line without end' >bom.csv
 gives "a byte order mark" 0 '^1 point stored$' bhtf import csv3 bom.csv
-same "the last line" '1,2,3,last line without end' "$(bhtf get csv3 B1)"
-printf 'A1,1,2,3,\nA2,1,2,3,\nP1,9,9,9,\nA3,1,2,3,\n' >half.csv
+same "the last line" '1,2,5,last line without end' "$(bhtf get csv3 B1)"
+printf 'A1,1,2,6,\nA2,1,2,7,\nP1,9,9,9,\nA3,1,2,8,\n' >half.csv
 gives "an import stops at a refused line" 1 'line 3: P1: refused \(9\)' bhtf import csv half.csv -c PENZD
 gives "what is in front of it is not stored" 1 'refused \(14\)' bhtf get csv A2
 gives "nor what is behind" 1 'refused \(14\)' bhtf get csv A3
@@ -315,7 +315,8 @@ bhtf add half P1 x
 gives "which is said" 1 'stopped: nothing was stored in half' bhtf import half half.csv -c PENZD
 gives "unless it keeps going" 1 '^3 points stored$' bhtf import half half.csv -c PENZD --keep-going
 gives "with words of the line" 1 'half\.csv: 4 lines refused, the first is line 1' bhtf import half half.csv -c PENZD --keep-going
-gives "import --replace" 0 '^4 points stored: 3 new, 1 in place of others$' bhtf import csv half.csv --replace -c PENZD
+gives "import --replace keeps notes" 1 'P1: refused: --replace would take away note "a, b"' bhtf import csv half.csv --replace -c PENZD
+gives "import --replace" 0 '^4 points stored: 3 new, 1 changed, 0 equal$' bhtf import csv half.csv --replace --drop note -c PENZD
 same "the replaced text" '9,9,9,' "$(bhtf get csv P1)"
 printf 'A1,1,2,3,"open\n' >bad.csv
 gives "a quote left open" 2 'line 1: .*no closing quote' bhtf import csv bad.csv
@@ -789,7 +790,7 @@ slowly() { seq 300 | sed 's/.*/S&,&,&,&,/'; sleep 0.8; seq 301 900 | sed 's/.*/S
 slowly >slow.in &
 helpers+=($!)
 script -qec "bhtf import slow slow.in -c PENZD" /dev/null >progress </dev/null
-gives "a long import shows its progress on a terminal" 0 $'\rbhtf: [0-9]+ points stored' cat progress
+gives "a long import shows its progress on a terminal" 0 $'\rbhtf: [0-9]+ points read' cat progress
 slowly >slow.in2 &
 helpers+=($!)
 script -qec "bhtf import slow slow.in2 --replace --quiet -c PENZD" /dev/null >progress </dev/null

@@ -53,7 +53,7 @@ site() {
   local name=$1
   shift
   rm -f "$name"
-  bhtf create "$name" "$@" && bhtf import "$name" - --columns PENZD --quiet
+  bhtf create "$name" "$@" && bhtf import "$name" - --columns PENZD --quiet --allow-far --allow-near --allow-swapped
 }
 
 # renders FILE: well-formed, no reference outside, and librsvg makes a picture of it
@@ -87,7 +87,7 @@ bhtf add odd other 'free text'
 bhtf add odd bare --no-text
 bhtf add odd visited ''
 printf '1,2,3,caf\351' | bhtf add odd bytes
-bhtf add odd 'caf\xC3\xA9' '1,2,,'
+bhtf add odd 'caf\xC3\xA9' '1,2,,' --allow-near
 test_that "tabs and ends of lines are escaped" gives 0 '	1\.5	2	3	a\\tb\\\\c\\nd$' bhtf list odd tabs --tsv
 test_that "another text is a note" gives 0 '^other	[0-9]+				free text$' bhtf list odd other --tsv
 test_that "JSON numbers" gives 0 '"easting":7\.50,"northing":-0\.5,"height":5,"note":"say \\"yes\\""\}' bhtf list odd 'q*' --json
@@ -138,8 +138,8 @@ bhtf add b CP-104 '4482301.777,5351779.466,490.553,nail in asphalt' --replace
 bhtf add b BM-2 '4482333.497,5351690.115,492.115,height bolt in pump house' --replace
 bhtf add b CP-108 '4482096.845,5351741.559,489.830,steel tube' --replace
 bhtf add b CP-105 '4482296.0380,5351702.891,491.207,"pillar, forced centring"' --replace
-bhtf add b CP-106 '4482229.581,5351668.240,,"pillar, forced centring"' --replace
-bhtf add b BM-1 'gone to the museum' --replace
+bhtf add b CP-106 '4482229.581,5351668.240,,"pillar, forced centring"' --replace --drop height
+bhtf add b BM-1 'gone to the museum' --replace --drop easting,northing,height,note
 test_that "nothing changed" gives 0 '^12 same, 0 new, 0 gone, 0 moved, 0 with another text$' bhtf diff a a
 test_that "quiet and nothing changed" gives 0 '' bhtf diff a a --quiet
 test_that "gone" gives 1 '^gone +CP-103 +4482254\.116 5351832\.905 490\.018$' bhtf diff a b
@@ -148,12 +148,13 @@ test_that "3 and 4 mm are 5 mm" gives 1 '^moved +CP-104 +5\.0 mm: E \+3\.0, N \+
 test_that "moved in height" gives 1 '^moved +BM-2 +3\.0 mm: E \+0\.0, N \+0\.0, H -3\.0$' bhtf diff a b
 test_that "another note" gives 1 '^text +CP-108 +another note$' bhtf diff a b
 test_that "the same place" gives 1 '^text +CP-105 +the same, written differently$' bhtf diff a b
-test_that "a height gone" gives 1 '^text +CP-106 +the height is gone$' bhtf diff a b
+test_that "a height gone" gives 1 '^text +CP-106 +the height 491\.015 is gone$' bhtf diff a b
 test_that "no more coordinates" gives 1 '^text +BM-1 +.* -> the text is not coordinates$' bhtf diff a b
 test_that "their sum" gives 1 '^4 same, 1 new, 2 gone, 2 moved, 4 with another text$' bhtf diff a b
 test_that "the other way round" gives 1 '^4 same, 2 new, 1 gone, 2 moved, 4 with another text$' bhtf diff b a
 test_that "tab-separated differences" gives 1 \
-  '^moved	CP-104	5\.000	4482301\.7740	5351779\.4620	490\.5530	4482301\.7770	5351779\.4660	490\.5530$' bhtf diff a b --tsv
+  '^moved	CP-104	5\.000	4482301\.774	5351779\.462	490\.553	4482301\.777	5351779\.466	490\.553	5\.000	0\.000	same$' \
+  bhtf diff a b --tsv
 bhtf create wide -k 32 -s 200 --seed 5
 bhtf export a | bhtf import wide - --quiet
 test_that "another key size, table and seed make no difference" gives 0 '^12 same' bhtf diff a wide
@@ -167,7 +168,8 @@ test_that "a plan" renders a.svg
 bhtf plot b --against a >b.svg 2>said
 test_that "what is left out is said" grep -q 'b: 1 point left out: the text is not coordinates' said
 test_that "a plan against an older file" renders b.svg
-test_that "says what changed" grep -q '10 points.*against a: 1 new, 3 gone, 2 moved; 1 without coordinates' b.svg
+test_that "says what changed" \
+  grep -q '10 points.*against a: 4 same, 1 new, 2 gone, 2 moved, 4 with another text; 1 without coordinates' b.svg
 test_that "a move in millimetres" grep -q '>CP-104 5.0 mm<' b.svg
 test_that "a move in height" grep -q '>BM-2 h -3.0 mm<' b.svg
 
@@ -361,11 +363,11 @@ test_that "two points" gives 1 '^not determined: a resection needs three differe
 test_that "one point" gives 1 '^not determined: a resection needs three' bhtf figure f --station 0,0 E0
 test_that "three names on one place" gives 1 '^not determined: a resection needs three' bhtf figure same --station 0,0 S1 S2 S3
 test_that "a station on a point" gives 1 '^not determined: the station stands on one' bhtf figure f --station 0,0 L1 E0 E1 E2
-test_that "a point named twice" gives 1 'E0: the point is named twice' bhtf figure f --station 0,0 E0 E1 E0
-test_that "no such point" gives 1 'X: there is no point' bhtf figure f --station 0,0 E0 E1 X
-test_that "an empty name" gives 1 ': there is no point' bhtf figure f --station 0,0 E0 E1 ''
+test_that "a point named twice" gives 2 'E0: the point is named twice' bhtf figure f --station 0,0 E0 E1 E0
+test_that "no such point" gives 2 'X: there is no point' bhtf figure f --station 0,0 E0 E1 X
+test_that "an empty name" gives 2 ': there is no point' bhtf figure f --station 0,0 E0 E1 ''
 test_that "a name with its padding" gives 0 '^good' bhtf figure f --station 0,0 E0 E1 'E2\x00'
-test_that "a point without a place" gives 1 'bare: the point.s text is not coordinates' bhtf figure odd --station 0,0 bare tabs
+test_that "a point without a place" gives 2 'bare: the point.s text is not coordinates' bhtf figure odd --station 0,0 bare tabs
 test_that "no names" gives 2 'too few' bhtf figure f --station 0,0
 test_that "no station" gives 2 '--station needs' bhtf figure f E0 E1 E2
 test_that "a station that is none" gives 2 '--station needs' bhtf figure f --station 5 E0 E1 E2
@@ -406,7 +408,8 @@ bhtf create g2
 test_that "what GSI holds besides is said" gives 0 'words not carried over: 21 22 31 41 42 84 85 86 87 88' \
   bhtf import g2 "$data/sample.gsi" --gsi
 test_that "lines without coordinates are counted" grep -q '3 lines without coordinates' said
-test_that "--quiet" equal '' "$(bhtf import g2 "$data/sample.gsi" --gsi --replace --quiet 2>&1)"
+test_that "--quiet: lines that are left out, and no more" equal "bhtf: $data/sample.gsi: 3 lines without coordinates left out" \
+  "$(bhtf import g2 "$data/sample.gsi" --gsi --replace --quiet 2>&1)"
 bhtf export g --gsi >g.gsi
 bhtf create g3
 bhtf import g3 g.gsi --gsi --quiet
@@ -415,20 +418,21 @@ test_that "words of 24 characters" awk '{ sub(/\r$/, ""); if (substr($0, 1, 1) !
 block='*110001+0000000000CP-102 81..10+0000004482187950 82..10+0000005351861337 83..10+0000000000489644 '
 test_that "a block as it is described" equal "$block" "$(head -n 1 g.gsi | tr -d '\r')"
 test_that "a unit for five decimals" grep -q '81\.\.18+0000000000000001 82\.\.18+0000000123456789 ' g.gsi
-test_that "long notes are cut, and that is said" gives 0 'notes cut to 16 ASCII' bhtf export a --gsi
-printf '%s\n' '0012,1,2,3,' 'a name of more than 16,1,2,,' 'six,1.000001,2,3,' 'äö,1,2,,' | site loss -k 32
-test_that "zeros in front are said" gives 0 '1 name or note with zeros in front' bhtf export loss --gsi
-test_that "names without a place are said" gives 0 '2 points left out: GSI-16 has names' bhtf export loss --gsi
-test_that "rounding is said" gives 0 '1 point rounded to 0.01 mm' bhtf export loss --gsi
+test_that "long notes are cut, and that is said" gives 3 'notes cut to 16 ASCII' bhtf export a --gsi
+printf '%s\n' '0012,1,2,3,' 'a name of more than 16,1,2,,' 'six,1.000001,2,3,' 'äж,1,2,,' | site loss -k 32
+test_that "zeros in front are said" gives 3 '1 name with zeros in front' bhtf export loss --gsi
+test_that "names without a place are said" gives 3 '2 points left out: GSI-16 has names' bhtf export loss --gsi
+test_that "rounding is said" gives 3 '1 point rounded to 0.01 mm' bhtf export loss --gsi
 bhtf create slash
 bhtf add slash 'a\x5Cx41b' 1,2,3,
-bhtf add slash ' b\xFE' 1,2,3,
-bhtf export slash --gsi >slash.gsi
+bhtf add slash '\x20b\xFE' 1,2,4,
+bhtf export slash --gsi >slash.gsi 2>said
+test_that "names with odd bytes have no place in GSI" grep -q '1 point left out: GSI-16 has names' said
 bhtf create slash2
 bhtf import slash2 slash.gsi --gsi --quiet
-test_that "names with odd bytes in GSI" gives 1 '^0 same, 0 new, 0 gone, 0 moved, 2 with' bhtf diff slash slash2
+test_that "a backslash has one" gives 1 '^0 same, 0 new, 1 gone, 0 moved, 1 with' bhtf diff slash slash2
 bad_gsi() { printf '%s\n' "$2" >bad.gsi; gives 2 "$1" bhtf import g bad.gsi --gsi; }
-test_that "GSI-8" bad_gsi 'line 1: .*GSI-8 is not read' '110001+00000101 81..00+00002041 82..00+00006075'
+test_that "GSI-8" bad_gsi 'this is GSI-8, which is not read' '110001+00000101 81..00+00002041 82..00+00006075'
 test_that "a word cut short" bad_gsi 'line 1: here is no word' '*110001+0000000000CP-102 81..00+00000044821879'
 test_that "no sign" bad_gsi 'line 1: here is no word' '*110001 0000000000CP-102 '
 test_that "feet" bad_gsi 'not 16 digits in metres' '*110001+0000000000000101 81..01+0000000000002041 82..01+0000000000006075 '
@@ -466,7 +470,7 @@ bhtf export odd --landxml >odd.xml 2>said
 test_that "odd names and notes in LandXML" xmllint --noout odd.xml
 test_that "what XML cannot hold is said" grep -q '1 note with characters that XML cannot hold' said
 bhtf create x3
-test_that "they come back" gives 0 '^4 points stored$' bhtf import x3 odd.xml --landxml
+test_that "they come back" gives 0 '^4 points stored$' bhtf import x3 odd.xml --landxml --allow-near
 test_that "with their ends of lines" equal "$(bhtf get odd tabs)" "$(bhtf get x3 tabs)"
 bad_xml() { printf '%s\n' "$2" >bad.xml; gives 2 "$1" bhtf import x bad.xml --landxml; }
 in_xml() { echo "<LandXML><CgPoints>$1</CgPoints></LandXML>"; }
@@ -501,7 +505,7 @@ mutate='mt_srand((int)$argv[1]); $text = file_get_contents($argv[2]); $bytes = "
   echo $text;'
 survives() { # OPTION SAMPLE NUMBER
   php -r "$mutate" "$((seed + $3))" "$2" >mutated
-  bhtf import mutants mutated "$1" --replace >said 2>&1
+  bhtf import mutants mutated "$1" --replace --drop easting,northing,height,note --allow-far --allow-near --allow-swapped >said 2>&1
   [ $? -le 2 ] && ! grep -qE 'Sanitizer|runtime error' said && return 0
   return 1
 }

@@ -47,15 +47,16 @@ void buffer_free(struct buffer *b)
     b->room = 0;
 }
 
+/* A short part is the last, also where a signal ended the reading. */
 int buffer_read(struct buffer *b, FILE *from, size_t most)
 {
     uint8_t part[4096];
-    size_t got = sizeof part;
+    size_t got = 0, wanted = 0;
 
-    while (got > 0 && b->length < most) {
-        size_t wanted = most - b->length;
-
-        got = fread(part, 1, wanted < sizeof part ? wanted : sizeof part, from);
+    while (got == wanted && b->length < most) {
+        wanted = most - b->length;
+        wanted = wanted < sizeof part ? wanted : sizeof part;
+        got = fread(part, 1, wanted, from);
         if (buffer_put(b, part, got) != 0) {
             errno = ENOMEM;
             return -1;

@@ -2,11 +2,16 @@
 #include "commands.h"
 
 #include "bhtf.h"
+#include "change.h"
+#include "command_limits.h"
 #include "delta.h"
 #include "progress.h"
+#include "short_sum.h"
 
 #include <errno.h>
+#include <stdlib.h>
 #include <string.h>
+#include <sys/stat.h>
 #include <unistd.h>
 
 /* ---- what was sent ---- */
@@ -20,6 +25,9 @@ struct refresh {
     size_t applied;         /* of these */
     struct image image;     /* the copy; open unless it is a dry run */
     struct buffer now;      /* the image that it becomes */
+    struct buffer was;      /* of a dry run: the image as it was */
+    struct site before;     /* its points as they were, unless quiet */
+    char *changes;          /* what became of them, in lines */
 };
 
 static int is_dry(const struct refresh *r)
@@ -32,30 +40,95 @@ static const struct delta *record(const struct refresh *r, size_t i)
     return (const struct delta *)r->records.bytes + i;
 }
 
-static int read_stream(struct refresh *r)
-{
-    int standard = r->o->words < 2 || strcmp(r->o->word[1], "-") == 0;
-    FILE *file = standard ? stdin : fopen(r->o->word[1], "r");
-    int status = DONE;
-
-    r->input = standard ? "standard input" : r->o->word[1];
-    if (standard)
-        tell_waiting(r->o->word[0], "a delta", r->o->quiet);
-    if (file == NULL || buffer_read(&r->stream, file, SIZE_MAX / 2) != 0) {
-        complain("%s: cannot be read: %s", r->input, strerror(errno));
-        status = TROUBLE;
-    }
-    if (file != NULL && !standard)
-        fclose(file);
-    return status;
-}
-
-/* Says what is wrong with the record behind those that were read. */
+/* Says what is wrong with the record after those that were read. */
 static int complain_of_record(const struct refresh *r, enum delta_answer answer)
 {
     complain("%s: record %lu: %s. %s is as it was", r->input,
              (unsigned long)r->count + 1, delta_words(answer), r->o->word[0]);
     return TROUBLE;
+}
+
+static int refuse_length(const struct refresh *r, size_t i, uint32_t length,
+                         uint64_t own)
+{
+    complain("%s: refused: record %lu of %s is for a file of %lu bytes, and "
+             "this has %lu: it belongs to another file. %s is as it was",
+             r->o->word[0], (unsigned long)i + 1, r->input,
+             (unsigned long)length, (unsigned long)own, r->o->word[0]);
+    return REFUSED;
+}
+
+/* Reads until the stream has so many bytes, or ends. */
+static int read_up_to(struct refresh *r, FILE *file, size_t most)
+{
+    if (buffer_read(&r->stream, file, most) == 0)
+        return DONE;
+    complain("%s: cannot be read: %s", r->input, strerror(errno));
+    return TROUBLE;
+}
+
+/* A record's head says how much follows: what is none, or is longer than any
+ * for the copy, is not read on. */
+static int ask_head(const struct refresh *r, size_t start, uint64_t own,
+                    size_t *size)
+{
+    const uint8_t *head = r->stream.bytes + start;
+    size_t got = r->stream.length - start;
+
+    *size = got < DELTA_HEAD ? 0 : delta_size(head);
+    if (*size == 0)
+        return complain_of_record(r, delta_begins(head, got));
+    if (own > 0 && *size > delta_longest(own))
+        return refuse_length(r, r->count, delta_length(head), own);
+    if (*size > APPLY_MOST - start) {
+        complain("%s: has more than %lu bytes; apply it in parts. %s is as it "
+                 "was", r->input, (unsigned long)APPLY_MOST, r->o->word[0]);
+        return TROUBLE;
+    }
+    return DONE;
+}
+
+/* Record by record, each head as it comes. */
+static int read_each(struct refresh *r, FILE *file, uint64_t own)
+{
+    int status = DONE;
+
+    for (r->count = 0; status == DONE; r->count++) {
+        size_t start = r->stream.length, size;
+
+        status = read_up_to(r, file, start + DELTA_HEAD);
+        if (status == DONE && r->stream.length == start)
+            break;
+        if (status == DONE)
+            status = ask_head(r, start, own, &size);
+        if (status == DONE)
+            status = read_up_to(r, file, start + size);
+        if (status == DONE && r->stream.length < start + size)
+            status = complain_of_record(r, DELTA_CUT);
+    }
+    r->count = 0;
+    return status;
+}
+
+static int read_stream(struct refresh *r)
+{
+    int standard = r->o->words < 2 || strcmp(r->o->word[1], "-") == 0;
+    FILE *file = standard ? stdin : fopen(r->o->word[1], "r");
+    struct stat copy;
+    int status;
+
+    r->input = standard ? "standard input" : r->o->word[1];
+    if (standard)
+        tell_waiting(r->o->word[0], "a delta", r->o->quiet);
+    if (file == NULL) {
+        complain("%s: cannot be read: %s", r->input, strerror(errno));
+        return TROUBLE;
+    }
+    status = read_each(r, file, stat(r->o->word[0], &copy) == 0 &&
+                       S_ISREG(copy.st_mode) ? (uint64_t)copy.st_size : 0);
+    if (!standard)
+        fclose(file);
+    return status;
 }
 
 /* Every record of the stream, each checked whole. */
@@ -95,16 +168,6 @@ static int goes_on(const struct delta *front, const struct delta *d)
             same_sum(front->after, d->after));
 }
 
-static int refuse_length(const struct refresh *r, size_t i)
-{
-    complain("%s: refused: record %lu of %s is for a file of %lu bytes, and "
-             "this has %lu: it belongs to another file. %s is as it was",
-             r->o->word[0], (unsigned long)i + 1, r->input,
-             (unsigned long)record(r, i)->length,
-             (unsigned long)r->now.length, r->o->word[0]);
-    return REFUSED;
-}
-
 static int refuse_gap(const struct refresh *r, size_t i)
 {
     complain("%s: refused: record %lu of %s does not go on from here: one in "
@@ -127,7 +190,7 @@ static int take_records(struct refresh *r, const uint8_t **sum)
         const struct delta *d = record(r, i);
 
         if (d->length != r->now.length)
-            return refuse_length(r, i);
+            return refuse_length(r, i, d->length, r->now.length);
         if (older > 0 && !goes_on(record(r, i - 1), d))
             return refuse_gap(r, i);
         if (same_sum(d->after, *sum)) {
@@ -198,13 +261,53 @@ static int write_copy(struct refresh *r)
     return status;
 }
 
+/* The points as they are; the image of a dry run is changed in its place. */
+static int keep_points(struct refresh *r)
+{
+    if (!is_dry(r))
+        return site_of_image(&r->before, r->image.bytes, r->image.length);
+    if (buffer_put(&r->was, r->now.bytes, r->now.length) != 0)
+        return out_of_memory();
+    return site_of_image(&r->before, r->was.bytes, r->was.length);
+}
+
+/* What becomes of the points, kept until the change is done: whoever works
+ * with the copy must know. */
+static int keep_changes(struct refresh *r)
+{
+    struct reckoning reckoning;
+    struct site after;
+    char counts[256];
+    size_t length;
+    FILE *to = open_memstream(&r->changes, &length);
+    int status = to == NULL ? out_of_memory()
+        : site_of_image(&after, r->now.bytes, r->now.length);
+
+    if (to == NULL)
+        return status;
+    memset(&reckoning, 0, sizeof reckoning);
+    if (status == DONE)
+        status = differences_print(&reckoning, &r->before, &after, 0, to);
+    counts_words(counts, sizeof counts, &reckoning);
+    fprintf(to, "%s\n", counts);
+    reckoning_free(&reckoning);
+    site_close(&after);
+    return fclose(to) == 0 ? status : out_of_memory();
+}
+
 static int report(const struct refresh *r)
 {
+    char sum[SHORT_SUM];
+
     if (r->o->quiet)
         return DONE;
+    if (r->changes != NULL)
+        fputs(r->changes, stdout);
     printf("%lu record%s %sapplied, %lu passed over\n",
            (unsigned long)r->applied, r->applied == 1 ? "" : "s",
            is_dry(r) ? "would be " : "", (unsigned long)(r->count - r->applied));
+    short_sum(sum, r->now.bytes, r->now.length);
+    printf("%s %s %s\n", r->o->word[0], is_dry(r) ? "would be" : "is", sum);
     return finish_output(DONE);
 }
 
@@ -214,7 +317,12 @@ static int refresh(struct refresh *r)
 
     if (status != DONE)
         return status;
-    status = bring_up(r);
+    if (!r->o->quiet)
+        status = keep_points(r);
+    if (status == DONE)
+        status = bring_up(r);
+    if (status == DONE && r->applied > 0 && !r->o->quiet)
+        status = keep_changes(r);
     if (status == DONE && r->applied > 0 && !is_dry(r))
         status = write_copy(r);
     if (!is_dry(r) && status != DONE)
@@ -239,5 +347,8 @@ int run_apply(const struct options *o)
     buffer_free(&r.stream);
     buffer_free(&r.records);
     buffer_free(&r.now);
+    site_close(&r.before);
+    buffer_free(&r.was);
+    free(r.changes);
     return status;
 }

@@ -2,6 +2,7 @@
 #include "commands.h"
 
 #include "bhtf.h"
+#include "short_sum.h"
 #include "space_used.h"
 
 /* Prints "slot 5 (name)": 0, or -1 for no memory. */
@@ -109,9 +110,12 @@ int say_unsound(FILE *to, const struct buffer *copy, int quiet)
     return REFUSED;
 }
 
+/* The words end with what sound does not mean: the file has no sum of its own
+ * texts, so that only a comparison sees a digit that others changed. */
 static void print_sound(const struct buffer *copy)
 {
     const struct header h = header_read(copy->bytes);
+    char sum[SHORT_SUM];
 
     printf("sound: %lu %s\n", (unsigned long)h.count,
            h.count == 1 ? "point" : "points");
@@ -119,6 +123,10 @@ static void print_sound(const struct buffer *copy)
            h.version[0], h.version[1], h.version[2],
            (unsigned long)(h.next - h.data),
            (unsigned long)space_measure(copy, &h).dead);
+    short_sum(sum, copy->bytes, copy->length);
+    printf("sum %s; sound does not mean right: a digit changed in a text is "
+           "not seen,\nexcept where the sum is compared with the office's\n",
+           sum);
 }
 
 static int print_verdict(const struct buffer *copy, const struct options *o)

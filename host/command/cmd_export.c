@@ -3,59 +3,48 @@
  * A text that these fields alone would not give back stands, byte for byte, in
  * a column of its own, and one more column says yes where the text is empty;
  * without it, empty fields are no text. The file has these columns only if a
- * point needs them. */
+ * point needs them.
+ *
+ * A spreadsheet takes a cell that begins with = + - @ for a formula, and runs
+ * it. With --spreadsheet such a name, note or text gets an apostrophe in front;
+ * it does not come back as it was. */
 #include "commands.h"
 
 #include "csv_columns.h"
 #include "foreign.h"
 #include "progress.h"
+#include "selection.h"
+#include "terminal.h"
 
 #include <string.h>
 #include <unistd.h>
 
 struct export {
     const char *file;
-    const struct buffer *copy;
-    uint32_t key_size;
     const char *line_end;
     int texts;             /* is there a column for texts? */
     int empties;           /* is there one for empty texts? */
+    int spreadsheet;       /* nothing may be taken for a formula */
     struct buffer name;
     struct buffer line;
     struct buffer again;   /* a text that is put together again */
     struct record record;
 };
 
-/* The text of the point at `place`; its bytes are NULL if there is none. The
- * answer is the library's number. */
-static uint32_t find_text(const struct export *e, uint32_t place,
-                          struct piece *text)
-{
-    uint32_t offset, length;
-    uint32_t number = bhtf_lookup(e->copy->bytes, e->copy->length,
-                                  e->copy->bytes + place, e->key_size,
-                                  &offset, &length);
-
-    text->bytes = offset == 0 ? NULL : e->copy->bytes + offset;
-    text->length = length;
-    return number;
-}
-
-static int is_empty(struct piece text)
-{
-    return text.bytes != NULL && text.length == 0;
-}
-
 /* ---- which columns a text needs ---- */
 
-/* Does import take these four fields? */
+/* Does import take these four fields? Blanks around coordinates do not
+ * count. */
 static int are_fields(struct export *e, struct piece text,
                       struct piece fields[POINT_FIELDS])
 {
     int field;
 
-    return point_take(&e->record, text, fields) &&
-           point_fault(fields, '.', &field) == NO_FAULT;
+    if (!point_take(&e->record, text, fields))
+        return 0;
+    for (int i = EASTING; i <= HEIGHT; i++)
+        fields[i] = piece_trim(fields[i]);
+    return point_fault(fields, '.', &field) == NO_FAULT;
 }
 
 /* Would they come back as this text? -1 for no memory. */
@@ -81,24 +70,40 @@ static int needs_text(struct export *e, struct piece text)
     return !are_fields(e, text, fields) || comes_back(e, text, fields) != 1;
 }
 
-static void find_columns(struct export *e)
+static void find_columns(struct export *e, const struct site *s)
 {
-    uint32_t slot, place;
-    struct piece text;
+    for (size_t i = 0; i < s->count && !(e->texts && e->empties); i++) {
+        const struct spot *spot = &s->spots[i];
 
-    bhtf_walk(e->copy->bytes, e->copy->length, 0, &slot, &place);
-    while (place != 0 && !(e->texts && e->empties)) {
-        if (find_text(e, place, &text) == BHTF_ACCEPTED) {
-            e->texts |= needs_text(e, text);
-            e->empties |= is_empty(text);
-        }
-        bhtf_walk(e->copy->bytes, e->copy->length, slot + 1, &slot, &place);
+        if (spot->kind == SPOT_DAMAGED)
+            continue;
+        e->texts |= needs_text(e, spot->text);
+        e->empties |= spot->kind == SPOT_EMPTY;
     }
 }
 
 /* ---- a line ---- */
 
-static int put_fields(struct export *e, struct piece text)
+/* A cell of words, as it is or harmless. */
+static int put_words(struct export *e, struct piece p)
+{
+    struct buffer cell = { NULL, 0, 0 };
+    int done;
+
+    if (!e->spreadsheet || p.length == 0 ||
+        memchr("=+-@\t\r", p.bytes[0], 6) == NULL)
+        return csv_put(&e->line, p);
+    done = buffer_put_byte(&cell, '\'') | buffer_put(&cell, p.bytes, p.length);
+    if (done == 0) {
+        p.bytes = cell.bytes;
+        p.length = cell.length;
+        done = csv_put(&e->line, p);
+    }
+    buffer_free(&cell);
+    return done;
+}
+
+static int put_fields(struct export *e, struct piece text, int empty)
 {
     const struct piece none = { (const uint8_t *)"", 0 };
     const struct piece yes = { (const uint8_t *)"yes", 3 };
@@ -113,85 +118,95 @@ static int put_fields(struct export *e, struct piece text)
     } else if (text.length > 0)
         back = comes_back(e, text, fields);
     for (int i = 0; i < POINT_FIELDS; i++)
-        done |= buffer_put_byte(&e->line, ',') | csv_put(&e->line, fields[i]);
+        done |= buffer_put_byte(&e->line, ',') |
+                (i == NOTE ? put_words(e, fields[i])
+                           : csv_put(&e->line, fields[i]));
     if (e->texts)
         done |= buffer_put_byte(&e->line, ',') |
-                csv_put(&e->line, back ? none : text);
+                put_words(e, back ? none : text);
     if (e->empties)
         done |= buffer_put_byte(&e->line, ',') |
-                csv_put(&e->line, is_empty(text) ? yes : none);
+                csv_put(&e->line, empty ? yes : none);
     return back < 0 ? -1 : done;
 }
 
 /* One line; REFUSED when the point is damaged. */
-static int put_line(struct export *e, uint32_t place)
+static int put_line(struct export *e, const struct spot *s)
 {
-    struct piece text, name;
-    uint32_t number = find_text(e, place, &text);
+    struct piece name;
 
     e->name.length = 0;
     e->line.length = 0;
-    if (name_show(&e->name, e->copy->bytes + place, e->key_size) != 0)
+    if (name_show(&e->name, s->name, s->name_length) != 0)
         return out_of_memory();
-    if (number != BHTF_ACCEPTED)
-        return leave_out(e->file, &e->name, number);
+    if (s->kind == SPOT_DAMAGED)
+        return leave_out(e->file, &e->name, s->number);
     name.bytes = e->name.bytes;
     name.length = e->name.length;
-    if (csv_put(&e->line, name) != 0 || put_fields(e, text) != 0 ||
+    if (put_words(e, name) != 0 ||
+        put_fields(e, s->text, s->kind == SPOT_EMPTY) != 0 ||
         buffer_put(&e->line, e->line_end, strlen(e->line_end)) != 0)
         return out_of_memory();
-    fwrite(e->line.bytes, 1, e->line.length, stdout);
+    put_bytes(e->line.bytes, e->line.length);
     return DONE;
 }
 
 static int export_points(struct export *e, const struct options *o,
-                         uint32_t count)
+                         const struct site *s)
 {
     struct progress progress;
-    unsigned long points = 0;
-    uint32_t slot, place;
     int worst = DONE;
 
-    progress_begin(&progress, "written", count,
+    progress_begin(&progress, "written", s->count,
                    o->quiet || isatty(STDOUT_FILENO));
     printf("name,easting,northing,height,note%s%s%s", e->texts ? ",text" : "",
            e->empties ? ",empty" : "", e->line_end);
-    bhtf_walk(e->copy->bytes, e->copy->length, 0, &slot, &place);
-    while (place != 0 && worst != TROUBLE && !ferror(stdout)) {
-        int status = put_line(e, place);
+    for (size_t i = 0; i < s->count && worst != TROUBLE && !ferror(stdout);
+         i++) {
+        int status = put_line(e, &s->spots[i]);
 
         worst = status > worst ? status : worst;
-        points++;
-        progress_show(&progress, points, points);
-        bhtf_walk(e->copy->bytes, e->copy->length, slot + 1, &slot, &place);
+        progress_show(&progress, i + 1, i + 1);
     }
     progress_end(&progress);
-    return finish_output(worst);
+    return worst;
+}
+
+static int export_csv(struct export *e, const struct options *o,
+                      struct site *s, int by_name)
+{
+    int missing = site_select(s, o, 1), status;
+
+    if (missing == TROUBLE)
+        return missing;
+    if (by_name)
+        site_sort(s);
+    find_columns(e, s);
+    status = export_points(e, o, s);
+    return finish_output(status > missing ? status : missing);
 }
 
 int run_export(const struct options *o)
 {
-    struct buffer copy = { NULL, 0, 0 };
     struct export e;
-    uint32_t count;
-    int status;
+    struct site s;
+    int by_name, status;
 
     if (o->given & OPTION_FOREIGN)
         return export_foreign(o);
+    if (order_read(o, 0, &by_name) != DONE)
+        return TROUBLE;
     memset(&e, 0, sizeof e);
-    status = copy_accepted(&copy, o, &e.key_size);
-    if (status == DONE) {
-        e.file = o->word[0];
-        e.copy = &copy;
-        e.line_end = o->given & OPTION_CRLF ? "\r\n" : "\n";
-        find_columns(&e);
-        bhtf_count(copy.bytes, copy.length, &count);
-        status = export_points(&e, o, count);
-    }
+    e.file = o->word[0];
+    e.line_end = o->given & OPTION_CRLF ? "\r\n" : "\n";
+    e.spreadsheet = (o->given & OPTION_SPREADSHEET) != 0;
+    status = site_open(&s, o->word[0], (unsigned)o->wait);
+    if (status == DONE)
+        status = export_csv(&e, o, &s, by_name);
     buffer_free(&e.name);
     buffer_free(&e.line);
     buffer_free(&e.again);
     buffer_free(&e.record.bytes);
-    buffer_free(&copy);
+    site_close(&s);
     return status;
 }

@@ -2,6 +2,9 @@
  * station, in words and numbers or as a picture. */
 #include "figure.h"
 
+#include "pattern.h"
+#include "utf8.h"
+
 #include <math.h>
 #include <stdlib.h>
 #include <string.h>
@@ -49,68 +52,147 @@ static int read_question(struct resection *r)
     return DONE;
 }
 
-static int is_taken(const struct resection *r, const char *shown)
+static uint8_t *taken(const struct resection *r, const struct spot *s)
 {
-    for (size_t i = 0; i < r->count; i++)
-        if (strcmp(r->names[i], shown) == 0)
-            return 1;
-    return 0;
+    return &r->taken[s - r->site.spots];
 }
 
-/* Why a point cannot be aimed at; NULL if it can. */
-static const char *why_not(const struct resection *r, const struct spot *s,
-                           const char *shown)
+/* Aims at a point: DONE, or TROUBLE after a complaint. */
+static int aim_at(struct resection *r, const struct spot *s)
 {
-    if (s == NULL)
-        return "there is no point of that name";
-    if (s->kind != SPOT_PLACED)
-        return "the point's text is not coordinates";
-    return is_taken(r, shown) ? "the point is named twice" : NULL;
-}
+    struct buffer shown = { NULL, 0, 0 };
 
-/* Looks a named point up: DONE, or the status after a complaint. */
-static int take_sight(struct resection *r, const char *typed)
-{
-    struct buffer name = { NULL, 0, 0 }, shown = { NULL, 0, 0 };
-    const struct spot *s;
-    const char *why;
-
-    if (name_read(&name, (const uint8_t *)typed, strlen(typed)) != 0 ||
-        name_show(&shown, name.bytes, name.length) != 0 ||
-        buffer_put_byte(&shown, '\0') != 0) {
-        buffer_free(&name);
+    if (r->count == DIRECTIONS_MOST) {
+        complain("figure: %d points at most", DIRECTIONS_MOST);
+        return TROUBLE;
+    }
+    if (spot_show(&shown, s) != 0) {
         buffer_free(&shown);
         return out_of_memory();
     }
-    while (name.length > 0 && name.bytes[name.length - 1] == 0)
-        name.length--;
-    s = site_find(&r->site, name.bytes, name.length);
-    why = why_not(r, s, (const char *)shown.bytes);
-    buffer_free(&name);
-    if (why != NULL) {
-        complain("%s: %s: %s", r->o->word[0], (const char *)shown.bytes, why);
-        buffer_free(&shown);
-        return REFUSED;
-    }
+    *taken(r, s) = 1;
     r->points[r->count] = s->at;
     r->names[r->count++] = (char *)shown.bytes;
     return DONE;
 }
 
+/* Why a point cannot be aimed at; NULL if it can. */
+static const char *why_not(const struct resection *r, const struct spot *s)
+{
+    if (s == NULL)
+        return "there is no point of that name";
+    if (s->kind == SPOT_LEVEL)
+        return "the point has a height alone";
+    if (s->kind != SPOT_PLACED)
+        return "the point's text is not coordinates";
+    return *taken(r, s) ? "the point is named twice" : NULL;
+}
+
+/* Takes the point that a word names: DONE, or TROUBLE after a complaint. */
+static int take_name(struct resection *r, const struct spot *s,
+                     const struct buffer *shown)
+{
+    const char *why = why_not(r, s);
+
+    if (why != NULL) {
+        complain("%s: %s: %s", r->o->word[0], (const char *)shown->bytes, why);
+        return TROUBLE;
+    }
+    return aim_at(r, s);
+}
+
+/* Takes the points whose names a pattern matches, less those that were taken
+ * already and those without a place. */
+static int take_matching(struct resection *r, const struct pattern *p,
+                         const char *typed)
+{
+    size_t matched = 0, placeless = 0;
+    int status = DONE;
+
+    for (size_t i = 0; i < r->site.count && status == DONE; i++) {
+        const struct spot *s = &r->site.spots[i];
+
+        if (!pattern_matches(p, s->name, s->name_length))
+            continue;
+        matched++;
+        placeless += s->kind != SPOT_PLACED;
+        if (s->kind == SPOT_PLACED && !*taken(r, s))
+            status = aim_at(r, s);
+    }
+    if (placeless > 0)
+        complain("%s: %s: %lu without a place passed over", r->o->word[0],
+                 typed, (unsigned long)placeless);
+    if (status != DONE || matched > placeless)
+        return status;
+    complain("%s: no name matches %s", r->o->word[0], typed);
+    return TROUBLE;
+}
+
+/* A word is a point's name, or else a pattern. */
+static int take_word(struct resection *r, const char *typed)
+{
+    struct buffer name = { NULL, 0, 0 }, shown = { NULL, 0, 0 };
+    struct pattern pattern;
+    const struct spot *s;
+    int status;
+
+    if (pattern_make(&pattern, typed) != 0 ||
+        name_read(&name, (const uint8_t *)typed, strlen(typed)) != 0 ||
+        name_show(&shown, name.bytes, name.length) != 0 ||
+        buffer_put_byte(&shown, '\0') != 0) {
+        status = out_of_memory();
+    } else {
+        while (name.length > 0 && name.bytes[name.length - 1] == 0)
+            name.length--;
+        s = site_find(&r->site, name.bytes, name.length);
+        status = s == NULL && pattern.wild
+            ? take_matching(r, &pattern, typed) : take_name(r, s, &shown);
+    }
+    buffer_free(&name);
+    buffer_free(&shown);
+    pattern_free(&pattern);
+    return status;
+}
+
 static int take_sights(struct resection *r)
 {
-    size_t most = (size_t)r->o->words - 1;
+    size_t most = r->site.count + 1;
     int status = DONE;
 
     r->names = calloc(most, sizeof *r->names);
     r->points = calloc(most, sizeof *r->points);
     r->rays = calloc(most, sizeof *r->rays);
-    if (r->names == NULL || r->points == NULL || r->rays == NULL)
+    r->taken = calloc(most, 1);
+    if (r->names == NULL || r->points == NULL || r->rays == NULL ||
+        r->taken == NULL)
         return out_of_memory();
     site_sort(&r->site);
     for (int i = 1; i < r->o->words && status == DONE; i++)
-        status = take_sight(r, r->o->word[i]);
+        status = take_word(r, r->o->word[i]);
     return status;
+}
+
+/* ---- is the station where it should be? ---- */
+
+/* Says that the station lies far off, and would lie near if easting and
+ * northing changed places. */
+static void warn_of_swap(const struct resection *r)
+{
+    const struct at swapped = { r->station.north, r->station.east };
+    double near = INFINITY, far = INFINITY;
+
+    for (size_t i = 0; i < r->count; i++) {
+        const struct at *p = &r->points[i];
+
+        near = fmin(near, hypot(p->east - swapped.east,
+                                p->north - swapped.north));
+        far = fmin(far, hypot(p->east - r->station.east,
+                              p->north - r->station.north));
+    }
+    if (far > 10000 && far > 100 * near)
+        complain("warning: the nearest point is %.0f km from the station; if "
+                 "easting and northing changed places it would be %.3f km: "
+                 "--station is E,N", far / 1000, near / 1000);
 }
 
 /* ---- the numbers in words ---- */
@@ -130,14 +212,45 @@ int is_bounded(const struct resection *r)
     return r->figure.factor <= factor_most;
 }
 
+/* In gon, as it is printed with so many decimals: from 0 up to less than a
+ * whole turn, or half of one for an axis. */
+static double shown_gon(double angle, int decimals, double turn)
+{
+    double unit = pow(10, decimals);
+    double shown = round(angle / GON * unit) / unit;
+
+    return shown >= turn ? shown - turn : shown;
+}
+
+double axis_gon(double bearing, int decimals)
+{
+    return shown_gon(bearing, decimals, 200);
+}
+
+/* A direction a hair west of north is printed as 0, and comes first. */
+static size_t first_ray(const struct resection *r)
+{
+    const struct ray *rays = r->figure.rays;
+    size_t first = r->count;
+
+    while (first > 0 && rays[first - 1].bearing / GON >= 399.9995)
+        first--;
+    return first == r->count ? 0 : first;
+}
+
 static void print_rays(const struct resection *r)
 {
+    size_t first = first_ray(r);
+
     puts("  point             direction     distance   to the next");
     for (size_t i = 0; i < r->count; i++) {
-        const struct ray *ray = &r->figure.rays[i];
+        const struct ray *ray = &r->figure.rays[(first + i) % r->count];
+        const char *name = r->names[ray->point];
+        int wide = places_of(name);
 
-        printf("  %-14s %8.3f gon %10.3f m %9.3f gon\n",
-               r->names[ray->point], ray->bearing / GON, ray->distance,
+        printf("  %s%*s %8.3f gon %10.3f m %9.3f gon\n", name,
+               wide < 14 ? 14 - wide : 0, "",
+               shown_gon(ray->bearing, 3, 400), ray->distance,
                ray->gap / GON);
     }
 }
@@ -188,11 +301,23 @@ static void say_ellipse(char *to, size_t room, const struct resection *r)
 
     if (!is_bounded(r))
         snprintf(to, room, "unbounded, long axis towards %.1f gon",
-                 f->major_bearing / GON);
+                 axis_gon(f->major_bearing, 1));
     else
         snprintf(to, room, "%.2f mm by %.2f mm, long axis towards %.1f gon, "
                  "for directions of %g mgon", axis_mm(r, f->major),
-                 axis_mm(r, f->minor), f->major_bearing / GON, r->sigma);
+                 axis_mm(r, f->minor), axis_gon(f->major_bearing, 1),
+                 r->sigma);
+}
+
+static void say_axes(char *to, size_t room, const struct resection *r)
+{
+    const struct figure *f = &r->figure;
+
+    if (!is_bounded(r))
+        snprintf(to, room, "the longer axis is endless");
+    else
+        snprintf(to, room, "the longer one is %.1f times the shorter; good to "
+                 "%g", f->major / f->minor, AXES_GOOD);
 }
 
 static void say_factor(char *to, size_t room, const struct resection *r)
@@ -208,14 +333,27 @@ static void say_factor(char *to, size_t room, const struct resection *r)
                  f->median, FACTOR_GOOD, FACTOR_WEAK);
 }
 
+/* What of the directions checks the others. Two points on one place check each
+ * other alone. */
 static void say_check(char *to, size_t room, const struct resection *r)
 {
-    if (r->count <= 3)
+    const struct figure *f = &r->figure;
+    size_t length;
+
+    if (f->places < 3)
+        snprintf(to, room, "none: there are fewer than three places");
+    else if (f->places == 3 && f->count == 3)
         snprintf(to, room, "none: residuals of three directions are zero, "
                  "whatever is wrong");
+    else if (f->places == 3)
+        snprintf(to, room, "none for two of the three places");
     else
         snprintf(to, room, "%lu more than the three that are needed",
-                 (unsigned long)(r->count - 3));
+                 (unsigned long)(f->places - 3));
+    length = strlen(to);
+    if (f->places < f->count)
+        snprintf(to + length, room - length, "; %s and %s are one place",
+                 r->names[f->twin[0]], r->names[f->twin[1]]);
 }
 
 static const struct {
@@ -254,7 +392,7 @@ void say_verdict(char *to, size_t room, const struct resection *r)
     length = strlen(to);
     if (r->figure.reasons & REASON_UNEVEN)
         snprintf(to + length, room - length, " %.0f gon",
-                 r->figure.major_bearing / GON);
+                 axis_gon(r->figure.major_bearing, 0));
 }
 
 const char caution[] =
@@ -266,6 +404,7 @@ const struct said lines[LINES] = {
     { "check", say_check, 0 },
     { "circle", say_circle, 1 },
     { "ellipse", say_ellipse, 1 },
+    { "axes", say_axes, 1 },
     { "factor", say_factor, 1 }
 };
 
@@ -313,6 +452,7 @@ static void resection_free(struct resection *r)
     free(r->names);
     free(r->points);
     free(r->rays);
+    free(r->taken);
     site_close(&r->site);
 }
 
@@ -324,10 +464,13 @@ int run_figure(const struct options *o)
     memset(&r, 0, sizeof r);
     r.o = o;
     status = read_question(&r);
-    if (status == DONE)
-        status = site_open(&r.site, o->word[0], (unsigned)o->wait);
+    if (status == DONE &&
+        site_open(&r.site, o->word[0], (unsigned)o->wait) != DONE)
+        status = TROUBLE; /* 1 is for a figure that is not good */
     if (status == DONE)
         status = take_sights(&r);
+    if (status == DONE)
+        warn_of_swap(&r);
     if (status == DONE)
         status = answer(&r);
     resection_free(&r);

@@ -3,70 +3,18 @@
  * A point's message is easting, northing, height and note as CSV text, or the
  * column text byte for byte. Empty fields are no message, unless the column
  * empty says that it is an empty one. */
-#include "commands.h"
+#include "import.h"
 
-#include "csv_columns.h"
-#include "delta_append.h"
-#include "foreign.h"
-#include "neighbours.h"
+#include "change_words.h"
 #include "image_header.h"
-#include "progress.h"
-#include "put_point.h"
-#include "utf8.h"
+#include "intake.h"
 
 #include <errno.h>
+#include <stdlib.h>
 #include <string.h>
 #include <sys/stat.h>
 
-struct point {
-    unsigned long line;
-    size_t name;      /* where it begins in the batch's bytes */
-    size_t text;
-    size_t text_end;
-    int none;         /* the point has no text */
-};
-
-struct batch {
-    struct buffer bytes;
-    struct point points[BATCH_POINTS];
-    size_t count;
-};
-
-struct import {
-    const struct options *o;
-    const char *input;
-    FILE *file;
-    int decimal;
-    struct csv csv;
-    struct arrivals arrivals; /* of another format, in place of the stream */
-    struct columns columns;
-    struct record record;
-    struct record heading;   /* the first line, if it is one */
-    struct record apart;     /* of texts that are taken apart */
-    struct batch batch;
-    struct image image;      /* open unless it is a dry run */
-    struct delta_append append;
-    struct buffer copy;      /* in its place in a dry run */
-    struct buffer key;
-    struct buffer place;     /* words: input and line */
-    uint32_t key_size;
-    uint8_t version;         /* of the file, its last number */
-    struct neighbours neighbours;
-    struct progress progress;
-    int first;               /* no record was read yet */
-    int end;                 /* the input has no more */
-    int warned;              /* of a name that is not UTF-8 */
-    int failed;              /* not the line, but what stores it */
-    unsigned long stored;
-    unsigned long replaced;  /* of these */
-    unsigned long swapped;   /* of these: look as if E and N were */
-    unsigned long swapped_line;
-    unsigned long refused;   /* lines, in a dry run */
-    unsigned long stop_line; /* the first of them */
-    int stop_status;
-};
-
-static int is_dry(const struct import *m)
+int import_is_dry(const struct import *m)
 {
     return (m->o->given & OPTION_DRY_RUN) != 0;
 }
@@ -79,8 +27,7 @@ static int keeps_going(const struct import *m)
 
 /* ---- words ---- */
 
-/* "FILE: line N", for messages. */
-static const char *place(struct import *m, unsigned long line)
+const char *import_place(struct import *m, unsigned long line)
 {
     char number[32];
 
@@ -92,17 +39,17 @@ static const char *place(struct import *m, unsigned long line)
     return (const char *)m->place.bytes;
 }
 
-/* Are words about another refused line wanted? */
-static int is_told(struct import *m)
+int import_is_told(struct import *m)
 {
     progress_end(&m->progress);
-    return m->refused < REFUSALS_SHOWN || (keeps_going(m) && !is_dry(m));
+    return m->refused < REFUSALS_SHOWN ||
+           (keeps_going(m) && !import_is_dry(m));
 }
 
 static int complain_of_line(struct import *m, const char *words)
 {
-    if (is_told(m))
-        complain("%s: %s", place(m, m->record.line), words);
+    if (import_is_told(m))
+        complain("%s: %s", import_place(m, m->record.line), words);
     return TROUBLE;
 }
 
@@ -114,17 +61,16 @@ static int complain_of_input(struct import *m, enum csv_answer answer)
     else if (answer == CSV_WIDE)
         complain("%s: %s", m->input, csv_words(answer));
     else
-        complain("%s: %s", place(m, m->record.line), csv_words(answer));
+        complain("%s: %s", import_place(m, m->record.line), csv_words(answer));
     return TROUBLE;
 }
 
-/* A dry run goes on behind a refused line, and keeps where an import would
- * have stopped; so does --keep-going. */
-static int goes_on(struct import *m, int status, unsigned long line)
+int import_goes_on(struct import *m, int status, unsigned long line)
 {
     if (status == DONE)
         return 1;
-    if ((!is_dry(m) && !keeps_going(m)) || m->columns.fields == 0 || m->failed)
+    if ((!import_is_dry(m) && !keeps_going(m)) || m->columns.fields == 0 ||
+        m->failed)
         return 0;
     m->refused++;
     if (m->stop_line == 0 || line < m->stop_line) {
@@ -136,10 +82,19 @@ static int goes_on(struct import *m, int status, unsigned long line)
 
 /* ---- the delimiter ---- */
 
-static const char delimiters[] = { ',', ';', '\t' };
-static const char *const delimiter_words[] = { "comma", "semicolon", "tab" };
+static const char delimiters[] = { ',', ';', '\t', ' ' };
+static const char *const delimiter_words[] = { "comma", "semicolon", "tab",
+                                               "blank" };
 
-enum { DELIMITERS = sizeof delimiters };
+/* Of these only the first three are found out: a blank may be in a name. */
+enum { DELIMITERS = sizeof delimiters, DELIMITERS_FOUND = 3 };
+
+/* Another sign that is in no number and no quote, by itself. */
+static int is_sign(const char *word)
+{
+    return word[0] != '\0' && word[1] == '\0' &&
+           strchr("|:!#%&/~^", word[0]) != NULL;
+}
 
 static int delimiter_from(const char *word)
 {
@@ -147,6 +102,8 @@ static int delimiter_from(const char *word)
         if (strcmp(word, delimiter_words[i]) == 0 ||
             (word[0] == delimiters[i] && word[1] == '\0'))
             return delimiters[i];
+    if (is_sign(word))
+        return word[0];
     return strcmp(word, "\\t") == 0 ? '\t' : 0;
 }
 
@@ -179,7 +136,7 @@ static int find_delimiter(struct import *m)
     size_t most = 0;
     int found = delimiters[0];
 
-    for (int i = 0; i < DELIMITERS; i++) {
+    for (int i = 0; i < DELIMITERS_FOUND; i++) {
         enum csv_answer answer = csv_look(&m->csv, &m->record, delimiters[i]);
         size_t like = likeness(&m->record);
 
@@ -218,7 +175,7 @@ static int read_first(struct import *m, int *used)
                                    "--columns PNEZD, --columns PENZD or the "
                                    "like");
     status = columns_from_heading(&m->columns, &m->record,
-                                  place(m, m->record.line));
+                                  import_place(m, m->record.line));
     m->heading = m->record;
     memset(&m->record, 0, sizeof m->record);
     return status;
@@ -242,18 +199,27 @@ static struct piece column(const struct import *m, int which)
         ? none : record_field(&m->record, (size_t)m->columns.at[which]);
 }
 
-static int complain_of_field(struct import *m, enum fault fault, int field,
-                             struct piece value)
+/* What helps is said once. */
+static void advise(struct import *m, enum fault fault)
 {
-    if (!is_told(m))
-        return TROUBLE;
-    complain_of_fault(place(m, m->record.line), fault, field, value);
+    if (m->advised)
+        return;
     if (fault == FAULT_COMMA)
         complain("%s: --decimal %s takes such numbers", m->input,
                  m->decimal == ',' ? "." : ",");
-    else if (m->heading.fields == 0 && m->stored + m->batch.count + m->refused == 0)
+    else if (m->heading.fields == 0 && m->crowd.count + m->refused == 0)
         complain("%s: if that is a heading, --skip %lu passes over it",
                  m->input, m->record.line);
+    m->advised = 1;
+}
+
+static int complain_of_field(struct import *m, enum fault fault, int field,
+                             struct piece value)
+{
+    if (!import_is_told(m))
+        return TROUBLE;
+    complain_of_fault(import_place(m, m->record.line), fault, field, value);
+    advise(m, fault);
     return TROUBLE;
 }
 
@@ -283,15 +249,17 @@ static int complain_of_number_of_fields(struct import *m)
     if (columns_show(&m->columns, &words) != 0 ||
         buffer_put_byte(&words, '\0') != 0)
         out_of_memory();
-    else if (is_told(m))
-        complain("%s: the line has %lu fields, and not the %lu of %s",
-                 place(m, m->record.line), (unsigned long)m->record.fields,
+    else if (import_is_told(m))
+        complain("%s: the line has %lu field%s, and not the %lu of %s",
+                 import_place(m, m->record.line),
+                 (unsigned long)m->record.fields,
+                 m->record.fields == 1 ? "" : "s",
                  (unsigned long)m->columns.fields, (const char *)words.bytes);
     buffer_free(&words);
     return TROUBLE;
 }
 
-/* ---- a point in the batch ---- */
+/* ---- a point in the crowd ---- */
 
 static int is_empty(const struct piece fields[POINT_FIELDS])
 {
@@ -312,7 +280,7 @@ static int says(struct import *m, struct piece text,
     if (!point_take(&m->apart, text, own))
         return 0;
     for (int i = 0; i < POINT_FIELDS; i++)
-        if (!same_piece(own[i], fields[i]))
+        if (!same_piece(i == NOTE ? own[i] : piece_trim(own[i]), fields[i]))
             return 0;
     return 1;
 }
@@ -337,25 +305,29 @@ static int says_empty(struct import *m, struct piece text,
     return -1;
 }
 
-static void warn_of_name(struct import *m, struct piece name)
+/* Room for one more: 0, or -1 for no memory. */
+static int make_room(struct crowd *c)
 {
-    if (m->warned || utf8_whole(name.bytes, name.length))
-        return;
-    m->warned = 1;
-    progress_end(&m->progress);
-    complain("%s: warning: the name %.*s is not UTF-8; it is kept as it is, "
-             "and so are others", place(m, m->record.line),
-             (int)(name.length > 60 ? 60 : name.length),
-             (const char *)name.bytes);
+    size_t room = c->room == 0 ? 256 : 2 * c->room;
+    struct incoming *all;
+
+    if (c->count < c->room)
+        return 0;
+    all = realloc(c->all, room * sizeof *all);
+    if (all == NULL)
+        return -1;
+    c->all = all;
+    c->room = room;
+    return 0;
 }
 
 static int put_point(struct import *m, const struct piece fields[POINT_FIELDS])
 {
-    struct batch *b = &m->batch;
-    struct point *p = &b->points[b->count];
+    struct crowd *c = &m->crowd;
     const struct piece name = piece_trim(column(m, COLUMN_NAME));
     const struct piece text = column(m, COLUMN_TEXT);
     int empty = says_empty(m, text, fields);
+    struct incoming *p;
     int done;
 
     if (empty < 0)
@@ -363,17 +335,28 @@ static int put_point(struct import *m, const struct piece fields[POINT_FIELDS])
     if (text.length > 0 && !says(m, text, fields))
         return complain_of_line(m, "the column text says something else than "
                                    "the others; leave it empty, or them");
-    warn_of_name(m, name);
+    if (make_room(c) != 0)
+        return out_of_memory();
+    p = &c->all[c->count++];
+    memset(p, 0, sizeof *p);
     p->line = m->record.line;
-    p->name = b->bytes.length;
-    done = buffer_put(&b->bytes, name.bytes, name.length);
-    p->text = b->bytes.length;
-    done |= text.length > 0 ? buffer_put(&b->bytes, text.bytes, text.length)
-                            : point_put(&b->bytes, fields);
-    p->text_end = b->bytes.length;
+    p->name = c->bytes.length;
+    done = buffer_put(&c->bytes, name.bytes, name.length);
+    p->text = c->bytes.length;
+    done |= text.length > 0 ? buffer_put(&c->bytes, text.bytes, text.length)
+                            : point_put(&c->bytes, fields);
+    p->text_end = c->bytes.length;
     p->none = !empty && p->text_end == p->text;
-    b->count++;
     return done == 0 ? DONE : out_of_memory();
+}
+
+/* A line of delimiters alone, as spreadsheets leave below a table. */
+static int is_blank_line(const struct record *r)
+{
+    for (size_t i = 0; i < r->fields && i < FIELDS_MAX; i++)
+        if (piece_trim(record_field(r, i)).length > 0)
+            return 0;
+    return 1;
 }
 
 static int read_point(struct import *m)
@@ -383,6 +366,8 @@ static int read_point(struct import *m)
     int heading = 0;
     int status = DONE;
 
+    if (is_blank_line(&m->record))
+        return DONE;
     m->first = 0;
     if (first)
         status = read_first(m, &heading);
@@ -394,161 +379,26 @@ static int read_point(struct import *m)
     return status == DONE ? put_point(m, fields) : status;
 }
 
-/* Fills the batch. Points in front of a bad line stay in it. */
-static int read_batch(struct import *m)
+/* All records of the input. */
+static int read_all(struct import *m)
 {
     int status = DONE;
 
-    m->batch.count = 0;
-    m->batch.bytes.length = 0;
-    while (m->batch.count < BATCH_POINTS &&
-           m->batch.bytes.length < BATCH_BYTES && !interrupted) {
+    while (!interrupted) {
         enum csv_answer answer = csv_read(&m->csv, &m->record);
 
-        m->end = answer == CSV_END;
-        if (m->end || (interrupted && answer == CSV_NO_INPUT))
+        if (answer == CSV_END || (interrupted && answer == CSV_NO_INPUT))
             break;
         if (answer != CSV_RECORD)
             return complain_of_input(m, answer);
         status = read_point(m);
-        if (!goes_on(m, status, m->record.line))
+        if (!import_goes_on(m, status, m->record.line))
             return status;
+        if (m->record.line % 256 == 0)
+            progress_show(&m->progress, (unsigned long)m->crowd.count,
+                          m->csv.taken);
     }
     return DONE;
-}
-
-/* ---- storing ---- */
-
-/* The image that points are put into. */
-static struct target target(const struct import *m)
-{
-    struct target to;
-
-    to.image = is_dry(m) ? m->copy.bytes : m->image.bytes;
-    to.length = is_dry(m) ? m->copy.length : m->image.length;
-    to.file = is_dry(m) ? NULL : m->image.file;
-    return to;
-}
-
-static struct piece text_of(const struct import *m, const struct point *p)
-{
-    struct piece text;
-
-    text.bytes = m->batch.bytes.bytes + p->text;
-    text.length = p->text_end - p->text;
-    return text;
-}
-
-static int refuse_line(struct import *m, const struct point *p,
-                       uint32_t number)
-{
-    const uint8_t *name = m->batch.bytes.bytes + p->name;
-    const struct piece text = text_of(m, p);
-    struct buffer words = { NULL, 0, 0 };
-
-    if (buffer_put(&words, name, p->text - p->name) != 0 ||
-        buffer_put_byte(&words, '\0') != 0)
-        out_of_memory();
-    else if (is_told(m))
-        refuse_point(place(m, p->line), (const char *)words.bytes, number,
-                     m->key_size, number == BHTF_NO_ROOM
-                         ? room_by_compaction(target(m), &m->key, &text,
-                                              mode_of(m->o)) : 0);
-    buffer_free(&words);
-    return REFUSED;
-}
-
-/* What the file layer answers besides the library's numbers is no matter of
- * the line: no other would be stored. */
-static int fail_storing(struct import *m)
-{
-    m->failed = 1;
-    progress_end(&m->progress);
-    complain("%s", bhtf_file_error(m->image.file)->words);
-    return TROUBLE;
-}
-
-static void note_stored(struct import *m, const struct point *p, int present)
-{
-    m->stored++;
-    m->replaced += present != 0;
-    if (!looks_swapped(&m->neighbours, &m->apart, text_of(m, p)))
-        return;
-    if (m->swapped++ == 0)
-        m->swapped_line = p->line;
-}
-
-static int store_point(struct import *m, const struct point *p)
-{
-    const struct piece text = text_of(m, p);
-    const struct target to = target(m);
-    uint32_t number, offset, size, read;
-    int present = 0;
-
-    if (key_from(&m->key, m->batch.bytes.bytes + p->name, p->text - p->name,
-                 m->key_size) != 0)
-        return out_of_memory();
-    if (mode_of(m->o) == BHTF_REPLACE)
-        present = bhtf_lookup(to.image, to.length, m->key.bytes,
-                              m->key.length, &offset, &size) == BHTF_ACCEPTED;
-    number = store(to, &m->key, p->none ? NULL : &text, mode_of(m->o), &read);
-    if (number >= BHTF_FILE_SYSTEM)
-        return fail_storing(m);
-    if (number != BHTF_ACCEPTED)
-        return refuse_line(m, p, number);
-    note_stored(m, p, present);
-    return DONE;
-}
-
-static int store_points(struct import *m)
-{
-    int status = DONE;
-
-    for (size_t i = 0; i < m->batch.count; i++) {
-        const struct point *p = &m->batch.points[i];
-
-        status = store_point(m, p);
-        if (!goes_on(m, status, p->line))
-            break;
-        status = DONE;
-    }
-    return status;
-}
-
-static int store_batch(struct import *m)
-{
-    return m->batch.count == 0 ? DONE : store_points(m);
-}
-
-static int store_all(struct import *m)
-{
-    int status = DONE;
-
-    while (status == DONE && !m->end && !interrupted) {
-        int read = read_batch(m);
-
-        status = store_batch(m);
-        if (status == DONE)
-            status = read;
-        progress_show(&m->progress, m->stored, m->csv.taken);
-    }
-    return status;
-}
-
-/* ---- what was done ---- */
-
-static const char *plural(unsigned long n)
-{
-    return n == 1 ? "" : "s";
-}
-
-static void warn_of_swapped(const struct import *m)
-{
-    if (m->swapped != 0)
-        complain("%s: warning: %lu of %lu point%s would lie near those of %s "
-                 "if easting and northing changed places; line %lu is the "
-                 "first", m->input, m->swapped, m->stored, plural(m->stored),
-                 m->o->word[0], m->swapped_line);
 }
 
 /* What the columns were taken to be. */
@@ -556,7 +406,7 @@ static int print_columns(struct import *m)
 {
     struct buffer words = { NULL, 0, 0 };
 
-    if (m->columns.fields == 0 || m->o->given & OPTION_FOREIGN)
+    if (m->columns.fields == 0 || m->kind != 0)
         return DONE;
     if (columns_show(&m->columns, &words) != 0)
         return out_of_memory();
@@ -570,51 +420,6 @@ static int print_columns(struct import *m)
     return DONE;
 }
 
-static int report_dry_run(struct import *m, int status)
-{
-    if (m->o->quiet == 0 && print_columns(m) != DONE)
-        return TROUBLE;
-    if (!m->o->quiet)
-        printf("%lu point%s would be stored in %s: %lu new, %lu in place of "
-               "others\n", m->stored, plural(m->stored), m->o->word[0],
-               m->stored - m->replaced, m->replaced);
-    if (m->refused > 0 && keeps_going(m))
-        complain("%s: %lu line%s would be refused, the first is line %lu",
-                 m->input, m->refused, plural(m->refused), m->stop_line);
-    else if (m->refused > 0)
-        complain("%s: %lu line%s would be refused; an import would stop at "
-                 "line %lu, with nothing stored, unless --keep-going is given",
-                 m->input, m->refused, plural(m->refused), m->stop_line);
-    return status == DONE ? m->stop_status : status;
-}
-
-static int report_import(const struct import *m, int status)
-{
-    if (m->image.unsure)
-        complain("%s: whether its points are stored in %s is told when that is "
-                 "read again", m->input, m->o->word[0]);
-    else if (!m->image.committed)
-        complain("%s: import stopped: nothing was stored in %s", m->input,
-                 m->o->word[0]);
-    if (!m->image.committed)
-        return status;
-    if (status == DONE)
-        status = m->stop_status;
-    if (m->refused > 0)
-        complain("%s: %lu line%s refused, the first is line %lu; the others "
-                 "are stored", m->input, m->refused, plural(m->refused),
-                 m->stop_line);
-    if (m->o->quiet)
-        return status;
-    if (mode_of(m->o) == BHTF_REPLACE)
-        printf("%lu point%s stored: %lu new, %lu in place of others\n",
-               m->stored, plural(m->stored), m->stored - m->replaced,
-               m->replaced);
-    else
-        printf("%lu point%s stored\n", m->stored, plural(m->stored));
-    return status;
-}
-
 /* ---- opening ---- */
 
 static int read_options(struct import *m)
@@ -622,13 +427,16 @@ static int read_options(struct import *m)
     const struct options *o = m->o;
 
     m->decimal = '.';
-    if (foreign_options(o) != DONE)
+    m->kind = o->given & (OPTION_GSI | OPTION_LANDXML);
+    if (foreign_options(o->given) != DONE ||
+        drop_read(o->drop, &m->dropped) != 0 ||
+        encoding_known(o->encoding) != 0)
         return TROUBLE;
     if (o->columns != NULL &&
         columns_from_option(&m->columns, o->columns) != DONE)
         return TROUBLE;
     if (o->delimiter != NULL && delimiter_from(o->delimiter) == 0) {
-        complain("--delimiter is comma, semicolon or tab, and not %s",
+        complain("--delimiter is comma, semicolon, tab or blank, and not %s",
                  o->delimiter);
         return TROUBLE;
     }
@@ -671,7 +479,7 @@ static int open_input(struct import *m)
 /* What the file is like before the first point. */
 static int look_at_file(struct import *m)
 {
-    const struct target to = target(m);
+    const struct target to = import_target(m);
 
     m->version = header_read(to.image).version[2];
     return neighbours_find(&m->neighbours, to.image, to.length,
@@ -714,41 +522,136 @@ static enum csv_answer read_head(struct import *m)
     return answer;
 }
 
-static int store_csv(struct import *m)
+static int read_csv(struct import *m)
 {
     enum csv_answer answer = read_head(m);
 
     return answer == CSV_RECORD || interrupted
-        ? store_all(m) : complain_of_input(m, answer);
+        ? read_all(m) : complain_of_input(m, answer);
 }
 
 /* Points of another format are made lines of CSV first. */
-static int store_foreign(struct import *m)
+static int read_foreign(struct import *m)
 {
     const struct buffer *csv = &m->arrivals.csv;
     int status = columns_from_option(&m->columns, "PENZD");
 
     m->arrivals.input = m->input;
     if (status == DONE)
-        status = foreign_read(&m->arrivals, m->file, m->o);
+        status = foreign_read(&m->arrivals, m->file, m->kind, m->o->quiet);
     if (status != DONE)
         return status;
     m->first = 0;
     csv_from_bytes(&m->csv, csv->bytes, csv->length);
-    return store_all(m);
+    return read_all(m);
 }
 
-/* From the first byte of the input to its last. */
+static unsigned long lines_in(const uint8_t *part, size_t length)
+{
+    unsigned long lines = 0;
+
+    for (size_t i = 0; i < length; i++)
+        lines += part[i] == '\n';
+    return lines;
+}
+
+/* The input's bytes, whole. */
+static int read_bytes(struct import *m)
+{
+    unsigned long lines = 0;
+    size_t before, more;
+    int done;
+
+    if (m->file == stdin)
+        tell_waiting(m->o->word[0], "lines of CSV", m->o->quiet);
+    progress_begin(&m->progress, "read", stream_length(m->file), m->o->quiet);
+    do {
+        before = m->bytes.length;
+        done = buffer_read(&m->bytes, m->file, before + INPUT_PART);
+        more = m->bytes.length - before;
+        lines += lines_in(m->bytes.bytes + before, more);
+        progress_show(&m->progress, lines, m->bytes.length);
+    } while (done == 0 && more == INPUT_PART && !interrupted &&
+             m->bytes.length < INPUT_MOST);
+    progress_end(&m->progress);
+    if (done == 0 || interrupted)
+        return DONE;
+    complain("%s: cannot be read: %s", m->input, strerror(errno));
+    return TROUBLE;
+}
+
+static int is_kind(const struct import *m, enum intake_kind kind)
+{
+    return kind == INTAKE_CSV || m->bytes.length == 0 ||
+           (kind == INTAKE_GSI && m->kind == OPTION_GSI) ||
+           (kind == INTAKE_XML && m->kind == OPTION_LANDXML);
+}
+
+/* The input's own first bytes say what it is, unless an option does. */
+static int settle_kind(struct import *m)
+{
+    enum intake_kind kind = intake_kind(&m->bytes);
+
+    if (kind == INTAKE_OTHER && m->o->encoding == NULL) {
+        complain("%s: %s", m->input, intake_words(&m->bytes));
+        return TROUBLE;
+    }
+    if (m->kind != 0 || is_kind(m, kind) ||
+        (kind != INTAKE_GSI && kind != INTAKE_XML))
+        return DONE;
+    m->kind = kind == INTAKE_GSI ? OPTION_GSI : OPTION_LANDXML;
+    if (!m->o->quiet)
+        complain("%s: read as %s", m->input,
+                 kind == INTAKE_GSI ? "GSI-16" : "LandXML");
+    return foreign_options(m->o->given | m->kind);
+}
+
+/* XML says its own encoding; UTF-16 without a word is refused later. */
+static int decode(struct import *m)
+{
+    if (m->kind == OPTION_LANDXML && m->o->encoding != NULL) {
+        complain("%s: LandXML says its encoding itself; leave out --encoding",
+                 m->input);
+        return TROUBLE;
+    }
+    if (m->kind == OPTION_LANDXML ||
+        (m->o->encoding == NULL && intake_kind(&m->bytes) == INTAKE_WIDE))
+        return DONE;
+    return intake_decode(&m->bytes, m->o->encoding, m->input) == 0 ? DONE
+                                                                   : TROUBLE;
+}
+
+/* From here on the input is what was read of it. */
+static int use_bytes(struct import *m)
+{
+    if (m->bytes.length == 0)
+        return DONE;
+    if (m->file != stdin)
+        fclose(m->file);
+    m->file = fmemopen(m->bytes.bytes, m->bytes.length, "r");
+    return m->file != NULL ? DONE : out_of_memory();
+}
+
+/* From the first byte of the input to its last, and into the file. */
 static int read_input(struct import *m)
 {
     int status;
 
     catch_interrupts();
-    if (m->file == stdin)
-        tell_waiting(m->o->word[0], "lines of CSV", m->o->quiet);
-    progress_begin(&m->progress, is_dry(m) ? "read" : "stored",
-                   stream_length(m->file), m->o->quiet);
-    status = m->o->given & OPTION_FOREIGN ? store_foreign(m) : store_csv(m);
+    status = read_bytes(m);
+    if (status == DONE)
+        status = settle_kind(m);
+    if (status == DONE)
+        status = decode(m);
+    if (status == DONE)
+        status = use_bytes(m);
+    if (status != DONE)
+        return status;
+    progress_begin(&m->progress, "read", m->bytes.length, m->o->quiet);
+    status = m->kind != 0 ? read_foreign(m) : read_csv(m);
+    progress_end(&m->progress);
+    if (status == DONE && !interrupted)
+        status = import_store(m);
     progress_end(&m->progress);
     if (status == DONE && interrupted) {
         complain("%s: import interrupted", m->input);
@@ -771,11 +674,9 @@ static int import_points(struct import *m)
         delta_append_drop(&m->append, &m->image);
     else if (delta_append_close(&m->append, &m->image) != 0)
         status = TROUBLE;
-    if (m->image.committed) {
+    if (m->image.committed)
         say_version(m->o->word[0], m->version, now);
-        warn_of_swapped(m);
-    }
-    return finish_output(report_import(m, status));
+    return finish_output(import_report(m, status));
 }
 
 /* On a copy of the file. */
@@ -790,8 +691,9 @@ static int try_import(struct import *m)
     status = read_input(m);
     say_version(m->o->word[0], m->version,
                 header_read(m->copy.bytes).version[2]);
-    warn_of_swapped(m);
-    return finish_output(report_dry_run(m, status));
+    if (!m->o->quiet && print_columns(m) != DONE)
+        return TROUBLE;
+    return finish_output(import_report_dry(m, status));
 }
 
 static void import_free(struct import *m)
@@ -803,7 +705,8 @@ static void import_free(struct import *m)
     buffer_free(&m->record.bytes);
     buffer_free(&m->heading.bytes);
     buffer_free(&m->apart.bytes);
-    buffer_free(&m->batch.bytes);
+    buffer_free(&m->bytes);
+    import_store_free(m);
     buffer_free(&m->copy);
     buffer_free(&m->key);
     buffer_free(&m->place);
@@ -821,7 +724,7 @@ int run_import(const struct options *o)
     if (status == DONE)
         status = open_input(&m);
     if (status == DONE)
-        status = is_dry(&m) ? try_import(&m) : import_points(&m);
+        status = import_is_dry(&m) ? try_import(&m) : import_points(&m);
     import_free(&m);
     return status;
 }

@@ -3,8 +3,8 @@
 
 #include "bhtf.h"
 #include "rows.h"
+#include "selection.h"
 
-#include <fnmatch.h>
 #include <string.h>
 
 static enum row_form form_of(const struct options *o, enum row_form usual)
@@ -29,47 +29,31 @@ static int one_form(const struct options *o)
 
 /* ---- list ---- */
 
-/* Does one of the patterns behind the file match? Without any, all names. */
-static int is_wanted(const struct options *o, const char *name)
+static int list_rows(struct rows *r, const struct site *s)
 {
-    for (int i = 1; i < o->words; i++)
-        if (fnmatch(o->word[i], name, 0) == 0)
-            return 1;
-    return o->words == 1;
-}
-
-static int list_rows(struct rows *r, const struct options *o,
-                     const struct site *s)
-{
-    size_t listed = 0;
     int worst = DONE;
 
     rows_begin(r);
-    for (size_t i = 0; i < s->count && worst != TROUBLE; i++) {
-        if (spot_show(&r->name, &s->spots[i]) != 0)
-            return out_of_memory();
-        if (!is_wanted(o, (const char *)r->name.bytes))
-            continue;
-        listed++;
+    for (size_t i = 0; i < s->count; i++) {
         if (rows_put(r, &s->spots[i]) != DONE)
             return TROUBLE;
         if (s->spots[i].kind == SPOT_DAMAGED && r->form != ROW_NAME)
             worst = REFUSED;
     }
-    if (listed == 0 && o->words > 1) {
-        complain("%s: no name matches", o->word[0]);
-        worst = REFUSED;
-    }
-    return finish_output(worst);
+    return worst;
 }
 
-static int order_read(const char *word, int *by_name)
+static int list_site(struct rows *r, const struct options *o, struct site *s,
+                     int by_name)
 {
-    *by_name = word != NULL && strcmp(word, "name") == 0;
-    if (*by_name || word == NULL || strcmp(word, "slot") == 0)
-        return DONE;
-    complain("list: --by name or --by slot, not %s", word);
-    return TROUBLE;
+    int missing = site_select(s, o, 1), status;
+
+    if (missing == TROUBLE)
+        return missing;
+    if (by_name)
+        site_sort(s);
+    status = list_rows(r, s);
+    return finish_output(status > missing ? status : missing);
 }
 
 int run_list(const struct options *o)
@@ -80,14 +64,12 @@ int run_list(const struct options *o)
 
     memset(&r, 0, sizeof r);
     r.form = form_of(o, ROW_NAME);
-    if (!one_form(o) || order_read(o->by, &by_name) != DONE)
+    if (!one_form(o) || order_read(o, 0, &by_name) != DONE)
         return TROUBLE;
     status = (r.form == ROW_NAME ? site_open_names : site_open)(
         &s, o->word[0], (unsigned)o->wait);
-    if (status == DONE && by_name)
-        site_sort(&s);
     if (status == DONE)
-        status = list_rows(&r, o, &s);
+        status = list_site(&r, o, &s, by_name);
     rows_free(&r);
     site_close(&s);
     return status;

@@ -77,10 +77,33 @@ static int read_line(struct load *l, int *more)
 
 /* ---- the image ---- */
 
+/* The bytes that the dump's file has for texts; 0 if it does not say. */
+static uint64_t room_of(const struct dump_head *h)
+{
+    uint64_t end = h->slots == 0 || h->slots > BHTF_SLOTS_MAX
+        ? 0 : table_end(h->key_size, h->slots);
+
+    return end == 0 || h->size <= end ? 0 : h->size - end;
+}
+
+/* Another table leaves the texts their room, and more slots bring more of it,
+ * as far as a file may be long. */
+static void keep_room(struct dump_head *h, uint64_t room, uint64_t slots)
+{
+    uint64_t end = table_end(h->key_size, h->slots);
+
+    if (h->slots > slots)
+        room = room / slots * h->slots + room % slots * h->slots / slots;
+    h->size = end + (room + BHTF_PAGE - 1) / BHTF_PAGE * BHTF_PAGE;
+    if (h->size > BHTF_IMAGE_MAX)
+        h->size = BHTF_IMAGE_MAX;
+}
+
 /* What the command line says goes before what the dump says. */
 static void use_options(struct load *l)
 {
     const struct options *o = l->o;
+    const uint64_t room = room_of(&l->head), slots = l->head.slots;
 
     if (o->format != NULL) {
         l->head.version[0] = 1;
@@ -98,6 +121,10 @@ static void use_options(struct load *l)
     }
     if (o->given & OPTION_SIZE)
         l->head.size = o->size;
+    else if (room > 0 && (o->given & (OPTION_SLOTS | OPTION_KEY_SIZE)) &&
+             l->head.slots <= BHTF_SLOTS_MAX &&
+             l->head.key_size <= BHTF_KEY_MAX)
+        keep_room(&l->head, room, slots);
     if (l->head.size == 0)
         l->head.size = usual_size(l->head.key_size, l->head.slots);
 }

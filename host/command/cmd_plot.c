@@ -2,11 +2,19 @@
  * since an older file. */
 #include "plan.h"
 
+#include "selection.h"
+
 #include <math.h>
 #include <stdlib.h>
 #include <string.h>
 
-static const double arrow = 7;  /* the shortest that is drawn, in millimetres */
+/* Millimetres of paper: the longest of the arrows that are drawn larger than to
+ * scale, and the shortest that is drawn. */
+static const double arrow_most = 15;
+static const double arrow_least = 0.8;
+
+/* A move from this length on is drawn to scale, in millimetres. */
+static const double move_far = 1000;
 
 /* ---- points ---- */
 
@@ -15,51 +23,76 @@ static int is_placed(const struct spot *s)
     return s != NULL && s->kind == SPOT_PLACED;
 }
 
-static enum change change_of(const struct plan *p, const struct spot *old,
-                             const struct spot *now, struct move *move)
-{
-    if (p->o->against == NULL)
-        return SAME;
-    if (now == NULL)
-        return GONE;
-    if (old == NULL)
-        return NEW;
-    *move = spot_move(old, now);
-    return move->all < MOVE_LEAST ? SAME : MOVED;
-}
-
-static int show_length(char *to, size_t room, const char *before, double mm)
-{
-    if (fabs(mm) >= 1000)
-        return snprintf(to, room, "%s%.3f m", before, mm / 1000);
-    return snprintf(to, room, "%s%.*f mm", before, fabs(mm) < 10 ? 1 : 0, mm);
-}
-
-/* " 12 mm" for a move over the ground, " h -3.0 mm" for one in height. */
+/* " 10.6 mm" for a move over the ground, " h -3.0 mm" for one in height. */
 static void show_move(char *to, size_t room, const struct move *m)
 {
-    int length = 0;
+    char length[48];
 
     to[0] = '\0';
-    if (m->plane >= 0.05)
-        length = show_length(to, room, " ", m->plane);
-    if (fabs(m->height) >= 0.05)
-        show_length(to + length, room - (size_t)length,
-                    m->height < 0 ? " h " : " h +", m->height);
+    if (m->plane >= MOVE_LEAST) {
+        length_show(length, sizeof length, m->plane, 0);
+        snprintf(to, room, " %s", length);
+    }
+    if (fabs(m->height) >= MOVE_LEAST) {
+        length_show(length, sizeof length, m->height, 1);
+        snprintf(to + strlen(to), room - strlen(to), " h %s", length);
+    }
 }
 
-static char *mark_text(const struct spot *s, const struct mark *m)
+/* What else became of it, in few words. */
+static void show_details(char *to, size_t room, const struct became *b,
+                         const struct spot *now)
 {
-    struct buffer text = { NULL, 0, 0 };
-    char move[96] = "";
+    static const struct {
+        unsigned detail;
+        const char *words;
+    } all[] = {
+        { DETAIL_PLACE_NEW, " place new" },
+        { DETAIL_PLACE_GONE, " place gone" },
+        { DETAIL_HEIGHT_NEW, " h new" }, { DETAIL_HEIGHT_GONE, " h gone" },
+        { DETAIL_NOTE, " note" }
+    };
 
-    if (m->change == MOVED)
-        show_move(move, sizeof move, &m->move);
-    if (name_show(&text, s->name, s->name_length) == 0 &&
-        buffer_put(&text, move, strlen(move) + 1) == 0)
-        return (char *)text.bytes;
-    buffer_free(&text);
-    return NULL;
+    for (size_t i = 0; i < sizeof all / sizeof all[0]; i++)
+        if (b->details & all[i].detail)
+            snprintf(to + strlen(to), room - strlen(to), "%s", all[i].words);
+    if (b->details & DETAIL_OTHER)
+        snprintf(to + strlen(to), room - strlen(to), "%s",
+                 has_coordinates(now) ? " coordinates new"
+                                      : " no coordinates");
+    if (b->change == DAMAGED)
+        snprintf(to + strlen(to), room - strlen(to), " damaged");
+}
+
+/* The name, and what became of the point; no plan against another says less. */
+static int put_text(struct buffer *text, const struct spot *s,
+                    const struct became *b, const struct spot *now)
+{
+    char words[192] = "";
+
+    if (b->details & DETAIL_MOVE && b->change != WITHIN)
+        show_move(words, sizeof words, &b->move);
+    show_details(words, sizeof words, b, now);
+    return name_show(text, s->name, s->name_length) |
+           buffer_put(text, words, strlen(words));
+}
+
+/* A changed point that has no place, neither now nor before. */
+static int put_placeless(struct plan *p, const struct spot *s,
+                         const struct became *b, const struct spot *now)
+{
+    struct buffer *to = &p->placeless;
+    int done = 0;
+
+    if (b->change == SAME || b->change == WITHIN)
+        return 0;
+    if (p->placeless_count++ > 0)
+        done = buffer_put(to, ", ", 2);
+    done |= put_text(to, s, b, now);
+    if (b->change == NEW || b->change == GONE)
+        done |= buffer_put(to, b->change == NEW ? " new" : " gone",
+                           b->change == NEW ? 4 : 5);
+    return done;
 }
 
 /* Adds a point that has a place now or had one before: 0, or -1. */
@@ -67,18 +100,23 @@ static int put_mark(struct plan *p, const struct spot *old,
                     const struct spot *now)
 {
     struct mark *m = &p->marks[p->count];
+    const struct spot *s = now != NULL ? now : old;
+    struct became b = { SAME, 0, { 0, 0, 0, 0, 0 } };
+    struct buffer text = { NULL, 0, 0 };
 
-    old = is_placed(old) ? old : NULL;
-    now = is_placed(now) ? now : NULL;
-    if (old == NULL && now == NULL)
-        return 0;
-    m->change = change_of(p, old, now, &m->move);
-    m->at = now != NULL ? now->at : old->at;
-    m->before = old != NULL ? old->at : m->at;
-    m->text = mark_text(now != NULL ? now : old, m);
-    if (m->text == NULL)
+    if (p->o->against != NULL)
+        b = reckon(&p->r, old, now);
+    if (!is_placed(old) && !is_placed(now))
+        return put_placeless(p, s, &b, now);
+    m->change = b.change == WITHIN ? SAME : b.change;
+    m->move = b.move;
+    m->at = is_placed(now) ? now->at : old->at;
+    m->before = is_placed(old) ? old->at : m->at;
+    if (put_text(&text, s, &b, now) != 0 || buffer_put_byte(&text, 0) != 0) {
+        buffer_free(&text);
         return -1;
-    p->changes[m->change]++;
+    }
+    m->text = (char *)text.bytes;
     p->count++;
     return 0;
 }
@@ -147,29 +185,40 @@ static void lay_sheet(struct plan *p, int paper)
     sheet_fit(s, &b, 14);
 }
 
-/* The arrow of a moved point ends on it. One that would be too short to see
- * begins as far back as the shortest: it shows the direction alone. */
+/* How many times as long as to scale the arrows are: a round number by which
+ * the longest of those moves that are not drawn to scale fits the paper. */
+static double arrows_of(const struct plan *p)
+{
+    double most = 0;
+
+    for (size_t i = 0; i < p->count; i++) {
+        const struct mark *m = &p->marks[i];
+
+        if (m->change == MOVED && m->move.plane < move_far)
+            most = fmax(most, m->move.plane);
+    }
+    return most < MOVE_LEAST ? 0 : round_down(arrow_most * p->sheet.scale /
+                                              most);
+}
+
+/* The arrow of a moved point ends on it. */
 static void lay_arrow(const struct plan *p, const struct mark *m,
                       struct label *l)
 {
-    double x = sheet_x(&p->sheet, m->before.east) - l->x;
-    double y = sheet_y(&p->sheet, m->before.north) - l->y;
-    double length = hypot(m->move.east, m->move.north);
+    double times = m->move.plane < move_far ? p->arrows : 1;
+    double unit = times / p->sheet.scale;
 
     l->tip_x = l->x;
     l->tip_y = l->y;
-    if (m->change != MOVED || m->move.plane < MOVE_LEAST)
+    if (m->change != MOVED || m->move.plane * unit < arrow_least)
         return;
-    if (hypot(x, y) < arrow) {
-        x = -m->move.east / length * arrow;
-        y = m->move.north / length * arrow;
-    }
-    l->tip_x += x;
-    l->tip_y += y;
+    l->tip_x -= m->move.east * unit;
+    l->tip_y += m->move.north * unit;
 }
 
 static void lay_labels(struct plan *p)
 {
+    p->arrows = arrows_of(p);
     for (size_t i = 0; i < p->count; i++) {
         const struct mark *m = &p->marks[i];
         struct label *l = &p->labels[i];
@@ -188,7 +237,7 @@ static int place_names(struct plan *p)
 
     lay_labels(p);
     p->unnamed = labels_place(p->labels, p->count, &area, NAME_SIZE, MARK_SIZE,
-                              p->count <= 1000 ? 70 : 12);
+                              p->count <= 1000 ? 70 : 12, NULL);
     return p->unnamed < 0 ? out_of_memory() : DONE;
 }
 
@@ -201,27 +250,31 @@ static size_t count_far(const struct plan *p)
     return far;
 }
 
-/* The smallest paper on which one name in twenty at most stands away from its
- * point; if there is none, the smallest on which all have a place. */
+/* Does this paper do? All names have a place, and one name, or one in twenty,
+ * at most stands away from its point. */
+static int does(const struct plan *p)
+{
+    return p->unnamed == 0 && count_far(p) <= 1 + p->count / 20;
+}
+
+/* The smaller of A4 and A3 that does; else the first from A3 on that has all
+ * names: offices print no more than A3 unless asked. */
 static int choose_paper(struct plan *p)
 {
-    int complete = PAPERS - 1;
+    int paper;
 
     if (p->o->paper != NULL) {
         lay_sheet(p, paper_read(p->o->paper));
         return place_names(p);
     }
-    for (int paper = 0; paper < PAPERS; paper++) {
+    for (paper = 0; paper < PAPERS; paper++) {
         lay_sheet(p, paper);
         if (place_names(p) != DONE)
             return TROUBLE;
-        if (p->unnamed == 0 && count_far(p) * 20 <= p->count)
-            return DONE;
-        if (p->unnamed == 0 && paper < complete)
-            complete = paper;
+        if (does(p) || (p->unnamed == 0 && paper > 0))
+            break;
     }
-    lay_sheet(p, complete);
-    return place_names(p);
+    return DONE;
 }
 
 /* ---- the command ---- */
@@ -233,26 +286,99 @@ static void say_unnamed(const struct plan *p)
                  p->unnamed == 1 ? "name has" : "names have");
 }
 
+static int by_number(const void *a, const void *b)
+{
+    double left = *(const double *)a, right = *(const double *)b;
+
+    return left < right ? -1 : left > right;
+}
+
+static double median_of(double *numbers, size_t count)
+{
+    qsort(numbers, count, sizeof *numbers, by_number);
+    return numbers[count / 2];
+}
+
+/* The middle of the points, and how far off half of them are; `room` has room
+ * for as many numbers. */
+static double spread_of(const struct plan *p, struct at *middle, double *room)
+{
+    for (size_t i = 0; i < p->count; i++)
+        room[i] = p->marks[i].at.east;
+    middle->east = median_of(room, p->count);
+    for (size_t i = 0; i < p->count; i++)
+        room[i] = p->marks[i].at.north;
+    middle->north = median_of(room, p->count);
+    for (size_t i = 0; i < p->count; i++)
+        room[i] = hypot(p->marks[i].at.east - middle->east,
+                        p->marks[i].at.north - middle->north);
+    return median_of(room, p->count);
+}
+
+/* Names the farthest point if it is so far off that the others are drawn small
+ * for it: 0, or -1 for no memory. */
+static int warn_of_far(const struct plan *p)
+{
+    double *room = calloc(p->count, sizeof *room);
+    double spread, far = 0;
+    struct at middle;
+    size_t which = 0;
+
+    if (room == NULL)
+        return -1;
+    spread = spread_of(p, &middle, room);
+    for (size_t i = 0; i < p->count; i++) {
+        double away = hypot(p->marks[i].at.east - middle.east,
+                            p->marks[i].at.north - middle.north);
+
+        which = away > far ? i : which;
+        far = fmax(far, away);
+    }
+    free(room);
+    if (far > 20 * spread && far > 1000)
+        complain("%s: warning: %s is %.3f km from the middle of the points, "
+                 "which are drawn small for it", p->o->word[0],
+                 p->marks[which].text, far / 1000);
+    return 0;
+}
+
+/* Of both files: what is not on the plan has its words. */
+static int say_left_out(const struct plan *p)
+{
+    int now = site_say_left_out(&p->now, p->o->word[0], NULL);
+    int old = p->o->against == NULL
+        ? DONE : site_say_left_out(&p->old, p->o->against, NULL);
+    size_t level = p->now.kinds[SPOT_LEVEL];
+
+    if (level > 0)
+        complain("%s: %lu %s a height alone, and no place on the plan",
+                 p->o->word[0], (unsigned long)level,
+                 level == 1 ? "point has" : "points have");
+    return now > old ? now : old;
+}
+
 static int make_plan(struct plan *p)
 {
+    struct site *const both[] = { &p->now, &p->old };
+    int missing = sites_select(both, p->o->against != NULL ? 2 : 1, p->o, 1);
     int status, left_out;
 
     site_sort(&p->now);
     site_sort(&p->old);
-    status = put_marks(p);
+    status = missing == TROUBLE ? TROUBLE : put_marks(p);
     if (status != DONE)
         return status;
-    left_out = site_say_left_out(&p->now, p->o->word[0]);
+    left_out = say_left_out(p);
     if (p->count == 0) {
         complain("%s: there is no point with coordinates", p->o->word[0]);
         return REFUSED;
     }
-    status = choose_paper(p);
+    status = warn_of_far(p) == 0 ? choose_paper(p) : out_of_memory();
     if (status != DONE)
         return status;
     say_unnamed(p);
     draw_plan(p);
-    return finish_output(left_out);
+    return finish_output(left_out > missing ? left_out : missing);
 }
 
 static void plan_free(struct plan *p)
@@ -261,6 +387,8 @@ static void plan_free(struct plan *p)
         free(p->marks[i].text);
     free(p->marks);
     free(p->labels);
+    buffer_free(&p->placeless);
+    reckoning_free(&p->r);
     site_close(&p->now);
     site_close(&p->old);
 }
@@ -276,6 +404,10 @@ int run_plot(const struct options *o)
     }
     memset(&p, 0, sizeof p);
     p.o = o;
+    if (tolerance_read(&p.r.tolerance, o->tolerance) != 0) {
+        complain("plot: --tolerance needs millimetres, as 3 or 3mm");
+        return TROUBLE;
+    }
     status = site_open(&p.now, o->word[0], (unsigned)o->wait);
     if (status == DONE && o->against != NULL)
         status = site_open(&p.old, o->against, (unsigned)o->wait);

@@ -2,6 +2,7 @@
 #include "commands.h"
 
 #include "bhtf.h"
+#include "long_work.h"
 #include "space_used.h"
 
 #include <string.h>
@@ -172,20 +173,23 @@ static void print_space(const struct figures *f, const struct header *h,
                (unsigned long)f->space.dead);
 }
 
-static int print_figures(const struct buffer *copy)
+static int print_figures(const struct buffer *copy, const char *file)
 {
     const struct header h = header_read(copy->bytes);
     struct figures f;
 
+    say_duration(file, "stat", 2 * slots_displaced(copy->bytes, copy->length,
+                                                   &h), 0);
     gather(&f, copy, &h);
     printf("file: %lu bytes, key size %lu\n", (unsigned long)copy->length,
            (unsigned long)h.key_size);
     printf("load: %lu points in %lu slots, %.1f %%\n",
            (unsigned long)f.points, (unsigned long)h.slots,
            100.0 * f.points / h.slots);
-    printf("texts: %lu, of which %lu are empty; %lu points have none\n",
+    printf("texts: %lu, of which %lu %s empty; %lu %s none\n",
            (unsigned long)f.space.texts, (unsigned long)f.space.empty,
-           (unsigned long)f.space.bare);
+           f.space.empty == 1 ? "is" : "are", (unsigned long)f.space.bare,
+           f.space.bare == 1 ? "point has" : "points have");
     print_space(&f, &h, copy->length);
     print_searches(&f);
     print_misses(&f, h.slots);
@@ -209,7 +213,7 @@ int run_stat(const struct options *o)
     int status = copy_accepted(&copy, o, &key_size);
 
     if (status == DONE)
-        status = print_figures(&copy);
+        status = print_figures(&copy, o->word[0]);
     buffer_free(&copy);
     return status;
 }

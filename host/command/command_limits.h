@@ -16,9 +16,10 @@
 #define WAIT_USUAL 10u
 #define WAIT_MAX 86400u
 
-/* Points that an import reads, and then stores in one go. */
-#define BATCH_POINTS 256u
-#define BATCH_BYTES (1u << 20)
+/* No input of points is longer, in bytes, and how much of one is read in one
+ * go. */
+#define INPUT_MOST ((size_t)1 << 31)
+#define INPUT_PART ((size_t)4096)
 
 /* Bytes in the longest record of a CSV file, which may say a text twice, and
  * the fields of one that are kept. */
@@ -35,5 +36,9 @@
  * its longest line: a name and a text of which each byte is escaped. */
 #define DUMP_VERSION 1u
 #define DUMP_LINE_MAX (4u * (BHTF_MESSAGE_MAX + BHTF_KEY_MAX) + 64u)
+
+/* Bytes of a file of another program, and of deltas, that are read at once. */
+#define FOREIGN_MOST (1u << 28)
+#define APPLY_MOST (1u << 31)
 
 #endif

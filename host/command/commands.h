@@ -35,6 +35,15 @@
 #define OPTION_DELTA OPTION(21)
 #define OPTION_NO_SYNC OPTION(22)
 #define OPTION_KEEP_GOING OPTION(23)
+#define OPTION_UPDATE OPTION(24)
+#define OPTION_ENCODING OPTION(25)
+#define OPTION_DROP OPTION(26)
+#define OPTION_ALLOW_FAR OPTION(27)
+#define OPTION_ALLOW_NEAR OPTION(28)
+#define OPTION_ALLOW_SWAPPED OPTION(29)
+#define OPTION_LOG OPTION(30)
+#define OPTION_ALLOWED (OPTION_ALLOW_FAR | OPTION_ALLOW_NEAR | \
+                        OPTION_ALLOW_SWAPPED)
 #define OPTION_AGAINST OPTION(32)
 #define OPTION_PAPER OPTION(33)
 #define OPTION_STATION OPTION(34)
@@ -46,6 +55,10 @@
 #define OPTION_GSI OPTION(40)
 #define OPTION_LANDXML OPTION(41)
 #define OPTION_DXF OPTION(42)
+#define OPTION_TOLERANCE OPTION(50)
+#define OPTION_FINISH OPTION(56)
+#define OPTION_SET_ASIDE OPTION(57)
+#define OPTION_SPREADSHEET OPTION(58)
 
 /* In place of the largest number of words: as many as there are. */
 enum { ANY_NUMBER = -1 };
@@ -72,8 +85,11 @@ struct options {
     const char *station;
     const char *sigma;
     const char *by;
+    const char *tolerance;
     const char *format;
     const char *delta;
+    const char *encoding;
+    const char *drop;
     int quiet;
     int help;
     int version;
@@ -103,6 +119,8 @@ int options_read(struct options *o, const struct command *command, int count,
 /* Each answers an enum status. */
 int run_create(const struct options *o);
 int run_add(const struct options *o);
+int run_set(const struct options *o);
+int run_rename(const struct options *o);
 int run_withdraw(const struct options *o);
 int run_delete(const struct options *o);
 int run_get(const struct options *o);
@@ -112,16 +130,23 @@ int run_check(const struct options *o);
 int run_compact(const struct options *o);
 int run_book(const struct options *o);
 int run_stat(const struct options *o);
+int run_batch(const struct options *o);
+int run_log(const struct options *o);
 int run_import(const struct options *o);
 int run_export(const struct options *o);
 int run_dump(const struct options *o);
 int run_load(const struct options *o);
 int run_delta(const struct options *o);
 int run_apply(const struct options *o);
+int run_recover(const struct options *o);
 int run_diff(const struct options *o);
 int run_plot(const struct options *o);
 int run_figure(const struct options *o);
 int run_scramble(const struct options *o);
+int run_take_out(const struct options *o);
+int run_sum(const struct options *o);
+int run_copy(const struct options *o);
+int run_show(const struct options *o);
 
 /* ---- shared by them ---- */
 
@@ -140,10 +165,14 @@ int say_unsound(FILE *to, const struct buffer *copy, int quiet);
 /* With --slots: how many slots the search for a point read. */
 void say_slots(const struct options *o, const char *name, uint32_t slots_read);
 
-/* A key from a typed name, padded with zero bytes to the key size. A longer
- * name stays longer, and the library refuses it. 0, or -1 for no memory. */
+/* A key from a typed name without the blanks at its ends, padded with zero
+ * bytes to the key size. A longer name stays longer, and the library refuses
+ * it. 0, or -1 for no memory. */
 int key_from(struct buffer *key, const uint8_t *typed, size_t length,
              uint32_t key_size);
+
+/* What can be done about a refusal: words in brackets, or none. */
+const char *advice_for(uint32_t number);
 
 /* How the command line wants its file opened to be changed. */
 struct manner to_change(const struct options *o);

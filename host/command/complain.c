@@ -57,10 +57,18 @@ int out_of_memory(void)
     return TROUBLE;
 }
 
+static int stored;
+
+void tell_stored(void)
+{
+    stored = 1;
+}
+
 int finish_output(int status)
 {
     if (fflush(stdout) == 0 && !ferror(stdout))
         return status;
-    complain("cannot write to standard output: %s", strerror(errno));
+    complain("cannot write to standard output: %s%s", strerror(errno),
+             stored ? "; the change is stored" : "");
     return TROUBLE;
 }

@@ -6,7 +6,8 @@
 enum status {
     DONE = 0,     /* all went well */
     REFUSED = 1,  /* the library refused, no such point, or unsound */
-    TROUBLE = 2   /* wrong usage, or the system failed */
+    TROUBLE = 2,  /* wrong usage, or the system failed */
+    PARTIAL = 3   /* done, but something was left out or cut, as was said */
 };
 
 /* "bhtf: " and a line to standard error; what does not print is escaped. */
@@ -17,5 +18,8 @@ int out_of_memory(void);
 
 /* Flushes standard output: `status`, or TROUBLE if it could not be written. */
 int finish_output(int status);
+
+/* From now on a failure of standard output says that the change is stored. */
+void tell_stored(void);
 
 #endif

@@ -27,16 +27,33 @@ int coordinate_read(struct piece p, double *number)
     return 0;
 }
 
-static int is_placed(struct spot *s, struct record *r)
+/* Blanks around a field do not count: one of blanks is empty. */
+static int is_empty(struct piece field)
+{
+    return piece_trim(field).length == 0;
+}
+
+/* SPOT_PLACED, SPOT_LEVEL, or SPOT_OTHER. */
+static enum spot_kind take_coordinates(struct spot *s, struct record *r)
 {
     struct piece fields[POINT_FIELDS];
 
-    if (!point_take(r, s->text, fields) ||
-        coordinate_read(fields[EASTING], &s->at.east) != 0 ||
-        coordinate_read(fields[NORTHING], &s->at.north) != 0)
-        return 0;
-    s->has_height = fields[HEIGHT].length > 0;
-    return !s->has_height || coordinate_read(fields[HEIGHT], &s->height) == 0;
+    if (!point_take(r, s->text, fields))
+        return SPOT_OTHER;
+    s->has_height = !is_empty(fields[HEIGHT]);
+    if (s->has_height && coordinate_read(fields[HEIGHT], &s->height) != 0)
+        return SPOT_OTHER;
+    if (s->has_height && is_empty(fields[EASTING]) &&
+        is_empty(fields[NORTHING]))
+        return SPOT_LEVEL;
+    return coordinate_read(fields[EASTING], &s->at.east) == 0 &&
+           coordinate_read(fields[NORTHING], &s->at.north) == 0
+        ? SPOT_PLACED : SPOT_OTHER;
+}
+
+int has_coordinates(const struct spot *s)
+{
+    return s->kind == SPOT_PLACED || s->kind == SPOT_LEVEL;
 }
 
 static void read_name(struct spot *s, const uint8_t *key, uint32_t key_size)
@@ -61,7 +78,7 @@ static void read_text(struct spot *s, struct record *r,
     else if (length == 0)
         s->kind = offset == 0 ? SPOT_BARE : SPOT_EMPTY;
     else
-        s->kind = is_placed(s, r) ? SPOT_PLACED : SPOT_OTHER;
+        s->kind = take_coordinates(s, r);
 }
 
 int spot_show(struct buffer *shown, const struct spot *s)
@@ -131,9 +148,31 @@ int site_open_names(struct site *s, const char *file, unsigned wait)
     return open_file(s, file, wait);
 }
 
+int site_of_image(struct site *s, const uint8_t *image, size_t length)
+{
+    memset(s, 0, sizeof *s);
+    s->borrowed = 1;
+    s->copy.bytes = (uint8_t *)image; /* is only read */
+    s->copy.length = length;
+    ask_header(s->copy.bytes, s->copy.length, &s->key_size);
+    return read_spots(s);
+}
+
+int site_of(struct site *s, const uint8_t *image, size_t length)
+{
+    memset(s, 0, sizeof *s);
+    if (buffer_put(&s->copy, image, length) != 0)
+        return out_of_memory();
+    if (ask_header(s->copy.bytes, s->copy.length,
+                   &s->key_size) != BHTF_ACCEPTED)
+        return DONE;
+    return read_spots(s);
+}
+
 void site_close(struct site *s)
 {
-    buffer_free(&s->copy);
+    if (!s->borrowed)
+        buffer_free(&s->copy);
     free(s->spots);
     s->spots = NULL;
     s->count = 0;
@@ -202,8 +241,10 @@ struct move spot_move(const struct spot *old, const struct spot *now)
 {
     struct move m = { 0, 0, 0, 0, 0 };
 
-    m.east = (now->at.east - old->at.east) * 1000;
-    m.north = (now->at.north - old->at.north) * 1000;
+    if (old->kind == SPOT_PLACED && now->kind == SPOT_PLACED) {
+        m.east = (now->at.east - old->at.east) * 1000;
+        m.north = (now->at.north - old->at.north) * 1000;
+    }
     if (old->has_height && now->has_height)
         m.height = (now->height - old->height) * 1000;
     m.plane = hypot(m.east, m.north);
@@ -220,11 +261,16 @@ static void say_kind(const char *file, size_t count, const char *why)
                  count == 1 ? "point" : "points", why);
 }
 
-int site_say_left_out(const struct site *s, const char *file)
+int site_say_left_out(const struct site *s, const char *file,
+                      const char *level)
 {
     say_kind(file, s->kinds[SPOT_BARE], "no text");
     say_kind(file, s->kinds[SPOT_EMPTY], "the text is empty");
     say_kind(file, s->kinds[SPOT_OTHER], "the text is not coordinates");
     say_kind(file, s->kinds[SPOT_DAMAGED], "damaged");
-    return s->kinds[SPOT_DAMAGED] > 0 ? REFUSED : DONE;
+    if (level != NULL)
+        say_kind(file, s->kinds[SPOT_LEVEL], level);
+    if (s->kinds[SPOT_DAMAGED] > 0)
+        return REFUSED;
+    return level != NULL && s->kinds[SPOT_LEVEL] > 0 ? PARTIAL : DONE;
 }

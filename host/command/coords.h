@@ -13,6 +13,7 @@ struct at {
 /* What a point's text is. */
 enum spot_kind {
     SPOT_PLACED,  /* easting, northing, height, note; the height may be empty */
+    SPOT_LEVEL,   /* the same with a height alone: a levelled point */
     SPOT_BARE,    /* no text */
     SPOT_EMPTY,   /* an empty one */
     SPOT_OTHER,   /* another text, or one whose fields are not numbers */
@@ -39,10 +40,11 @@ struct site {
     size_t count;
     size_t kinds[SPOT_KINDS]; /* how many of each */
     int names_only;
+    int borrowed;           /* the copy's bytes are somebody else's */
 };
 
 /* No coordinate is farther from zero, in metres: a double then still tells
- * a ten-thousandth of a millimetre apart. */
+ * a five-thousandth of a millimetre apart. */
 #define COORDINATE_MOST 1e9
 
 /* A plain decimal number, blanks around it passed over: 0, or -1 if it is none
@@ -55,7 +57,17 @@ int site_open(struct site *s, const char *file, unsigned wait);
 /* The same without their texts, which need not be searched then. */
 int site_open_names(struct site *s, const char *file, unsigned wait);
 
+/* All points of an accepted image, which stays its owner's and must outlive the
+ * site: DONE, or TROUBLE after a complaint. */
+int site_of_image(struct site *s, const uint8_t *image, size_t length);
+
+/* All points of an image, which is copied; none if it is refused. */
+int site_of(struct site *s, const uint8_t *image, size_t length);
+
 void site_close(struct site *s);
+
+/* Does the text have coordinates, or a height alone? */
+int has_coordinates(const struct spot *s);
 
 /* Puts the points in the order of their names' bytes. */
 void site_sort(struct site *s);
@@ -82,21 +94,24 @@ int merge_next(struct merge *m, const struct spot **old,
 
 /* From one place to another, in millimetres. */
 struct move {
-    double east;
+    double east;     /* 0 unless both have a place */
     double north;
     double height;   /* 0 unless both have one */
     double plane;    /* over the ground */
     double all;      /* with the height */
 };
 
-/* Both are placed. */
+/* Both have coordinates. */
 struct move spot_move(const struct spot *old, const struct spot *now);
 
 /* A move of less is none: it is what is left of the numbers' rounding. */
 #define MOVE_LEAST 0.001
 
-/* Says how many points were left out, and why; REFUSED if one is damaged. */
-int site_say_left_out(const struct site *s, const char *file);
+/* Says how many points were left out for want of coordinates, and why; also
+ * how many have a height alone if `level` says why these are left out. REFUSED
+ * if one is damaged, else PARTIAL if one has a height and is left out. */
+int site_say_left_out(const struct site *s, const char *file,
+                      const char *level);
 
 /* A point's name as it is shown, ended by a zero byte: 0, or -1 for no
  * memory. */

@@ -198,6 +198,23 @@ static enum csv_answer read_quoted(struct csv *c, struct record *r)
     return answer;
 }
 
+/* Blanks as a delimiter stand in any number, also in front of a line and at
+ * its end. */
+static void skip_blanks(struct csv *c)
+{
+    while (c->delimiter == ' ' && (peek(c) == ' ' || peek(c) == '\t'))
+        next(c);
+}
+
+/* Does the line end after the delimiter that was read? */
+static int ends_here(struct csv *c)
+{
+    int byte = peek(c);
+
+    return c->delimiter == ' ' &&
+           (byte == '\n' || byte == '\r' || byte == EOF);
+}
+
 /* Reads one field and what ends it; *more says whether it was a delimiter. */
 static enum csv_answer read_field(struct csv *c, struct record *r, int *more)
 {
@@ -207,9 +224,12 @@ static enum csv_answer read_field(struct csv *c, struct record *r, int *more)
     while (answer == CSV_RECORD) {
         int byte = next(c);
 
-        *more = byte == c->delimiter;
+        *more = byte == c->delimiter ||
+                (byte == '\t' && c->delimiter == ' ');
         if (*more || byte == EOF || at_line_end(c, byte)) {
             end_field(r);
+            skip_blanks(c);
+            *more = *more && !ends_here(c);
             return CSV_RECORD;
         }
         answer = quoted ? CSV_LATE_TEXT : put(r, byte);
@@ -220,10 +240,13 @@ static enum csv_answer read_field(struct csv *c, struct record *r, int *more)
 /* Passes over lines without a character; 0 at the end of all. */
 static int find_record(struct csv *c)
 {
-    int byte = peek(c);
+    int byte;
 
+    skip_blanks(c);
+    byte = peek(c);
     while (byte == '\n' || byte == '\r') {
         next(c);
+        skip_blanks(c);
         byte = peek(c);
     }
     return byte != EOF;
@@ -266,7 +289,7 @@ const char *csv_words(enum csv_answer answer)
         return "the record is longer than any point's text may be";
     case CSV_WIDE:
         return "this is UTF-16 or no text; save it as UTF-8 (spreadsheets "
-               "call it CSV UTF-8)";
+               "call it CSV UTF-8), or say --encoding utf-16";
     case CSV_NO_MEMORY:
         return "not enough memory";
     default:
@@ -286,18 +309,33 @@ struct piece record_field(const struct record *r, size_t field)
     return p;
 }
 
-static int is_blank(uint8_t byte)
+/* The bytes of a blank, a tab or a no-break space at the beginning, or at the
+ * end; 0 if there is none. */
+static size_t blank_first(struct piece p)
 {
-    return byte == ' ' || byte == '\t';
+    if (p.length >= 2 && p.bytes[0] == 0xC2 && p.bytes[1] == 0xA0)
+        return 2;
+    return p.length >= 1 && (p.bytes[0] == ' ' || p.bytes[0] == '\t');
+}
+
+static size_t blank_last(struct piece p)
+{
+    const uint8_t *end = p.bytes + p.length;
+
+    if (p.length >= 2 && end[-2] == 0xC2 && end[-1] == 0xA0)
+        return 2;
+    return p.length >= 1 && (end[-1] == ' ' || end[-1] == '\t');
 }
 
 struct piece piece_trim(struct piece p)
 {
-    while (p.length > 0 && is_blank(p.bytes[p.length - 1]))
-        p.length--;
-    while (p.length > 0 && is_blank(p.bytes[0])) {
-        p.bytes++;
-        p.length--;
+    size_t blank;
+
+    while ((blank = blank_last(p)) > 0)
+        p.length -= blank;
+    while ((blank = blank_first(p)) > 0) {
+        p.bytes += blank;
+        p.length -= blank;
     }
     return p;
 }

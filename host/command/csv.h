@@ -69,7 +69,7 @@ const char *csv_words(enum csv_answer answer);
 /* A field of the record, by its number below FIELDS_MAX. */
 struct piece record_field(const struct record *r, size_t field);
 
-/* Without the blanks and tabs at both ends. */
+/* Without the blanks, tabs and no-break spaces at both ends. */
 struct piece piece_trim(struct piece p);
 
 int same_piece(struct piece a, struct piece b);

@@ -4,6 +4,7 @@
 #include "complain.h"
 #include "typed.h"
 
+#include <stdio.h>
 #include <string.h>
 
 const char *const column_words[COLUMNS] = { "easting", "northing", "height",
@@ -46,25 +47,53 @@ static const struct {
     { "x", COLUMN_X }, { "y", COLUMN_Y }
 };
 
-/* Without a unit in brackets at its end. */
-static struct piece without_unit(struct piece word)
+/* Takes what stands in brackets at a word's end off it: length 0 if nothing
+ * does. */
+static struct piece take_brackets(struct piece *word)
 {
-    size_t i = word.length;
+    struct piece inside = { word->bytes, 0 };
+    size_t i = word->length;
 
-    if (i == 0 || (word.bytes[i - 1] != ']' && word.bytes[i - 1] != ')'))
-        return word;
-    while (i > 0 && word.bytes[i - 1] != '[' && word.bytes[i - 1] != '(')
+    if (i == 0 || (word->bytes[i - 1] != ']' && word->bytes[i - 1] != ')'))
+        return inside;
+    while (i > 0 && word->bytes[i - 1] != '[' && word->bytes[i - 1] != '(')
         i--;
-    word.length = i > 0 ? i - 1 : word.length;
-    return piece_trim(word);
+    if (i == 0)
+        return inside;
+    inside.bytes = word->bytes + i;
+    inside.length = word->length - i - 1;
+    word->length = i - 1;
+    *word = piece_trim(*word);
+    return piece_trim(inside);
+}
+
+static int is_metres(struct piece unit)
+{
+    static const char *const words[] = { "m", "metre", "metres", "meter",
+                                         "meters", "m.", "metern" };
+
+    for (size_t i = 0; i < sizeof words / sizeof words[0]; i++)
+        if (same_word(unit.bytes, unit.length, words[i]))
+            return 1;
+    return unit.length == 0;
+}
+
+static int is_length(int column)
+{
+    return column == EASTING || column == NORTHING || column == HEIGHT ||
+           column == COLUMN_X || column == COLUMN_Y;
 }
 
 int column_of(struct piece word)
 {
-    word = without_unit(piece_trim(word));
+    struct piece unit;
+
+    word = piece_trim(word);
+    unit = take_brackets(&word);
     for (size_t i = 0; i < sizeof synonyms / sizeof synonyms[0]; i++)
         if (same_word(word.bytes, word.length, synonyms[i].word))
-            return synonyms[i].column;
+            return is_length(synonyms[i].column) && !is_metres(unit)
+                ? COLUMN_OTHER_UNIT : synonyms[i].column;
     return COLUMN_UNKNOWN;
 }
 
@@ -75,26 +104,6 @@ struct row {
     int column[FIELDS_MAX];
     size_t fields;
 };
-
-/* y in front of x are easting and northing, as surveyors write them; x in
- * front of y may be either, and stays what it is. */
-static void settle_axes(struct row *row)
-{
-    int y_seen = 0;
-
-    for (size_t i = 0; i < row->fields; i++) {
-        if (row->column[i] == COLUMN_Y)
-            y_seen = 1;
-        if (row->column[i] == COLUMN_X && !y_seen)
-            return;
-    }
-    for (size_t i = 0; i < row->fields; i++) {
-        if (row->column[i] == COLUMN_Y)
-            row->column[i] = EASTING;
-        if (row->column[i] == COLUMN_X)
-            row->column[i] = NORTHING;
-    }
-}
 
 static int has(const struct row *row, int column)
 {
@@ -114,8 +123,12 @@ static const char *place_columns(struct columns *c, const struct row *row)
 
         if (column >= COLUMNS)
             continue;
-        if (c->at[column] >= 0)
-            return "a column stands there twice";
+        if (c->at[column] >= 0) {
+            snprintf(c->wrong, sizeof c->wrong, "a column stands there twice: "
+                     "%s, as number %d and number %d", column_words[column],
+                     c->at[column] + 1, (int)i + 1);
+            return c->wrong;
+        }
         c->at[column] = (int)i;
     }
     if (c->at[COLUMN_NAME] < 0)
@@ -173,9 +186,12 @@ int columns_from_option(struct columns *c, const char *value)
     struct row row;
 
     if (row_from_letters(&row, value) || row_from_words(&row, value)) {
-        settle_axes(&row);
-        wrong = has(&row, COLUMN_X) ? "x may be easting or northing"
-                                    : place_columns(c, &row);
+        if (has(&row, COLUMN_X) || has(&row, COLUMN_Y))
+            wrong = "x and y may each be easting or northing";
+        else if (has(&row, COLUMN_OTHER_UNIT))
+            wrong = "lengths are in metres";
+        else
+            wrong = place_columns(c, &row);
     }
     if (wrong == NULL)
         return DONE;
@@ -214,20 +230,34 @@ static int complain_of_heading(const char *place, const char *wrong)
     return TROUBLE;
 }
 
-/* The first word that is not known. */
-static int complain_of_word(const char *place, const struct record *r,
-                            const struct row *row)
+/* The first word that is this. */
+static struct piece word_of(const struct record *r, const struct row *row,
+                            int column)
 {
     struct piece word;
     size_t i = 0;
 
-    while (row->column[i] != COLUMN_UNKNOWN)
+    while (row->column[i] != column)
         i++;
     word = piece_trim(record_field(r, i));
+    word.length = word.length > 60 ? 60 : word.length;
+    return word;
+}
+
+static int complain_of_word(const char *place, struct piece word)
+{
     complain("%s: the heading: %.*s is not known; --columns names the columns, "
-             "with - for one to pass over", place,
-             (int)(word.length > 60 ? 60 : word.length),
+             "with - for one to pass over", place, (int)word.length,
              (const char *)word.bytes);
+    return TROUBLE;
+}
+
+/* Numbers of another unit would be taken for metres. */
+static int complain_of_unit(const char *place, struct piece word)
+{
+    complain("%s: the heading: %.*s is not in metres, or not a coordinate; a "
+             "unit in brackets is m. Lengths are stored in metres, as they "
+             "stand", place, (int)word.length, (const char *)word.bytes);
     return TROUBLE;
 }
 
@@ -243,13 +273,9 @@ static int agrees(const struct columns *c, const struct row *row)
     return 1;
 }
 
-/* The columns of --columns, with a heading above them. An x or y, a word that
- * is unknown, and a column that is to be passed over say nothing. */
-static int compare(const struct columns *c, struct row *row, const char *place)
+/* What --columns passes over says nothing. */
+static void pass_unwanted(const struct columns *c, struct row *row)
 {
-    if (row->fields != c->fields)
-        return complain_of_heading(place, "it has another number of columns "
-                                          "than --columns");
     for (size_t i = 0; i < row->fields; i++) {
         int wanted = 0;
 
@@ -258,6 +284,16 @@ static int compare(const struct columns *c, struct row *row, const char *place)
         if (!wanted)
             row->column[i] = COLUMN_SKIPPED;
     }
+}
+
+/* The columns of --columns, with a heading above them. An x or y, a word that
+ * is unknown, and a column that is to be passed over say nothing. */
+static int compare(const struct columns *c, const struct row *row,
+                   const char *place)
+{
+    if (row->fields != c->fields)
+        return complain_of_heading(place, "it has another number of columns "
+                                          "than --columns");
     if (agrees(c, row))
         return DONE;
     return complain_of_heading(place, "it contradicts --columns");
@@ -273,14 +309,17 @@ int columns_from_heading(struct columns *c, const struct record *r,
     for (size_t i = 0; i < row.fields; i++)
         row.column[i] = column_of(record_field(r, i));
     if (c->fields != 0)
+        pass_unwanted(c, &row);
+    if (has(&row, COLUMN_OTHER_UNIT))
+        return complain_of_unit(place, word_of(r, &row, COLUMN_OTHER_UNIT));
+    if (c->fields != 0)
         return compare(c, &row, place);
-    settle_axes(&row);
     if (r->fields > FIELDS_MAX)
         wrong = "there are too many columns";
-    else if (has(&row, COLUMN_X))
-        wrong = "x in front of y is easting to some and northing to others";
+    else if (has(&row, COLUMN_X) || has(&row, COLUMN_Y))
+        wrong = "x and y are each easting to some and northing to others";
     else if (has(&row, COLUMN_UNKNOWN))
-        return complain_of_word(place, r, &row);
+        return complain_of_word(place, word_of(r, &row, COLUMN_UNKNOWN));
     else
         wrong = place_columns(c, &row);
     return wrong == NULL ? DONE : complain_of_heading(place, wrong);

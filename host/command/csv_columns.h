@@ -11,20 +11,22 @@ enum {
     COLUMN_EMPTY,   /* yes: the text is empty, which is not none */
     COLUMNS,
     COLUMN_SKIPPED = COLUMNS, /* a field that is not wanted */
-    COLUMN_X,       /* easting or northing: only their order tells */
+    COLUMN_X,       /* easting or northing: nobody can tell */
     COLUMN_Y,
+    COLUMN_OTHER_UNIT, /* a coordinate, and in brackets something else than m */
     COLUMN_UNKNOWN
 };
 
 struct columns {
     int at[COLUMNS]; /* the field that holds it; -1: there is none */
     size_t fields;   /* in each record; 0: not known yet */
+    char wrong[96];  /* words, where the columns are wrong */
 };
 
 extern const char *const column_words[COLUMNS];
 
-/* What the word says, in capitals or not, with blanks and a unit in brackets
- * or without. */
+/* What the word says, in capitals or not, with blanks around it or without,
+ * and with its unit in brackets, which is metres. */
 int column_of(struct piece word);
 
 /* From the value of --columns: DONE, or TROUBLE after a complaint. */

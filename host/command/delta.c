@@ -209,11 +209,28 @@ int delta_put(struct buffer *to, const struct state *before,
     return buffer_put(to, sum, SHA256_SIZE);
 }
 
+uint64_t delta_longest(uint64_t length)
+{
+    return (uint64_t)LEAST + 2 * PAIR + length;
+}
+
 size_t delta_size(const uint8_t *head)
 {
     uint32_t size = read_u32(head + SIZE_AT);
+    uint32_t length = read_u32(head + LENGTH_AT);
 
-    return memcmp(head, magic, sizeof magic) == 0 && size >= LEAST ? size : 0;
+    return memcmp(head, magic, sizeof magic) == 0 && size >= LEAST &&
+           length <= BHTF_IMAGE_MAX && size <= delta_longest(length) ? size : 0;
+}
+
+const uint8_t *delta_before(const uint8_t *head)
+{
+    return head + BEFORE_AT;
+}
+
+uint32_t delta_length(const uint8_t *head)
+{
+    return read_u32(head + LENGTH_AT);
 }
 
 /* Up to the check sum. */
@@ -225,9 +242,16 @@ static enum delta_answer read_head(const uint8_t *bytes, size_t left)
         return DELTA_CUT;
     if (memcmp(bytes, magic, sizeof magic) != 0)
         return DELTA_VERSION;
-    if (left < LEAST || read_u32(bytes + SIZE_AT) > left)
+    if (left < DELTA_HEAD)
         return DELTA_CUT;
-    return delta_size(bytes) == 0 ? DELTA_DAMAGED : DELTA_RECORD;
+    if (delta_size(bytes) == 0)
+        return DELTA_DAMAGED;
+    return delta_size(bytes) > left ? DELTA_CUT : DELTA_RECORD;
+}
+
+enum delta_answer delta_begins(const uint8_t *bytes, size_t left)
+{
+    return read_head(bytes, left);
 }
 
 enum delta_answer delta_read(struct delta *d, const uint8_t *bytes, size_t left)

@@ -43,10 +43,22 @@ int delta_put(struct buffer *to, const struct state *before,
 enum delta_answer delta_read(struct delta *d, const uint8_t *bytes,
                              size_t left);
 
-/* The bytes of a record of which the first DELTA_HEAD are here; 0 if no record
- * begins so. For a walk from record to record. */
-#define DELTA_HEAD 12u
+/* A record's head, up to its content. The bytes of a record whose head is here;
+ * 0 if no record begins so: one is never much longer than an image, and images
+ * have at most 1 GiB. For a walk from record to record, or one that comes. */
+#define DELTA_HEAD 80u
 size_t delta_size(const uint8_t *head);
+
+/* In such a head: the check sum before, and the length of the images. */
+const uint8_t *delta_before(const uint8_t *head);
+uint32_t delta_length(const uint8_t *head);
+
+/* No record of images of that length is longer: see content_put. */
+uint64_t delta_longest(uint64_t length);
+
+/* What stands where a record should begin, of which only `left` bytes are
+ * there. */
+enum delta_answer delta_begins(const uint8_t *bytes, size_t left);
 
 /* What is wrong, in words. */
 const char *delta_words(enum delta_answer answer);

@@ -10,7 +10,8 @@
 struct delta_append {
     const char *path;     /* NULL: nothing is appended */
     FILE *file;           /* to be read; its descriptor appends */
-    int created;          /* its name is new in its directory */
+    int created;          /* its name is new in its directory, */
+    int nameless;         /* or it has none yet */
     off_t end;            /* its length before */
     struct buffer copy;   /* the image before the change */
     struct state before;  /* of that copy */

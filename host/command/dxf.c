@@ -26,27 +26,48 @@ static void put_place(double east, double north, double height)
     put_number(30, height);
 }
 
-/* What is not ASCII is written as \U+XXXX, and as ? above four digits. */
-static void put_text(int code, const char *text)
+/* Is this one of two percent signs? Together they begin a code. */
+static int is_percent(struct piece name, size_t at)
 {
-    size_t length = strlen(text);
+    return name.bytes[at] == '%' &&
+           ((at > 0 && name.bytes[at - 1] == '%') ||
+            (at + 1 < name.length && name.bytes[at + 1] == '%'));
+}
+
+/* A character of the text: code page 1252 up to 255, \U+XXXX above it and for
+ * the backslash, "^ " for the caret, %%% for a percent sign beside another;
+ * else a question mark. Answers 1 for that. */
+static int put_character(struct piece name, size_t at, uint32_t c)
+{
+    if (c == '^')
+        fputs("^ ", stdout);
+    else if (c == '%' && is_percent(name, at))
+        fputs("%%%", stdout);
+    else if ((c > 0xFF && c <= 0xFFFF) || c == '\\')
+        printf("\\U+%04lX", (unsigned long)c);
+    else if ((c >= 32 && c < 127) || (c >= 0xA0 && c <= 0xFF))
+        putchar((int)c);
+    else
+        putchar('?');
+    return c < 32 || (c >= 127 && c < 0xA0) || c > 0xFFFF;
+}
+
+/* Answers whether it has a character that DXF cannot hold. */
+static int put_name(int code, struct piece name)
+{
+    size_t used;
+    int lost = 0;
 
     printf("%3d\r\n", code);
-    while (length > 0) {
+    for (size_t at = 0; at < name.length; at += used) {
         uint32_t c = 0;
-        size_t used = utf8_read((const uint8_t *)text, length, &c);
 
-        if (used == 1)
-            putchar(*text);
-        else if (used > 1 && c <= 0xFFFF)
-            printf("\\U+%04lX", (unsigned long)c);
-        else
-            putchar('?');
+        used = utf8_read(name.bytes + at, name.length - at, &c);
+        lost |= put_character(name, at, used > 0 ? c : 127);
         used = used > 0 ? used : 1;
-        text += used;
-        length -= used;
     }
     fputs("\r\n", stdout);
+    return lost;
 }
 
 static void put_layer(const char *name, const char *colour)
@@ -58,16 +79,27 @@ static void put_layer(const char *name, const char *colour)
     put_word(6, "CONTINUOUS");
 }
 
-static void put_head(const struct bounds *b)
+/* What is drawn: in the plane, and in height. */
+struct extent {
+    struct bounds plane;
+    double least;
+    double most;
+};
+
+static void put_head(const struct extent *e)
 {
+    const struct bounds *b = &e->plane;
+
     put_word(0, "SECTION");
     put_word(2, "HEADER");
     put_word(9, "$ACADVER");
     put_word(1, "AC1009");
+    put_word(9, "$DWGCODEPAGE");
+    put_word(3, "ANSI_1252");
     put_word(9, "$EXTMIN");
-    put_place(b->least.east, b->least.north, 0);
+    put_place(b->least.east, b->least.north, e->least);
     put_word(9, "$EXTMAX");
-    put_place(b->most.east, b->most.north, 0);
+    put_place(b->most.east, b->most.north, e->most);
     put_word(9, "$PDMODE");
     put_word(70, "34");
     put_word(0, "ENDSEC");
@@ -82,12 +114,18 @@ static void put_head(const struct bounds *b)
     put_word(0, "ENDSEC");
 }
 
-static int put_spot(const struct spot *s, struct buffer *name, double size)
+/* Where it is drawn; a point without a height at 0. */
+static double height_of(const struct spot *s)
 {
-    double height = s->has_height ? s->height : 0;
+    return s->has_height ? s->height : 0;
+}
 
-    if (spot_show(name, s) != 0)
-        return out_of_memory();
+/* Answers whether its name has a character that DXF cannot hold. */
+static int put_spot(const struct spot *s, double size)
+{
+    const struct piece name = { s->name, s->name_length };
+    double height = height_of(s);
+
     put_word(0, "POINT");
     put_word(8, "POINTS");
     put_place(s->at.east, s->at.north, height);
@@ -95,8 +133,7 @@ static int put_spot(const struct spot *s, struct buffer *name, double size)
     put_word(8, "NAMES");
     put_place(s->at.east + size / 2, s->at.north + size / 2, height);
     put_number(40, size);
-    put_text(1, (const char *)name->bytes);
-    return DONE;
+    return put_name(1, name);
 }
 
 /* Letters of about a two-hundredth of the site, at least 5 cm. */
@@ -108,37 +145,49 @@ static double letter_size(const struct bounds *b)
     return round_up(fmax(wide / 200, 0.05));
 }
 
-static struct bounds bounds_of(const struct site *s)
+static void extent_put(struct extent *e, const struct spot *s)
 {
-    struct bounds b;
+    double height = height_of(s);
 
-    memset(&b, 0, sizeof b);
+    if (!e->plane.any)
+        e->least = e->most = height;
+    e->least = fmin(e->least, height);
+    e->most = fmax(e->most, height);
+    bounds_put(&e->plane, &s->at);
+}
+
+static struct extent extent_of(const struct site *s)
+{
+    struct extent e;
+
+    memset(&e, 0, sizeof e);
     for (size_t i = 0; i < s->count; i++)
         if (s->spots[i].kind == SPOT_PLACED)
-            bounds_put(&b, &s->spots[i].at);
-    return b;
+            extent_put(&e, &s->spots[i]);
+    return e;
 }
 
 int dxf_write(const struct site *s, const struct options *o)
 {
-    struct bounds bounds = bounds_of(s);
-    struct buffer name = { NULL, 0, 0 };
-    size_t flat = 0;
-    int status = DONE;
+    struct extent extent = extent_of(s);
+    double size = letter_size(&extent.plane);
+    size_t flat = 0, changed = 0;
 
-    put_head(&bounds);
+    put_head(&extent);
     put_word(0, "SECTION");
     put_word(2, "ENTITIES");
-    for (size_t i = 0; i < s->count && status == DONE; i++) {
+    for (size_t i = 0; i < s->count; i++) {
         if (s->spots[i].kind != SPOT_PLACED)
             continue;
         flat += !s->spots[i].has_height;
-        status = put_spot(&s->spots[i], &name, letter_size(&bounds));
+        changed += (size_t)put_spot(&s->spots[i], size);
     }
     put_word(0, "ENDSEC");
     put_word(0, "EOF");
-    buffer_free(&name);
     if (!o->quiet)
-        say_loss(o->word[0], flat, "point", "without a height put at height 0");
-    return status;
+        say_loss(o->word[0], flat, "point", "without a height put at height "
+                                            "0");
+    say_loss(o->word[0], changed, "name", "with characters that DXF cannot "
+                                          "hold, put as ?");
+    return changed > 0 ? PARTIAL : DONE;
 }

@@ -18,11 +18,18 @@ struct resection {
     struct at *points;
     struct ray *rays;
     size_t count;
+    uint8_t *taken;    /* of each point of the site: is it one of these? */
     struct figure figure;
 };
 
+/* No figure has more directions. */
+#define DIRECTIONS_MOST 1000
+
 /* Millimetres of an axis at the given accuracy of a direction. */
 double axis_mm(const struct resection *r, double axis);
+
+/* An axis's bearing in gon, as it is printed with so many decimals. */
+double axis_gon(double bearing, int decimals);
 
 /* Could the figure be measured? Not with too few points, or from on one. */
 int is_measured(const struct resection *r);
@@ -37,7 +44,7 @@ struct said {
     int measured;      /* needs a figure that could be measured */
 };
 
-enum { LINES = 6 };
+enum { LINES = 7 };
 
 extern const struct said lines[LINES];
 extern const char caution[];

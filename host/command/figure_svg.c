@@ -24,7 +24,7 @@ static void lay_sheet(struct sheet *s, const struct resection *r)
     s->left = 12;
     s->top = 22;
     s->right = s->width - 8;
-    s->bottom = s->height - 54;
+    s->bottom = s->height - 58;
     sheet_fit(s, &b, 18);
 }
 
@@ -41,18 +41,28 @@ static void draw_rays(const struct sheet *s, const struct resection *r)
 /* Circles that are far larger than the map are left to the numbers: browsers
  * draw them badly. Of more than three points, the nearest always passes
  * through the station: it is shown where it explains a weakness. */
-static void draw_circle(const struct sheet *s, const struct resection *r)
+static int lay_circle(struct ring *ring, const struct sheet *s,
+                      const struct resection *r)
 {
     const struct circle *c = &r->figure.circle;
-    double radius = c->radius * 1000 / s->scale;
 
-    if (!is_measured(r) || !r->figure.has_circle || radius > 20000 ||
-        (r->count > 3 && r->figure.verdict == GOOD))
+    ring->x = sheet_x(s, c->centre.east);
+    ring->y = sheet_y(s, c->centre.north);
+    ring->radius = c->radius * 1000 / s->scale;
+    return is_measured(r) && r->figure.has_circle && ring->radius <= 20000 &&
+           (r->count <= 3 || r->figure.verdict != GOOD);
+}
+
+static void draw_circle(const struct sheet *s, const struct resection *r)
+{
+    struct ring ring;
+
+    if (!lay_circle(&ring, s, r))
         return;
     printf("<circle id=\"circle\" cx=\"%.3f\" cy=\"%.3f\" r=\"%.3f\" "
            "fill=\"none\" stroke=\"#b3261e\" stroke-width=\".5\" "
            "stroke-dasharray=\"2.4 1.4\" clip-path=\"url(#map)\"/>\n",
-           sheet_x(s, c->centre.east), sheet_y(s, c->centre.north), radius);
+           ring.x, ring.y, ring.radius);
 }
 
 /* The round factor that makes the ellipse's long axis 5 to 12.5 mm; 0 if it
@@ -107,11 +117,13 @@ static void draw_names(const struct resection *r, const struct label *labels)
     fputs("</g>\n", stdout);
 }
 
-/* Names stand clear of each other and of the rays. */
+/* Names stand clear of each other, of the rays and of the circle. */
 static int lay_names(struct label *labels, const struct sheet *s,
                      const struct resection *r)
 {
     struct area area = { s->left + 1, s->top + 1, s->right - 1, s->bottom - 1 };
+    struct ring ring;
+    int circle = lay_circle(&ring, s, r);
 
     for (size_t i = 0; i < r->count; i++) {
         labels[i].x = sheet_x(s, r->points[i].east);
@@ -120,8 +132,8 @@ static int lay_names(struct label *labels, const struct sheet *s,
         labels[i].tip_y = sheet_y(s, r->station.north);
         labels[i].width = text_width(r->names[i], name_size);
     }
-    return labels_place(labels, r->count, &area, name_size, 1.7, 70) < 0 ? -1
-                                                                         : 0;
+    return labels_place(labels, r->count, &area, name_size, 1.7, 70,
+                        circle ? &ring : NULL) < 0 ? -1 : 0;
 }
 
 static void draw_legend(const struct sheet *s)
@@ -164,20 +176,23 @@ static void draw_words(const struct sheet *s, const struct resection *r)
 static void draw_title(const struct sheet *s, const struct resection *r)
 {
     static const char *const colours[] = { "#00703c", "#a05a00", "#b3261e" };
-    char line[512];
+    char line[512], file[48];
 
+    file_word(file, sizeof file, r->o->word[0]);
     say_verdict(line, sizeof line, r);
     printf("<g id=\"verdict\" font-weight=\"bold\" fill=\"%s\">\n",
            colours[r->figure.verdict]);
-    svg_text(s->left, 10, 4.6, "start", line);
+    svg_text(s->left, 10, title_size(line, 4.6, s->right - s->left - 12),
+             "start", line);
     fputs("</g>\n", stdout);
-    snprintf(line, sizeof line, "Resection at %.3f, %.3f; 1 : %.0f",
-             r->station.east, r->station.north, s->scale);
+    snprintf(line, sizeof line, "%s: resection at %.3f, %.3f; 1 : %.10g",
+             file, r->station.east, r->station.north, s->scale);
     if (is_measured(r) && ellipse_factor(s, r) > 0)
         snprintf(line + strlen(line), sizeof line - strlen(line),
-                 "; ellipse for %g mgon, drawn %g times as large", r->sigma,
+                 "; ellipse for %g mgon, drawn %.10g times as large", r->sigma,
                  ellipse_factor(s, r));
-    svg_text(s->left, 16.5, 3.6, "start", line);
+    svg_text(s->left, 16.5, title_size(line, 3.6, s->right - s->left - 12),
+             "start", line);
 }
 
 int draw_figure(const struct resection *r)

@@ -26,14 +26,15 @@ int arrive(struct arrivals *a, unsigned long line, struct piece name,
 int gsi_read(struct arrivals *a, struct piece file, int quiet);
 int landxml_read(struct arrivals *a, struct piece file, int quiet);
 
-/* The same from a stream, by the option that was given. */
-int foreign_read(struct arrivals *a, FILE *from, const struct options *o);
+/* The same from a stream, by the bit of its kind. */
+int foreign_read(struct arrivals *a, FILE *from, uint64_t kind, int quiet);
 
 /* Do import's options go together? DONE, or TROUBLE after a complaint. */
-int foreign_options(const struct options *o);
+int foreign_options(uint64_t given);
 
-/* Prints a site's placed points, and says what is not carried over: DONE, or
- * TROUBLE after a complaint. */
+/* Prints a site's points, and says what is not carried over. DONE, PARTIAL if
+ * points, names or notes are not in it as they are, or TROUBLE after a
+ * complaint. */
 int gsi_write(const struct site *s, const struct options *o);
 int landxml_write(const struct site *s, const struct options *o);
 int dxf_write(const struct site *s, const struct options *o);

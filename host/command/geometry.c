@@ -18,8 +18,11 @@
  * Introduction to Geometry, section 6.1), and the normal matrix is the scatter
  * of these images, turned by a right angle. It is singular just if they lie in
  * line, and a line is the image of a circle through the station, or of a line
- * through it. So the same numbers tell which circle is near, and the weakest
- * direction is along that circle's tangent. */
+ * through it. So the same numbers tell where to begin: the circle along whose
+ * tangent the weakest direction is. It weighs a point by one over the square of
+ * its distance, so that one near point turns it; from there on the distances of
+ * the points from the circle itself are made small, by Gauss's steps with
+ * Marquardt's damping (Niemeier, on nonlinear adjustment). */
 #include "geometry.h"
 
 #include <math.h>
@@ -28,8 +31,11 @@
 #define PI 3.14159265358979323846
 #define ON_POINT 0.001    /* metres */
 #define NARROW (2 * PI / 3)
-#define NEAR_CIRCLE 0.2   /* of the radius or the median distance */
+#define NEAR_CIRCLE 0.2   /* of the radius or the median distance, and of each
+                             point's own: near the station all are near it */
 #define NEAR_LINE 0.1     /* of the length */
+#define LARGE_CIRCLE 4    /* lengths: a larger radius is that of a line */
+#define STEPS 60
 
 static double distance(const struct at *a, const struct at *b)
 {
@@ -208,18 +214,20 @@ static int measure_median(struct figure *f)
     return 0;
 }
 
-static size_t distinct(const struct at *p, size_t count)
+/* Counts the different places, and keeps the first two points on one. */
+static void find_places(struct figure *f, const struct at *p)
 {
-    size_t different = 0;
-
-    for (size_t i = 0; i < count; i++) {
+    for (size_t i = 0; i < f->count; i++) {
         size_t j = 0;
 
         while (j < i && distance(&p[i], &p[j]) >= ON_POINT)
             j++;
-        different += j == i;
+        if (j < i && f->places == i) {
+            f->twin[0] = j;
+            f->twin[1] = i;
+        }
+        f->places += j == i;
     }
-    return different;
 }
 
 /* ---- strength ---- */
@@ -246,24 +254,121 @@ static void measure_ellipse(struct figure *f, const struct scatter *s)
         f->major_bearing += PI;
 }
 
-/* The circle through the station whose image is the line of the images. */
-static void find_near_circle(struct figure *f, const struct scatter *s,
-                             const struct at *station, const struct at *points)
+/* The points' distances from the circle through the station, which is at 0, 0,
+ * about `centre`: the sum of their squares. */
+static double squares_of(const struct pair *p, size_t count,
+                         const struct pair *centre)
 {
-    struct pair normal = { -s->along.y, s->along.x };
-    double away = s->mean.x * normal.x + s->mean.y * normal.y;
-    double reach = f->median / (2 * away);
+    double radius = hypot(centre->x, centre->y), sum = 0;
 
-    if (fabs(away) < 1e-9)
-        return;
-    f->has_circle = 1;
-    f->circle.radius = fabs(reach);
-    f->circle.centre.east = station->east + reach * normal.x;
-    f->circle.centre.north = station->north + reach * normal.y;
+    for (size_t i = 0; i < count; i++) {
+        double off = hypot(p[i].x - centre->x, p[i].y - centre->y) - radius;
+
+        sum += off * off;
+    }
+    return sum;
+}
+
+/* The step from `centre` that makes them smaller, with this damping. */
+static struct pair step_from(const struct pair *p, size_t count,
+                             const struct pair *centre, double damping)
+{
+    double radius = hypot(centre->x, centre->y);
+    double xx = 0, yy = 0, xy = 0, x = 0, y = 0, bottom;
+    struct pair step;
+
+    for (size_t i = 0; i < count; i++) {
+        double away = hypot(p[i].x - centre->x, p[i].y - centre->y);
+        double off = away - radius, dx, dy;
+
+        if (away == 0 || radius == 0)
+            continue;
+        dx = (centre->x - p[i].x) / away - centre->x / radius;
+        dy = (centre->y - p[i].y) / away - centre->y / radius;
+        xx += dx * dx;
+        yy += dy * dy;
+        xy += dx * dy;
+        x -= dx * off;
+        y -= dy * off;
+    }
+    xx *= 1 + damping;
+    yy *= 1 + damping;
+    bottom = xx * yy - xy * xy;
+    step.x = bottom > 0 ? (x * yy - y * xy) / bottom : 0;
+    step.y = bottom > 0 ? (y * xx - x * xy) / bottom : 0;
+    return step;
+}
+
+/* Moves the centre as long as the sum becomes smaller, and answers that. */
+static double draw_near(const struct pair *p, size_t count,
+                        struct pair *centre)
+{
+    double damping = 1e-3, sum = squares_of(p, count, centre);
+
+    for (int i = 0; i < STEPS; i++) {
+        struct pair step = step_from(p, count, centre, damping);
+        struct pair next = { centre->x + step.x, centre->y + step.y };
+        double now = squares_of(p, count, &next);
+
+        if (now < sum) {
+            sum = now;
+            *centre = next;
+            damping /= 4;
+        } else {
+            damping = damping * 8 + 1e-9;
+        }
+    }
+    return sum;
+}
+
+/* The centre of the circle through 0, 0 and two points: 1, or 0 if in line. */
+static int centre_of(const struct pair *a, const struct pair *b,
+                     struct pair *centre)
+{
+    struct at three[3] = { { 0, 0 }, { 0, 0 }, { 0, 0 } };
+    struct circle c;
+
+    three[1].east = a->x;
+    three[1].north = a->y;
+    three[2].east = b->x;
+    three[2].north = b->y;
+    if (!circle_through(three, &c))
+        return 0;
+    centre->x = c.centre.east;
+    centre->y = c.centre.north;
+    return 1;
+}
+
+/* The nearest circle, from several beginnings: the given one, and those through
+ * the station and two of the points, a third of the list apart. */
+static void draw_nearest(const struct pair *p, size_t count,
+                         struct pair *centre)
+{
+    double least = draw_near(p, count, centre);
+
+    for (size_t i = 0; i < count; i += 1 + count / 24) {
+        struct pair other;
+        double sum;
+
+        if (!centre_of(&p[i], &p[(i + 1 + count / 3) % count], &other))
+            continue;
+        sum = draw_near(p, count, &other);
+        if (sum < least) {
+            least = sum;
+            *centre = other;
+        }
+    }
+}
+
+static void measure_circle(struct figure *f, const struct at *station,
+                           const struct at *points)
+{
     for (size_t i = 0; i < f->count; i++) {
         double off = distance(&points[i], &f->circle.centre) -
                      f->circle.radius;
 
+        f->off_share = fmax(f->off_share,
+                            fabs(off) / distance(&points[i], station));
         if (fabs(off) < fabs(f->off_circle))
             continue;
         f->off_circle = off;
@@ -271,17 +376,46 @@ static void find_near_circle(struct figure *f, const struct scatter *s,
     }
 }
 
-static void find_circle(struct figure *f, const struct scatter *s,
-                        const struct at *station, const struct at *points)
+/* The circle through the station that is closest to the points, from the one
+ * whose image is the line of the images: 0, or -1 for no memory. */
+static int find_near_circle(struct figure *f, const struct scatter *s,
+                            const struct at *station, const struct at *points)
 {
-    if (f->count > 3) {
-        find_near_circle(f, s, station, points);
-        return;
+    struct pair normal = { -s->along.y, s->along.x };
+    double away = s->mean.x * normal.x + s->mean.y * normal.y;
+    double reach = f->median / (2 * away);
+    struct pair centre = { reach * normal.x, reach * normal.y };
+    struct pair *all;
+
+    if (fabs(away) < 1e-9)
+        return 0;
+    all = calloc(f->count, sizeof *all);
+    if (all == NULL)
+        return -1;
+    for (size_t i = 0; i < f->count; i++) {
+        all[i].x = points[i].east - station->east;
+        all[i].y = points[i].north - station->north;
     }
+    draw_nearest(all, f->count, &centre);
+    free(all);
+    f->has_circle = 1;
+    f->circle.radius = hypot(centre.x, centre.y);
+    f->circle.centre.east = station->east + centre.x;
+    f->circle.centre.north = station->north + centre.y;
+    measure_circle(f, station, points);
+    return 0;
+}
+
+static int find_circle(struct figure *f, const struct scatter *s,
+                       const struct at *station, const struct at *points)
+{
+    if (f->count > 3)
+        return find_near_circle(f, s, station, points);
     f->has_circle = circle_through(points, &f->circle);
     if (f->has_circle)
         f->off_circle = distance(station, &f->circle.centre) -
                         f->circle.radius;
+    return 0;
 }
 
 static int measure_rows(struct figure *f, const struct at *station,
@@ -306,15 +440,16 @@ static int measure_strength(struct figure *f, const struct at *station,
 {
     struct pair *images = calloc(f->count, sizeof *images);
     struct scatter s;
+    int done;
 
     if (images == NULL)
         return -1;
     invert(images, f);
     s = scatter_of(images, f->count);
     measure_ellipse(f, &s);
-    find_circle(f, &s, station, points);
+    done = find_circle(f, &s, station, points);
     free(images);
-    return 0;
+    return done;
 }
 
 /* ---- verdict ---- */
@@ -323,19 +458,37 @@ static int is_near_circle(const struct figure *f)
 {
     double unit = f->circle.radius < f->median ? f->circle.radius : f->median;
 
-    return f->has_circle && fabs(f->off_circle) < NEAR_CIRCLE * unit;
+    return f->has_circle && fabs(f->off_circle) < NEAR_CIRCLE * unit &&
+           f->off_share < NEAR_CIRCLE;
 }
 
+/* A circle that is far larger than the figure is a line to it. */
+static int is_large_circle(const struct figure *f)
+{
+    return f->circle.radius > LARGE_CIRCLE * f->all_row.length;
+}
+
+/* Points on an arc may lie nearly in line as well: both are told. */
 static void give_reasons(struct figure *f)
 {
+    int line = f->all_row.off < NEAR_LINE * f->all_row.length;
+
     if (f->sector < NARROW)
         f->reasons |= REASON_NARROW;
-    if (f->all_row.off < NEAR_LINE * f->all_row.length)
+    if (line)
         f->reasons |= REASON_LINE;
-    else if (is_near_circle(f))
+    if (is_near_circle(f) && !(line && is_large_circle(f)))
         f->reasons |= REASON_CIRCLE;
-    if (f->reasons == 0)
-        f->reasons = REASON_UNEVEN;
+    if (f->reasons == 0 || f->factor <= FACTOR_GOOD)
+        f->reasons |= REASON_UNEVEN;
+}
+
+static enum verdict verdict_of(const struct figure *f)
+{
+    if (f->factor > FACTOR_WEAK)
+        return NOT_DETERMINED;
+    return f->factor <= FACTOR_GOOD && f->major <= AXES_GOOD * f->minor ? GOOD
+                                                                         : WEAK;
 }
 
 int figure_judge(struct figure *f, struct ray *rays, const struct at *station,
@@ -352,16 +505,14 @@ int figure_judge(struct figure *f, struct ray *rays, const struct at *station,
     measure_gaps(f);
     if (measure_median(f) != 0 || measure_rows(f, station, points) != 0)
         return -1;
-    if (distinct(points, count) < 3)
+    find_places(f, points);
+    if (f->places < 3)
         f->reasons |= REASON_FEW;
     if (f->reasons != 0)
         return 0;
     if (measure_strength(f, station, points) != 0)
         return -1;
-    if (f->factor <= FACTOR_GOOD)
-        f->verdict = GOOD;
-    else if (f->factor <= FACTOR_WEAK)
-        f->verdict = WEAK;
+    f->verdict = verdict_of(f);
     if (f->verdict != GOOD)
         give_reasons(f);
     return 0;

@@ -43,17 +43,22 @@ enum reason {
 struct figure {
     struct ray *rays;      /* clockwise by bearing */
     size_t count;
+    size_t places;         /* different ones */
+    size_t twin[2];        /* two points on one place, if there are fewer */
     double sector;         /* the narrowest that holds all directions */
     double widest_gap;
     double median;         /* distance */
     struct row row;        /* of the points */
     struct row all_row;    /* of the points and the station */
     int has_circle;        /* three points: the one through them; more: the
-                              one through the station that is closest */
+                              one through the station that is closest to them
+                              by the squares of their distances from it */
     struct circle circle;
     double off_circle;     /* three points: the station's distance from it,
                               below zero inside; more: the farthest point's */
     size_t off_point;      /* that point's place in the list */
+    double off_share;      /* more points: the largest distance from the circle
+                              against that from the station, which is on it */
     /* Metres for a direction wrong by one radian. */
     double major;
     double minor;
@@ -67,6 +72,10 @@ struct figure {
  * distances reach them in sectors of 133 gon (120 degrees) and 40 gon. */
 #define FACTOR_GOOD 3.0
 #define FACTOR_WEAK 30.0
+
+/* An ellipse whose axes differ more is weak, whatever its factor: far points
+ * that hold one axis only may not make the other look good. */
+#define AXES_GOOD 10.0
 
 /* Judges directions from `station` to `points`, at least one; `rays` has room
  * for `count` of them. 0, or -1 for no memory. */

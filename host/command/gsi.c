@@ -11,7 +11,9 @@
  */
 #include "foreign.h"
 
-#include <math.h>
+#include "utf8.h"
+
+#include <stdlib.h>
 #include <string.h>
 
 enum { WORD = 24, DATA = 16, INDEXES = 100 };
@@ -59,6 +61,15 @@ static struct piece unfilled(struct piece data)
     return piece_trim(data);
 }
 
+/* The same of a point number, which is 0 if it is zeros alone. */
+static struct piece unfilled_number(struct piece data)
+{
+    const struct piece number = unfilled(data);
+    const struct piece zero = { (const uint8_t *)"0", 1 };
+
+    return number.length == 0 && piece_trim(data).length > 0 ? zero : number;
+}
+
 /* A length as a decimal number; 0, or -1 if it is none in metres. */
 static int show_length(char *to, const struct piece *word, char unit)
 {
@@ -85,7 +96,7 @@ static void take_word(struct block *b, const uint8_t *at)
     struct piece data = { at + 7, DATA }, word = { at + 6, DATA + 1 };
 
     if (index == 11) {
-        b->name = unfilled(data);
+        b->name = unfilled_number(data);
         b->has_name = 1;
     } else if (index >= 81 && index <= 83) {
         b->words[index - 81] = word;
@@ -166,14 +177,14 @@ static int read_block(struct gsi *g, struct piece text, unsigned long line)
     if (take_words(g, &b, text) != DONE)
         return TROUBLE;
     note_others(g, &b);
-    if (!b.has[EASTING] && !b.has[NORTHING]) {
+    if (!b.has[EASTING] && !b.has[NORTHING] && !b.has[HEIGHT]) {
         g->bare++;
         return DONE;
     }
     if (!b.has_name || b.name.length == 0)
         return complain_of_block(g, &b, "there are coordinates without a point "
                                         "number (word 11)");
-    if (!b.has[EASTING] || !b.has[NORTHING])
+    if (b.has[EASTING] != b.has[NORTHING])
         return complain_of_block(g, &b, "one of easting (81) and northing (82) "
                                         "is missing");
     return put_block(g, &b);
@@ -213,10 +224,10 @@ int gsi_read(struct arrivals *a, struct piece file, int quiet)
         file.bytes += used;
         file.length -= used;
     }
-    if (status == DONE && !quiet) {
+    if (status == DONE)
         say_loss(a->input, g.bare, "line", "without coordinates left out");
+    if (status == DONE && !quiet)
         say_others(&g);
-    }
     return status;
 }
 
@@ -224,18 +235,137 @@ int gsi_read(struct arrivals *a, struct piece file, int quiet)
 
 struct losses {
     size_t names;    /* points whose name has no place in GSI */
-    size_t zeros;    /* names or notes that begin with 0 */
+    size_t twins;    /* points whose number there would be another's, too */
+    size_t spelt;    /* names with letters in place of others */
+    size_t zeros;    /* names that begin with 0 */
+    size_t note_zeros; /* and notes */
     size_t notes;    /* that were cut or changed */
     size_t decimals; /* points with more than five */
 };
 
-static int is_plain(struct piece p)
+/* A name on its way out. */
+struct number {
+    const struct spot *spot;
+    struct buffer text;     /* as it is written, without the zeros that fill */
+    int plain;              /* GSI can hold it */
+    int spelt;              /* letters stand in place of others */
+    int changed;            /* it is not the point's own name */
+    int left_out;
+};
+
+/* ---- letters ---- */
+
+/* ASCII for a letter that has some, as German offices write them. */
+static const char *spelling(uint32_t c)
 {
-    for (size_t i = 0; i < p.length; i++)
-        if (p.bytes[i] < 32 || p.bytes[i] > 126)
-            return 0;
-    return 1;
+    static const struct {
+        uint32_t code;
+        const char *letters;
+    } all[] = {
+        { 0xC4, "Ae" }, { 0xD6, "Oe" }, { 0xDC, "Ue" }, { 0xE4, "ae" },
+        { 0xF6, "oe" }, { 0xFC, "ue" }, { 0xDF, "ss" }, { 0x1E9E, "SS" }
+    };
+
+    for (size_t i = 0; i < sizeof all / sizeof all[0]; i++)
+        if (all[i].code == c)
+            return all[i].letters;
+    return NULL;
 }
+
+/* The text in ASCII: *changed if a letter was spelt otherwise, *lost if one
+ * became a question mark. 0, or -1 for no memory. */
+static int put_ascii(struct buffer *to, struct piece text, int *changed,
+                     int *lost)
+{
+    int done = 0;
+
+    while (text.length > 0) {
+        uint32_t c = 0;
+        size_t used = utf8_read(text.bytes, text.length, &c);
+        const char *letters = used > 1 ? spelling(c) : NULL;
+
+        if (used == 1 && c >= 32 && c < 127) {
+            done |= buffer_put_byte(to, (uint8_t)c);
+        } else {
+            *lost |= letters == NULL;
+            *changed = 1;
+            letters = letters != NULL ? letters : "?";
+            done |= buffer_put(to, letters, strlen(letters));
+        }
+        used = used > 0 ? used : 1;
+        text.bytes += used;
+        text.length -= used;
+    }
+    return done;
+}
+
+/* ---- numbers of points ---- */
+
+/* The name as it comes back: without zeros in front, except a last one. Blanks
+ * at its ends would be lost. */
+static int number_make(struct number *n, const struct spot *s)
+{
+    struct piece name = { s->name, s->name_length }, kept;
+    int lost = 0;
+
+    n->spot = s;
+    if (put_ascii(&n->text, name, &n->spelt, &lost) != 0)
+        return -1;
+    n->changed = n->spelt;
+    kept.bytes = n->text.bytes;
+    kept.length = n->text.length;
+    n->plain = !lost && kept.length <= DATA &&
+               piece_trim(kept).length == kept.length;
+    while (kept.length > 1 && kept.bytes[0] == '0') {
+        kept.bytes++;
+        kept.length--;
+        n->changed = 1;
+    }
+    memmove(n->text.bytes, kept.bytes, kept.length);
+    n->text.length = kept.length;
+    return 0;
+}
+
+static int by_text(const void *a, const void *b)
+{
+    const struct number *const *left = a, *const *right = b;
+    const struct buffer *x = &(*left)->text, *y = &(*right)->text;
+    size_t shorter = x->length < y->length ? x->length : y->length;
+    int order = memcmp(x->bytes, y->bytes, shorter);
+
+    if (order != 0)
+        return order;
+    return x->length < y->length ? -1 : x->length > y->length;
+}
+
+static int same_number(const struct number *a, const struct number *b)
+{
+    return by_text(&a, &b) == 0;
+}
+
+/* Of names that would be one number, those that are not that number
+ * themselves are left out: two points never share one. */
+static int leave_twins(struct number *all, size_t count)
+{
+    const struct number **sorted = calloc(count + 1, sizeof *sorted);
+
+    if (sorted == NULL)
+        return -1;
+    for (size_t i = 0; i < count; i++)
+        sorted[i] = &all[i];
+    qsort(sorted, count, sizeof *sorted, by_text);
+    for (size_t i = 0; i < count; i++) {
+        struct number *n = &all[sorted[i] - all];
+        int twin = (i > 0 && same_number(sorted[i - 1], n)) ||
+                   (i + 1 < count && same_number(n, sorted[i + 1]));
+
+        n->left_out = n->changed && twin;
+    }
+    free(sorted);
+    return 0;
+}
+
+/* ---- lengths ---- */
 
 /* Decimals of a number as it is written, without zeros at their end. */
 static int decimals_of(struct piece p)
@@ -264,101 +394,160 @@ static int decimals_needed(const struct piece fields[POINT_FIELDS],
     return most > 5 ? 5 : most;
 }
 
-static void put_length(int index, double value, int decimals)
+/* Adds one to a number of digits; those of a coordinate do not overflow. */
+static void add_one(char digits[DATA + 1])
 {
-    static const char units[] = "000068";
-    double whole = round(value * pow(10, decimals));
+    int at = DATA - 1;
 
-    printf("%02d..1%c%c%016.0f ", index, units[decimals],
-           whole < 0 ? '-' : '+', fabs(whole));
+    while (at > 0 && digits[at] == '9')
+        digits[at--] = '0';
+    digits[at]++;
 }
 
-/* Up to 16 characters, filled with zeros; others than ASCII become ?. */
-static void put_text(struct piece text)
+/* Sixteen digits with so many decimals, from the digits of the text: a tie is
+ * rounded away from zero, as on paper. */
+static void put_length(int index, struct piece p, int decimals)
 {
-    size_t length = text.length < DATA ? text.length : DATA;
+    static const char units[] = "000068";
+    const uint8_t *end, *point, *digit;
+    char digits[DATA + 1];
+    int negative, at = DATA - decimals;
+
+    p = piece_trim(p);
+    negative = p.bytes[0] == '-';
+    end = p.bytes + p.length;
+    point = memchr(p.bytes, '.', p.length);
+    point = point != NULL ? point : end;
+    memset(digits, '0', DATA);
+    digits[DATA] = '\0';
+    for (digit = point; digit > p.bytes && is_digit(digit[-1]) && at > 0;)
+        digits[--at] = (char)*--digit;
+    for (at = 0; at < decimals && point + 1 + at < end; at++)
+        digits[DATA - decimals + at] = (char)point[1 + at];
+    if (point + 1 + decimals < end && point[1 + decimals] >= '5')
+        add_one(digits);
+    negative = negative && strspn(digits, "0") < DATA;
+    printf("%02d..1%c%c%s ", index, units[decimals], negative ? '-' : '+',
+           digits);
+}
+
+/* ---- blocks ---- */
+
+/* Up to 16 characters, filled with zeros. */
+static void put_text(const struct buffer *text)
+{
+    size_t length = text->length < DATA ? text->length : DATA;
 
     for (size_t i = length; i < DATA; i++)
         putchar('0');
-    for (size_t i = 0; i < length; i++)
-        putchar(text.bytes[i] < 32 || text.bytes[i] > 126 ? '?'
-                                                          : text.bytes[i]);
+    fwrite(text->bytes, 1, length, stdout);
     putchar(' ');
 }
 
-static void put_note(struct piece note, struct losses *l)
+static int put_note(struct piece note, struct losses *l)
 {
+    struct buffer text = { NULL, 0, 0 };
+    int changed = 0, lost = 0, done;
+
     note = piece_trim(note);
     if (note.length == 0)
-        return;
-    l->notes += note.length > DATA || !is_plain(note);
-    l->zeros += note.bytes[0] == '0';
+        return 0;
+    done = put_ascii(&text, note, &changed, &lost);
+    l->notes += changed || text.length > DATA;
+    l->note_zeros += note.bytes[0] == '0';
     fputs("71....+", stdout);
-    put_text(note);
+    put_text(&text);
+    buffer_free(&text);
+    return done;
 }
 
-static void put_spot(const struct spot *s, struct piece name,
-                     struct record *r, struct losses *l, unsigned long number)
+static int put_block_of(const struct number *n, struct record *r,
+                        struct losses *l, unsigned long number)
 {
+    static const int indexes[] = { 81, 82, 83 };
     struct piece fields[POINT_FIELDS];
     int decimals;
 
-    if (!point_take(r, s->text, fields))
-        return;
+    if (!point_take(r, n->spot->text, fields))
+        return -1;
     decimals = decimals_needed(fields, l);
-    l->zeros += name.bytes[0] == '0';
+    l->zeros += n->spot->name_length > 1 && n->spot->name[0] == '0';
+    l->spelt += (size_t)n->spelt;
     printf("*11%04lu+", number % 10000);
-    put_text(name);
-    put_length(81, s->at.east, decimals);
-    put_length(82, s->at.north, decimals);
-    if (s->has_height)
-        put_length(83, s->height, decimals);
-    put_note(fields[NOTE], l);
+    put_text(&n->text);
+    for (int i = EASTING; i <= HEIGHT; i++)
+        if (piece_trim(fields[i]).length > 0)
+            put_length(indexes[i], fields[i], decimals);
+    if (put_note(fields[NOTE], l) != 0)
+        return -1;
     fputs("\r\n", stdout);
+    return 0;
 }
 
 static void say_losses(const struct losses *l, const char *file)
 {
     say_loss(file, l->names, "point", "left out: GSI-16 has names of 1 to 16 "
                                       "ASCII characters");
-    say_loss(file, l->zeros, "name or note", "with zeros in front, which GSI "
-                                             "loses");
+    say_loss(file, l->twins, "point", "left out: in GSI another point would "
+                                      "have the same number");
+    say_loss(file, l->spelt, "name", "spelt with ae, oe, ue or ss");
+    say_loss(file, l->zeros, "name", "with zeros in front, which GSI loses");
+    say_loss(file, l->note_zeros, "note", "with zeros in front, which GSI "
+                                          "loses");
     say_loss(file, l->notes, "note", "cut to 16 ASCII characters");
     say_loss(file, l->decimals, "point", "rounded to 0.01 mm");
 }
 
-/* The name as it is shown, if GSI can hold it. */
-static int take_name(const struct buffer *shown, struct piece *name)
+/* Points are missed, or names and notes are not what they were. */
+static int has_losses(const struct losses *l)
 {
-    name->bytes = shown->bytes;
-    name->length = shown->length - 1;
-    return name->length <= DATA && is_plain(*name);
+    return l->names + l->twins + l->spelt + l->zeros + l->note_zeros +
+           l->notes > 0;
+}
+
+static int put_blocks(const struct number *all, size_t count,
+                      struct losses *l)
+{
+    struct record record;
+    unsigned long number = 1;
+    int done = 0;
+
+    memset(&record, 0, sizeof record);
+    for (size_t i = 0; i < count && done == 0; i++) {
+        l->names += !all[i].plain;
+        l->twins += all[i].plain && all[i].left_out;
+        if (all[i].plain && !all[i].left_out)
+            done = put_block_of(&all[i], &record, l, number++);
+    }
+    buffer_free(&record.bytes);
+    return done;
+}
+
+/* The numbers of the points that have coordinates. */
+static int make_numbers(struct number *all, size_t *count,
+                        const struct site *s)
+{
+    for (size_t i = 0; i < s->count; i++)
+        if (has_coordinates(&s->spots[i]) &&
+            number_make(&all[(*count)++], &s->spots[i]) != 0)
+            return -1;
+    return leave_twins(all, *count);
 }
 
 int gsi_write(const struct site *s, const struct options *o)
 {
-    struct losses losses = { 0, 0, 0, 0 };
-    struct buffer shown = { NULL, 0, 0 };
-    struct record record;
-    unsigned long number = 1;
-    int status = DONE;
+    struct losses losses = { 0, 0, 0, 0, 0, 0, 0 };
+    struct number *all = calloc(s->count + 1, sizeof *all);
+    size_t count = 0;
+    int done = all == NULL ? -1 : make_numbers(all, &count, s);
 
-    memset(&record, 0, sizeof record);
-    for (size_t i = 0; i < s->count && status == DONE; i++) {
-        struct piece name;
-
-        if (s->spots[i].kind != SPOT_PLACED)
-            continue;
-        if (spot_show(&shown, &s->spots[i]) != 0)
-            status = out_of_memory();
-        else if (take_name(&shown, &name))
-            put_spot(&s->spots[i], name, &record, &losses, number++);
-        else
-            losses.names++;
-    }
-    buffer_free(&shown);
-    buffer_free(&record.bytes);
-    if (!o->quiet)
-        say_losses(&losses, o->word[0]);
-    return status;
+    if (done == 0)
+        done = put_blocks(all, count, &losses);
+    for (size_t i = 0; i < count; i++)
+        buffer_free(&all[i].text);
+    free(all);
+    if (done != 0)
+        return out_of_memory();
+    say_losses(&losses, o->word[0]);
+    return has_losses(&losses) ? PARTIAL : DONE;
 }

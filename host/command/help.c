@@ -26,11 +26,32 @@
     "      --no-sync      do not wait for the disk: faster, and safe if the\n" \
     "                     command is killed, but not if the power fails\n"
 
+#define LOG \
+    "      --log          begin FILE.log beside the file; one that is there is\n" \
+    "                     gone on with by every change\n"
+
+#define ALLOW \
+    "Refused, with their names, unless these are given:\n" \
+    "      --allow-far    points far from all others, in plan or in height\n" \
+    "      --allow-near   points within a centimetre of another\n" \
+    "      --allow-swapped  points that would lie near the others if easting and\n" \
+    "                     northing changed places\n"
+
+#define DROP \
+    "      --drop FIELDS  what --replace may take away: words out of easting,\n" \
+    "                     northing, height, note and text, with commas\n"
+
 #define QUIET "  -q, --quiet        say nothing but errors and warnings\n"
+
+#define PATTERNS \
+    "\nA word that is the name of a point means that point; any other is a\n" \
+    "pattern: * stands for anything, ? for one character, [..] for one of " \
+    "several.\n"
 
 static const struct command commands[] = {
     { "create", OPTION_KEY_SIZE | OPTION_SLOTS | OPTION_SEED | OPTION_SIZE |
-                OPTION_FORMAT | OPTION_NO_SYNC, 1, 1, run_create,
+                OPTION_FORMAT | OPTION_NO_SYNC | OPTION_LOG, 1, 1,
+      run_create,
       "bhtf create FILE [--key-size K] [--slots N] [--seed S] [--size BYTES] "
       "..\n"
       "Makes an empty file. An existing file is never overwritten.\n"
@@ -45,11 +66,13 @@ static const struct command commands[] = {
       "                     {image}, also as 64K or 16M; unless given, the\n"
       "                     table and {slot_bytes} bytes a slot\n"
       "      --format V     1.0.2 unless given; 1.0.1 for a station that refuses\n"
-      "                     1.0.2 (5), until an empty text is stored\n" NO_SYNC },
+      "                     1.0.2 (5), until an empty text is stored\n"
+      LOG NO_SYNC },
     { "add", OPTION_REPLACE | OPTION_APPEND | OPTION_EASTING |
              OPTION_NORTHING | OPTION_HEIGHT | OPTION_NOTE |
              OPTION_NO_TEXT | OPTION_SLOTS_READ | OPTION_DELTA |
-             OPTION_NO_SYNC, 2, 3, run_add,
+             OPTION_DROP | OPTION_ALLOWED | OPTION_LOG | OPTION_NO_SYNC, 2, 3,
+      run_add,
       "bhtf add FILE NAME [TEXT] [--replace | --append] [--slots] ..\n"
       "bhtf add FILE NAME --easting E --northing N [--height H] [--note TEXT]\n"
       "bhtf add FILE NAME --no-text\n"
@@ -62,20 +85,66 @@ static const struct command commands[] = {
       "one is\n"
       "of version 1.0.2, which stations that know only 1.0.1 refuse (5).\n"
       "      --no-text      store the point without a text\n"
-      "A point that is already there is refused, but for\n"
-      "  -r, --replace      put the text in place of its own\n"
-      "  -a, --append       put the text behind its own\n"
-      SLOTS_READ DELTA NO_SYNC QUIET WAITING NAMES },
-    { "withdraw", OPTION_SLOTS_READ | OPTION_DELTA | OPTION_NO_SYNC, 2, 2,
+      "A point that is already there is refused, except with\n"
+      "  -r, --replace      put the text in place of its own; refused if that\n"
+      "                     would take a coordinate or a note away: see bhtf "
+      "set\n" DROP
+      "  -a, --append       put the text behind its own\n" ALLOW
+      SLOTS_READ DELTA LOG NO_SYNC QUIET WAITING NAMES },
+    { "set", OPTION_EASTING | OPTION_NORTHING | OPTION_HEIGHT | OPTION_NOTE |
+             OPTION_ALLOWED | OPTION_DELTA | OPTION_LOG | OPTION_NO_SYNC, 2, 2,
+      run_set,
+      "bhtf set FILE NAME [--easting E --northing N] [--height H] [--note "
+      "TEXT]\n"
+      "Changes what is given of a point that is there, and nothing else; says "
+      "what\n"
+      "changed. An empty value takes a height or a note away.\n"
+      "  -E, --easting E    a number, with a decimal point\n"
+      "  -N, --northing N\n"
+      "  -H, --height H\n"
+      "  -t, --note TEXT\n" ALLOW
+      DELTA LOG NO_SYNC QUIET WAITING NAMES },
+    { "rename", OPTION_DELTA | OPTION_LOG | OPTION_NO_SYNC, 3, 3, run_rename,
+      "bhtf rename FILE NAME NEW\n"
+      "Gives a point another name, under which no other is. Its text stays.\n"
+      DELTA LOG NO_SYNC WAITING NAMES },
+    { "withdraw", OPTION_SLOTS_READ | OPTION_DELTA | OPTION_LOG |
+                  OPTION_NO_SYNC, 2, 2,
       run_withdraw,
       "bhtf withdraw FILE NAME [--slots] [--delta FILE]\n"
       "Takes a point's text away; the point stays, without a text.\n"
-      SLOTS_READ DELTA NO_SYNC WAITING NAMES },
-    { "delete", OPTION_SLOTS_READ | OPTION_DELTA | OPTION_NO_SYNC, 2, 2,
-      run_delete,
+      SLOTS_READ DELTA LOG NO_SYNC WAITING NAMES },
+    { "delete", OPTION_SLOTS_READ | OPTION_DELTA | OPTION_LOG |
+                OPTION_NO_SYNC | OPTION_DRY_RUN, 2, ANY_NUMBER, run_take_out,
       "bhtf delete FILE NAME [--slots] [--delta FILE]\n"
-      "Takes a point out.\n"
-      SLOTS_READ DELTA NO_SYNC WAITING NAMES },
+      "bhtf delete FILE PATTERN.. [--dry-run] [--delta FILE]\n"
+      "Takes points out: all that are named, as one change, or none.\n"
+      "  -n, --dry-run      change nothing; print the names\n"
+      SLOTS_READ DELTA LOG NO_SYNC QUIET WAITING NAMES PATTERNS },
+    { "batch", OPTION_DRY_RUN | OPTION_ALLOWED | OPTION_DELTA | OPTION_LOG |
+               OPTION_NO_SYNC, 1, 2, run_batch,
+      "bhtf batch FILE [CHANGES] [--dry-run] ..\n"
+      "Makes several changes as one: all of them, or, if one is refused, none. "
+      "A line\n"
+      "of CHANGES, or of standard input if that is - or not given, is a change "
+      "as on\n"
+      "the command line, without bhtf and FILE: add, set, rename, withdraw or "
+      "delete.\n"
+      "Quotes of either kind keep blanks; # begins a comment.\n"
+      "  -n, --dry-run      change nothing; say what would be refused\n" ALLOW
+      DELTA LOG NO_SYNC QUIET WAITING NAMES },
+    { "log", 0, 1, 2, run_log,
+      "bhtf log FILE [NAME]\n"
+      "Prints the log beside the file: when and by whom it was changed, and of "
+      "each\n"
+      "point the text before and after; of one point, if it is named. Status 1 "
+      "if an\n"
+      "entry was changed or taken away, or the file was changed without the "
+      "log.\n"
+      "A log is begun by --log at a change, or by BHTF_LOG=yes in the "
+      "environment.\n"
+      "  -q, --quiet        print no entries; only say whether it is whole\n"
+      WAITING NAMES },
     { "get", OPTION_TSV | OPTION_JSON | OPTION_SLOTS_READ, 2, ANY_NUMBER,
       run_get,
       "bhtf get FILE NAME.. [--tsv | --json] [--slots]\n"
@@ -100,9 +169,7 @@ static const struct command commands[] = {
       "Prints the names, one a line, in the order of their slots: without "
       "their\n"
       "padding; bytes that do not print, the backslash, and blanks at either\n"
-      "end as \\xHH. With patterns, the names that match one of them: * stands "
-      "for\n"
-      "anything, ? for one character, [..] for one of several.\n"
+      "end as \\xHH. With patterns, the names that match one of them.\n"
       "  -b, --by ORDER     name, in the order of the names' bytes; or slot\n"
       "  -l, --long         slot and length of the text in front of each; - if\n"
       "                     there is no text\n"
@@ -112,17 +179,19 @@ static const struct command commands[] = {
       "note\n"
       "                     if there is no text\n"
       "      --json         the same, an object a line\n"
-      WAITING },
+      WAITING PATTERNS },
     { "check", 0, 1, 1, run_check,
       "bhtf check FILE\n"
       "Says whether the file is sound: status 0 if so, 1 if not. If so it says "
       "the\n"
-      "number of points, the version and how many bytes are dead; if not, "
-      "where,\n"
-      "which two points share bytes, and what to do about that.\n"
+      "number of points, the version, how many bytes are dead and the sum; if "
+      "not,\n"
+      "where, which two points share bytes, and what to do about that. Sound "
+      "does not\n"
+      "mean right: a digit changed in a text is not seen.\n"
       QUIET WAITING },
-    { "compact", OPTION_DRY_RUN | OPTION_DELTA | OPTION_NO_SYNC, 1, 1,
-      run_compact,
+    { "compact", OPTION_DRY_RUN | OPTION_DELTA | OPTION_LOG | OPTION_NO_SYNC,
+      1, 1, run_compact,
       "bhtf compact FILE [--dry-run] [--delta FILE]\n"
       "Gives the bytes of texts that were replaced, withdrawn or deleted back, "
       "and\n"
@@ -130,7 +199,7 @@ static const struct command commands[] = {
       "as\n"
       "it is, with the words of check and status 1.\n"
       "  -n, --dry-run      change nothing; say what would be\n"
-      DELTA NO_SYNC QUIET WAITING },
+      DELTA LOG NO_SYNC QUIET WAITING },
     { "book", 0, 1, 1, run_book,
       "bhtf book FILE\n"
       "Prints the book that calls on a sound file start from: its terms, and "
@@ -147,48 +216,69 @@ static const struct command commands[] = {
       "many\n"
       "bhtf compact would free.\n"
       WAITING },
-    { "import", OPTION_REPLACE | OPTION_COLUMNS | OPTION_DELIMITER |
-                OPTION_DECIMAL | OPTION_SKIP | OPTION_ANY_TEXT |
+    { "import", OPTION_REPLACE | OPTION_UPDATE | OPTION_DROP |
+                OPTION_COLUMNS | OPTION_DELIMITER | OPTION_DECIMAL |
+                OPTION_ENCODING | OPTION_SKIP | OPTION_ANY_TEXT |
                 OPTION_DRY_RUN | OPTION_GSI | OPTION_LANDXML |
-                OPTION_DELTA | OPTION_NO_SYNC | OPTION_KEEP_GOING, 2, 2,
-      run_import,
-      "bhtf import FILE CSV [--columns ORDER] [--replace] [--dry-run] ..\n"
+                OPTION_ALLOWED | OPTION_DELTA | OPTION_LOG | OPTION_NO_SYNC |
+                OPTION_KEEP_GOING, 2, 2, run_import,
+      "bhtf import FILE CSV [--columns ORDER] [--update | --replace] "
+      "[--dry-run] ..\n"
       "Stores a point for each line of a CSV file; of standard input if CSV is "
       "-.\n"
       "A heading says which column is which: name, easting, northing, height,\n"
-      "note or the usual other words, in any order. All of it is stored, or, "
-      "if a\n"
-      "line is refused, nothing. A line of empty fields is a point without a "
-      "text;\n"
-      "yes in a column empty makes it one with an empty text.\n"
+      "note or the usual other words, in any order; lengths are metres. All of "
+      "it is\n"
+      "stored, or, if a line is refused, nothing. A line of empty fields is a "
+      "point\n"
+      "without a text; yes in a column empty makes it one with an empty text.\n"
+      "GSI-16 and LandXML are told by their first bytes.\n"
       "  -c, --columns ORDER  the columns of a file without a heading: PNEZD,\n"
       "                     PENZD, or words as above, with commas between "
       "them;\n"
       "                     - for one to pass over\n"
-      "  -d, --delimiter D  comma, semicolon or tab; found out unless given\n"
+      "  -d, --delimiter D  comma, semicolon or tab; found out unless given. Or\n"
+      "                     blank, in any number\n"
       "      --decimal C    , where numbers have a decimal comma\n"
+      "      --encoding E   windows-1252, or what iconv knows; UTF-8 unless "
+      "given.\n"
+      "                     bytes keeps bytes as they are\n"
       "      --skip N       pass over the first N lines\n"
       "      --any-text     take coordinates that are not numbers\n"
-      "  -r, --replace      replace points that are already there\n"
+      "      --update       of points that are already there change what the "
+      "lines\n"
+      "                     give, and nothing else; an empty field gives "
+      "nothing\n"
+      "  -r, --replace      replace points that are already there; refused "
+      "where\n"
+      "                     that would take a coordinate or a note away\n" DROP
       "      --keep-going   store the other lines if some are refused\n"
-      "  -n, --dry-run      store nothing; say what would happen, and every\n"
-      "                     line that would be refused\n"
+      "  -n, --dry-run      store nothing; say of each point what would become "
+      "of\n"
+      "                     it, the worst first, and each line that would be\n"
+      "                     refused\n"
       "      --gsi          CSV is a Leica GSI-16 file\n"
       "      --landxml      CSV is a LandXML file; its CgPoints are read\n"
-      DELTA NO_SYNC QUIET WAITING NAMES },
-    { "export", OPTION_CRLF | OPTION_GSI | OPTION_LANDXML | OPTION_DXF, 1, 1,
-      run_export,
-      "bhtf export FILE [--crlf | --gsi | --landxml | --dxf]\n"
+      ALLOW DELTA LOG NO_SYNC QUIET WAITING NAMES },
+    { "export", OPTION_CRLF | OPTION_SPREADSHEET | OPTION_GSI | OPTION_LANDXML |
+                OPTION_DXF | OPTION_BY, 1, ANY_NUMBER, run_export,
+      "bhtf export FILE [PATTERN..] [--by ORDER] [--crlf] [--spreadsheet] |\n"
+      "            --gsi | --landxml | --dxf\n"
       "Prints the points as import reads them, with a heading. Texts that are "
       "not\n"
       "easting,northing,height,note stand in a column text; an empty text is a "
       "yes\n"
-      "in a column empty.\n"
+      "in a column empty. Status 3 if something is left out or cut.\n"
+      "  -b, --by ORDER     name or slot; unless given, CSV by slot and the "
+      "others by\n"
+      "                     name\n"
       "      --crlf         end lines with carriage return and line feed\n"
+      "      --spreadsheet  an apostrophe in front of names, notes and texts that\n"
+      "                     a spreadsheet would run; import gets that, too\n"
       "      --gsi          as Leica GSI-16\n"
       "      --landxml      as CgPoints of LandXML 1.2\n"
       "      --dxf          as points and names of DXF, release 12\n"
-      QUIET WAITING },
+      QUIET WAITING PATTERNS },
     { "dump", 0, 1, 1, run_dump,
       "bhtf dump FILE\n"
       "Prints all of a file as text, a line for each point in the order of "
@@ -196,27 +286,29 @@ static const struct command commands[] = {
       "names. load makes an equal file of it.\n"
       QUIET WAITING },
     { "load", OPTION_KEY_SIZE | OPTION_SLOTS | OPTION_SEED | OPTION_SIZE |
-              OPTION_FORMAT | OPTION_NO_SYNC, 1, 2, run_load,
+              OPTION_FORMAT | OPTION_LOG | OPTION_NO_SYNC, 1, 2, run_load,
       "bhtf load FILE [DUMP] [--size BYTES] [--slots N] ..\n"
       "Makes a file of what dump printed; of standard input if DUMP is - or "
       "not\n"
       "given. An existing file is never overwritten. In place of what the dump "
       "says:\n"
       "  -k, --key-size K   bytes in a name\n"
-      "  -s, --slots N      points that it can hold\n"
+      "  -s, --slots N      points that it can hold; the file becomes longer, so "
+      "that\n"
+      "                     as much room is left for the text of each\n"
       "      --seed S       number by which names are scattered\n"
       "  -S, --size BYTES   length of the file\n"
       "      --format V     its version; 1.0.1 for a station that refuses 1.0.2 "
       "(5).\n"
       "                     An empty text then has no place\n"
-      NO_SYNC QUIET },
+      LOG NO_SYNC QUIET },
     { "delta", 0, 2, 2, run_delta,
       "bhtf delta OLD NEW > CHANGES\n"
       "Prints, for bhtf apply, what changed from OLD to NEW: a record of bytes, "
       "with\n"
       "check sums of both. Both files have the same length.\n"
       QUIET WAITING },
-    { "apply", OPTION_DRY_RUN | OPTION_NO_SYNC, 1, 2, run_apply,
+    { "apply", OPTION_DRY_RUN | OPTION_LOG | OPTION_NO_SYNC, 1, 2, run_apply,
       "bhtf apply COPY [CHANGES] [--dry-run]\n"
       "Makes of COPY what the office's file became: CHANGES, or standard input "
       "if\n"
@@ -226,37 +318,79 @@ static const struct command commands[] = {
       "for\n"
       "another file the status is 1; if one is cut short or damaged it is 2; "
       "COPY is\n"
-      "then as it was.\n"
+      "then as it was. Names the points that change, as diff does, and the "
+      "sum.\n"
       "  -n, --dry-run      change nothing; say what would be\n"
-      NO_SYNC QUIET WAITING },
-    { "diff", OPTION_TSV, 2, 2, run_diff,
-      "bhtf diff OLD NEW [--tsv]\n"
-      "Says point by point what became of OLD in NEW: new, gone, moved by how\n"
-      "many millimetres, or another text. Status 0 if nothing did, 1 if "
-      "something.\n"
+      LOG NO_SYNC QUIET WAITING },
+    { "recover", OPTION_FINISH | OPTION_SET_ASIDE, 1, 1, run_recover,
+      "bhtf recover FILE [--finish | --set-aside]\n"
+      "Says what is known of the journal beside FILE, where commands refuse the\n"
+      "file because of it: status 1 if a person has to choose.\n"
+      "      --finish       make the change that is in the journal\n"
+      "      --set-aside    leave the file as it stands, and give the journal\n"
+      "                     another name\n" WAITING QUIET },
+    { "diff", OPTION_TSV | OPTION_TOLERANCE, 2, ANY_NUMBER, run_diff,
+      "bhtf diff OLD NEW [PATTERN..] [--tolerance MM] [--tsv]\n"
+      "Says point by point what became of OLD in NEW: new, gone, moved by how "
+      "far,\n"
+      "another text, or damaged, and all that changed of it. Status 0 if "
+      "nothing did, 1\n"
+      "if something, 2 if that cannot be told.\n"
+      "      --tolerance MM  moves of no more millimetres are no change; they "
+      "are\n"
+      "                     counted\n"
       "      --tsv          fields with tabs between them, under a heading\n"
-      QUIET WAITING },
-    { "plot", OPTION_AGAINST | OPTION_PAPER, 1, 1, run_plot,
-      "bhtf plot FILE [--against OLD] [--paper SIZE] > PLAN.svg\n"
+      QUIET WAITING PATTERNS },
+    { "plot", OPTION_AGAINST | OPTION_PAPER | OPTION_TOLERANCE, 1, ANY_NUMBER,
+      run_plot,
+      "bhtf plot FILE [PATTERN..] [--against OLD] [--paper SIZE] .. > "
+      "PLAN.svg\n"
       "Prints a plan of the points to scale as SVG, with names, grid, north\n"
       "and a scale bar.\n"
-      "      --against OLD  also show what is new, gone and moved since that "
-      "file\n"
-      "  -p, --paper SIZE   A4, A3, A2, A1 or A0; unless given, the smallest "
-      "on\n"
-      "                     which the names have room beside their points\n"
-      WAITING },
+      "      --against OLD  also show what became of them since that file, as "
+      "diff\n"
+      "                     says it\n"
+      "      --tolerance MM  moves of no more millimetres are no change\n"
+      "  -p, --paper SIZE   A4, A3, A2, A1 or A0; unless given, A4 or A3, and "
+      "larger\n"
+      "                     where names would find no place\n"
+      WAITING PATTERNS },
     { "figure", OPTION_STATION | OPTION_SIGMA | OPTION_SVG, 2, ANY_NUMBER,
       run_figure,
       "bhtf figure FILE --station E,N NAME NAME NAME .. [--sigma MGON] "
       "[--svg]\n"
       "Says how well directions from a station at easting E and northing N to\n"
       "the named points would determine it: good (status 0), weak or not\n"
-      "determined (status 1), and why. Geometry alone is judged.\n"
+      "determined (status 1), and why; status 2 if that cannot be told. "
+      "Geometry alone\n"
+      "is judged.\n"
       "  -s, --station E,N  where the station is, or will be, in metres\n"
       "      --sigma MGON   standard deviation of a direction; 1 unless given\n"
       "      --svg          print a picture instead of words\n"
-      WAITING NAMES },
+      WAITING NAMES PATTERNS },
+    { "sum", OPTION_LONG, 1, ANY_NUMBER, run_sum,
+      "bhtf sum FILE..\n"
+      "Prints a short sum of each file's bytes, as 7f3a-91c2, which office and "
+      "station\n"
+      "can compare by voice; deltas and check name the same.\n"
+      "  -l, --long         all 64 digits of the SHA-256\n"
+      WAITING },
+    { "copy", OPTION_NO_SYNC, 2, 2, run_copy,
+      "bhtf copy FILE NEW\n"
+      "Makes a copy with the same bytes, also while others change FILE, and "
+      "says its\n"
+      "sum. An existing file is never overwritten.\n"
+      NO_SYNC QUIET WAITING },
+    { "show", 0, 1, 2, run_show,
+      "bhtf show CHANGES [COPY]\n"
+      "Says what a delta is: its records, with the sums of the files that they "
+      "lead\n"
+      "from and to. With a copy of the file, also what becomes of its points, "
+      "as diff\n"
+      "says it; if the copy has the records already, the points that they "
+      "wrote.\n"
+      "Nothing is changed.\n"
+      QUIET WAITING },
     { "scramble", 0, 1, 1, run_scramble,
       "bhtf scramble SEED\n"
       "Prints the 95 numbers, one a line, by which names are scattered in a "
@@ -318,8 +452,12 @@ void help_print(FILE *to)
           "\n"
           "  bhtf create FILE            make an empty file\n"
           "  bhtf add FILE NAME [TEXT]   store a point\n"
+          "  bhtf set FILE NAME ..       change a coordinate or a note\n"
+          "  bhtf rename FILE NAME NEW   give a point another name\n"
           "  bhtf withdraw FILE NAME     take a point's text away\n"
           "  bhtf delete FILE NAME       take a point out\n"
+          "  bhtf batch FILE CHANGES     make several such changes as one\n"
+          "  bhtf log FILE [NAME]        print who changed what, and when\n"
           "  bhtf get FILE NAME..        print texts of points\n"
           "  bhtf count FILE             print the number of points\n"
           "  bhtf list FILE              print the names\n"
@@ -333,6 +471,10 @@ void help_print(FILE *to)
           "  bhtf load FILE DUMP         make a file of such a text\n"
           "  bhtf delta OLD NEW          print what changed, for a copy\n"
           "  bhtf apply COPY             bring a copy up to date with that\n"
+          "  bhtf show CHANGES [COPY]    say what that changes\n"
+          "  bhtf copy FILE NEW          make a copy with the same bytes\n"
+          "  bhtf sum FILE..             print a short sum to compare by voice\n"
+          "  bhtf recover FILE           look at a journal that stops commands\n"
           "  bhtf diff OLD NEW           say what became of the points\n"
           "  bhtf plot FILE              print a plan as SVG\n"
           "  bhtf figure FILE --station E,N NAME..\n"

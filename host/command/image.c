@@ -14,8 +14,8 @@
 static void end_on_bus_error(int number)
 {
     static const char words[] =
-        "bhtf: the file was cut short by another program, or its disk failed, "
-        "while it was in use\n";
+        "bhtf: the file was cut short by another program, or its disk is full "
+        "or failed, while it was in use\n";
     ssize_t ignored = write(STDERR_FILENO, words, sizeof words - 1);
 
     (void)ignored;
@@ -60,7 +60,7 @@ static int take_bytes(struct image *i)
     i->bytes = (uint8_t *)bhtf_file_image(i->file, &i->length);
     if (i->writing && bhtf_file_begin(i->file) != BHTF_ACCEPTED)
         return fail(bhtf_file_error(i->file));
-    return 0;
+    return i->writing ? log_begin(&i->log, i->path, i->bytes, i->length) : 0;
 }
 
 uint8_t *image_writable(struct image *i)
@@ -128,25 +128,42 @@ static int name_new(struct image *i)
     bhtf_file_new *created = i->created;
 
     i->created = NULL;
-    return bhtf_file_new_end(created) == BHTF_ACCEPTED ? 0 : fail(&i->why);
+    if (bhtf_file_new_end(created) != BHTF_ACCEPTED)
+        return fail(&i->why);
+    return log_start(i->path);
 }
 
 static int commit(struct image *i)
 {
+    const uint8_t *bytes = bhtf_file_image(i->file, &i->length);
+
+    if (log_put(&i->log, bytes, i->length, i->sync) != 0) {
+        complain("%s: is as it was", i->path);
+        return -1;
+    }
     i->committed = bhtf_file_commit(i->file) == BHTF_ACCEPTED;
+    if (i->committed)
+        tell_stored();
     i->unsure = !i->committed && bhtf_file_unsure(i->file);
     return i->committed ? 0 : fail(bhtf_file_error(i->file));
 }
 
+/* Where the change is on the disk, a journal that stays is a matter of the next
+ * writer. */
 static int close_file(struct image *i)
 {
     uint32_t number = bhtf_file_close(i->file);
 
     i->file = NULL;
+    log_end(&i->log);
     if (number == BHTF_ACCEPTED)
         return 0;
-    complain("%s: cannot be closed", i->path);
-    return -1;
+    if (i->committed)
+        complain("%s: warning: the change is stored, but its journal cannot be "
+                 "removed", i->path);
+    else
+        complain("%s: cannot be closed", i->path);
+    return i->committed ? 0 : -1;
 }
 
 int image_close(struct image *i)

@@ -4,6 +4,7 @@
 
 #include "bhtf_file.h"
 #include "buffer.h"
+#include "log_append.h"
 
 #include <signal.h>
 #include <stdint.h>
@@ -21,6 +22,7 @@ struct image {
     int unsure;      /* whether it did: the disk failed on the way */
     const volatile sig_atomic_t *stop; /* ends a wait for locks; may be NULL */
     struct bhtf_file_error why; /* a new one cannot be made */
+    struct log_append log;
 };
 
 /* How a file is opened: what the command line says of it. */

@@ -24,10 +24,19 @@ struct area {
     double bottom;
 };
 
+/* A circle that is drawn, and that names keep off. */
+struct ring {
+    double x;
+    double y;
+    double radius;
+};
+
 /* Places all names, which are `height` high, beside points that take `mark`
  * to each side; near their points where there is room, else up to `reach`
- * away. Answers how many found no place, or -1 for no memory. */
+ * away, and off the ring, which may be NULL. Answers how many found no
+ * place, or -1 for no memory. */
 long labels_place(struct label *labels, size_t count, const struct area *area,
-                  double height, double mark, double reach);
+                  double height, double mark, double reach,
+                  const struct ring *ring);
 
 #endif

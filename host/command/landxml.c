@@ -25,7 +25,9 @@ struct landxml {
     struct buffer note;
     struct buffer text;
     int units;                /* metres were met */
+    int gone;                 /* it is destroyed, abandoned or proposed */
     size_t references;
+    size_t left_out;          /* points of such a state */
     char others[OTHERS][OTHER]; /* parts of the file that are not points */
     size_t other_count;
     int status;
@@ -76,6 +78,14 @@ static void keep(struct landxml *x, struct buffer *to, const char *word)
         stop_for_memory(x);
 }
 
+/* Is the point none that can be used? */
+static int is_gone(const char *state)
+{
+    return state != NULL && (strcmp(state, "destroyed") == 0 ||
+                             strcmp(state, "abandoned") == 0 ||
+                             strcmp(state, "proposed") == 0);
+}
+
 static void begin_point(struct landxml *x, const char **attributes)
 {
     const char *note = attribute(attributes, "desc");
@@ -85,7 +95,9 @@ static void begin_point(struct landxml *x, const char **attributes)
     x->refers = attribute(attributes, "pntRef") != NULL;
     x->text.length = 0;
     keep(x, &x->name, attribute(attributes, "name"));
-    keep(x, &x->note, note != NULL ? note : attribute(attributes, "code"));
+    keep(x, &x->note, note != NULL && note[0] != '\0'
+                          ? note : attribute(attributes, "code"));
+    x->gone = is_gone(attribute(attributes, "state"));
 }
 
 static void check_unit(struct landxml *x, const char *element,
@@ -197,6 +209,10 @@ static void end_point(struct landxml *x)
         x->references++;
         return;
     }
+    if (x->gone) {
+        x->left_out++;
+        return;
+    }
     if (x->name.length == 0) {
         stop(x, x->line, "the CgPoint has no name");
         return;
@@ -221,11 +237,15 @@ static void XMLCALL end(void *user, const char *name)
     x->depth--;
 }
 
-static void say_rest(const struct landxml *x)
+static void say_rest(const struct landxml *x, int quiet)
 {
     if (!x->units)
         complain("%s: warning: the file does not say its units; metres are "
                  "taken", x->a->input);
+    say_loss(x->a->input, x->left_out, "CgPoint", "destroyed, abandoned or "
+                                                  "proposed left out");
+    if (quiet)
+        return;
     say_loss(x->a->input, x->references, "CgPoint", "that refers to another "
                                                     "point left out");
     for (size_t i = 0; i < x->other_count; i++)
@@ -256,8 +276,8 @@ int landxml_read(struct arrivals *a, struct piece file, int quiet)
         return out_of_memory();
     parse(&x, file);
     XML_ParserFree(x.parser);
-    if (x.status == DONE && !quiet)
-        say_rest(&x);
+    if (x.status == DONE)
+        say_rest(&x, quiet);
     buffer_free(&x.name);
     buffer_free(&x.note);
     buffer_free(&x.text);
@@ -273,7 +293,8 @@ static void put_head(const char *file)
     struct stat about;
     struct tm utc;
 
-    if (stat(file, &about) == 0 && gmtime_r(&about.st_mtime, &utc) != NULL)
+    if (stat(file, &about) == 0 && gmtime_r(&about.st_mtime, &utc) != NULL &&
+        utc.tm_year >= -900 && utc.tm_year < 8100) /* years of four digits */
         strftime(date, sizeof date, "date=\"%Y-%m-%d\" time=\"%H:%M:%S\"",
                  &utc);
     printf("<?xml version=\"1.0\" encoding=\"UTF-8\"?>\n"
@@ -306,15 +327,14 @@ static void put_place(const struct piece fields[POINT_FIELDS])
     }
 }
 
-static int put_spot(const struct spot *s, struct buffer *shown,
-                    struct record *r, size_t *lost)
+/* A name is written with its own characters, or its point is left out. */
+static int put_spot(const struct spot *s, struct record *r, size_t *lost)
 {
-    struct piece fields[POINT_FIELDS], name;
+    const struct piece name = { s->name, s->name_length };
+    struct piece fields[POINT_FIELDS];
 
-    if (spot_show(shown, s) != 0 || !point_take(r, s->text, fields))
+    if (!point_take(r, s->text, fields))
         return out_of_memory();
-    name.bytes = shown->bytes;
-    name.length = shown->length - 1;
     fputs("<CgPoint", stdout);
     put_attribute("name", name, lost);
     if (fields[NOTE].length > 0)
@@ -327,21 +347,27 @@ static int put_spot(const struct spot *s, struct buffer *shown,
 
 int landxml_write(const struct site *s, const struct options *o)
 {
-    struct buffer shown = { NULL, 0, 0 };
     struct record record;
-    size_t lost = 0;
+    size_t lost = 0, unnamed = 0;
     int status = DONE;
 
     memset(&record, 0, sizeof record);
     put_head(o->word[0]);
-    for (size_t i = 0; i < s->count && status == DONE; i++)
-        if (s->spots[i].kind == SPOT_PLACED)
-            status = put_spot(&s->spots[i], &shown, &record, &lost);
+    for (size_t i = 0; i < s->count && status == DONE; i++) {
+        const struct spot *spot = &s->spots[i];
+
+        if (spot->kind != SPOT_PLACED)
+            continue;
+        if (xml_holds((const char *)spot->name, spot->name_length))
+            status = put_spot(spot, &record, &lost);
+        else
+            unnamed++;
+    }
     fputs("</CgPoints>\n</LandXML>\n", stdout);
-    buffer_free(&shown);
     buffer_free(&record.bytes);
-    if (!o->quiet)
-        say_loss(o->word[0], lost, "note", "with characters that XML cannot "
-                                           "hold, put as U+FFFD");
-    return status;
+    say_loss(o->word[0], unnamed, "point", "left out: the name has characters "
+                                           "that XML cannot hold");
+    say_loss(o->word[0], lost, "note", "with characters that XML cannot hold, "
+                                       "put as U+FFFD");
+    return status == DONE && unnamed + lost > 0 ? PARTIAL : status;
 }

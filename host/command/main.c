@@ -63,6 +63,7 @@ static int run_command(const struct command *command, int count, char **words)
         help_print_command(command, stdout);
         return finish_output(DONE);
     }
+    log_wanted((o.given & OPTION_LOG) != 0);
     return command->run(&o);
 }
 
@@ -98,5 +99,6 @@ int main(int argc, char **argv)
     command = command_find(argv[1]);
     if (command == NULL)
         return no_such_command(argv[1]);
+    log_words(argc - 1, argv + 1);
     return run_command(command, argc - 2, argv + 2);
 }

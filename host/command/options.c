@@ -47,17 +47,28 @@ static const struct row all[] = {
     { 0, "--delta", OPTION_DELTA, TEXT, AT(delta), 0, 0 },
     { 0, "--no-sync", OPTION_NO_SYNC, PLAIN, 0, 0, 0 },
     { 0, "--keep-going", OPTION_KEEP_GOING, PLAIN, 0, 0, 0 },
+    { 0, "--update", OPTION_UPDATE, PLAIN, 0, 0, 0 },
+    { 0, "--encoding", OPTION_ENCODING, TEXT, AT(encoding), 0, 0 },
+    { 0, "--drop", OPTION_DROP, TEXT, AT(drop), 0, 0 },
+    { 0, "--allow-far", OPTION_ALLOW_FAR, PLAIN, 0, 0, 0 },
+    { 0, "--allow-near", OPTION_ALLOW_NEAR, PLAIN, 0, 0, 0 },
+    { 0, "--allow-swapped", OPTION_ALLOW_SWAPPED, PLAIN, 0, 0, 0 },
+    { 0, "--log", OPTION_LOG, PLAIN, 0, 0, 0 },
     { 0, "--against", OPTION_AGAINST, TEXT, AT(against), 0, 0 },
     { 'p', "--paper", OPTION_PAPER, TEXT, AT(paper), 0, 0 },
     { 's', "--station", OPTION_STATION, TEXT, AT(station), 0, 0 },
     { 0, "--sigma", OPTION_SIGMA, TEXT, AT(sigma), 0, 0 },
     { 0, "--svg", OPTION_SVG, PLAIN, 0, 0, 0 },
     { 'b', "--by", OPTION_BY, TEXT, AT(by), 0, 0 },
+    { 0, "--tolerance", OPTION_TOLERANCE, TEXT, AT(tolerance), 0, 0 },
     { 0, "--tsv", OPTION_TSV, PLAIN, 0, 0, 0 },
     { 0, "--json", OPTION_JSON, PLAIN, 0, 0, 0 },
     { 0, "--gsi", OPTION_GSI, PLAIN, 0, 0, 0 },
     { 0, "--landxml", OPTION_LANDXML, PLAIN, 0, 0, 0 },
     { 0, "--dxf", OPTION_DXF, PLAIN, 0, 0, 0 },
+    { 0, "--spreadsheet", OPTION_SPREADSHEET, PLAIN, 0, 0, 0 },
+    { 0, "--finish", OPTION_FINISH, PLAIN, 0, 0, 0 },
+    { 0, "--set-aside", OPTION_SET_ASIDE, PLAIN, 0, 0, 0 },
     { 'w', "--wait", 0, NUMBER, AT(wait), 0, WAIT_MAX },
     { 'q', "--quiet", 0, PLAIN, AT(quiet), 0, 0 },
     { 'h', "--help", 0, PLAIN, AT(help), 0, 0 },
@@ -231,6 +242,14 @@ static int complete(const struct options *o, const struct command *command)
     }
     if ((o->given & OPTION_REPLACE) && (o->given & OPTION_APPEND)) {
         complain("%s: --replace or --append, not both", command->name);
+        return TROUBLE;
+    }
+    if ((o->given & OPTION_REPLACE) && (o->given & OPTION_UPDATE)) {
+        complain("%s: --replace or --update, not both", command->name);
+        return TROUBLE;
+    }
+    if ((o->given & OPTION_DROP) && !(o->given & OPTION_REPLACE)) {
+        complain("%s: --drop goes with --replace", command->name);
         return TROUBLE;
     }
     return DONE;

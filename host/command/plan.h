@@ -2,12 +2,10 @@
 #ifndef PLAN_H
 #define PLAN_H
 
+#include "change.h"
 #include "commands.h"
-#include "coords.h"
 #include "labels.h"
 #include "svg.h"
-
-enum change { SAME, NEW, MOVED, GONE, CHANGES };
 
 #define NAME_SIZE 3.4  /* millimetres */
 #define MARK_SIZE 1.7  /* a point's mark to each side */
@@ -18,7 +16,7 @@ struct mark {
     struct at at;
     struct at before;      /* a moved point's old place */
     struct move move;
-    char *text;            /* its name, and by how much it moved */
+    char *text;            /* its name, and what became of it */
 };
 
 struct plan {
@@ -28,9 +26,12 @@ struct plan {
     struct mark *marks;
     struct label *labels;  /* of the marks */
     size_t count;
-    size_t changes[CHANGES];
+    struct reckoning r;    /* with --against */
+    struct buffer placeless; /* changed points that have no place, in words */
+    size_t placeless_count;
     struct sheet sheet;
     const char *paper;
+    double arrows;         /* how many times as long as to scale; 0 for none */
     long unnamed;          /* names that found no place */
 };
 

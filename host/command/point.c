@@ -125,7 +125,19 @@ int point_take(struct record *r, struct piece text,
     return 1;
 }
 
-static double number_of(struct piece p)
+int point_fields(struct record *r, struct piece text,
+                 struct piece fields[POINT_FIELDS])
+{
+    int field;
+
+    if (!point_take(r, text, fields))
+        return 0;
+    for (int i = EASTING; i <= HEIGHT; i++)
+        fields[i] = piece_trim(fields[i]);
+    return point_fault(fields, '.', &field) == NO_FAULT;
+}
+
+double point_number(struct piece p)
 {
     char digits[64];
     size_t length = p.length < sizeof digits ? p.length : sizeof digits - 1;
@@ -140,10 +152,13 @@ int point_place(struct record *r, struct piece text, double *easting,
 {
     struct piece fields[POINT_FIELDS];
 
-    if (!point_take(r, text, fields) || !is_number(fields[EASTING], '.') ||
-        !is_number(fields[NORTHING], '.'))
+    if (!point_take(r, text, fields))
         return 0;
-    *easting = number_of(fields[EASTING]);
-    *northing = number_of(fields[NORTHING]);
+    fields[EASTING] = piece_trim(fields[EASTING]);
+    fields[NORTHING] = piece_trim(fields[NORTHING]);
+    if (!is_number(fields[EASTING], '.') || !is_number(fields[NORTHING], '.'))
+        return 0;
+    *easting = point_number(fields[EASTING]);
+    *northing = point_number(fields[NORTHING]);
     return 1;
 }

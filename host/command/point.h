@@ -37,6 +37,14 @@ int point_put(struct buffer *to, const struct piece fields[POINT_FIELDS]);
 int point_take(struct record *r, struct piece text,
                struct piece fields[POINT_FIELDS]);
 
+/* The same, and 1 only if the coordinates are numbers or empty, easting and
+ * northing both or neither; without the blanks around them. */
+int point_fields(struct record *r, struct piece text,
+                 struct piece fields[POINT_FIELDS]);
+
+/* A plain decimal number's value. */
+double point_number(struct piece p);
+
 /* Easting and northing as numbers: 1 if the text has both. */
 int point_place(struct record *r, struct piece text, double *easting,
                 double *northing);

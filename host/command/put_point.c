@@ -4,6 +4,8 @@
  * empty data is a text in its other modes. */
 #include "put_point.h"
 
+#include "long_work.h"
+
 #include "bhtf.h"
 #include "complain.h"
 #include "space_used.h"
@@ -78,6 +80,9 @@ uint64_t room_by_compaction(struct target to, const struct buffer *key,
 
     view.bytes = to.image;
     view.length = to.length;
+    /* The writer's lock is held, and this is advice only. */
+    if (slots_displaced(to.image, to.length, &h) > SLOTS_BEARABLE)
+        return 0;
     bhtf_check(to.image, to.length, &verdict, &slot);
     if (verdict != BHTF_SOUND)
         return 0;

@@ -6,6 +6,7 @@
 #include "rows.h"
 
 #include "complain.h"
+#include "terminal.h"
 #include "utf8.h"
 
 #include <string.h>
@@ -15,18 +16,21 @@
 static void put_tsv(struct piece p)
 {
     static const char special[] = "\t\n\r\\", letters[] = "tnr\\";
+    size_t done = 0;
 
     for (size_t i = 0; i < p.length; i++) {
         const char *found = p.bytes[i] == 0 ? NULL
                                             : strchr(special, p.bytes[i]);
 
-        if (found == NULL) {
-            putchar(p.bytes[i]);
-        } else {
-            putchar('\\');
-            putchar(letters[found - special]);
-        }
+        if (found == NULL)
+            continue;
+        put_bytes(p.bytes + done, i - done);
+        putchar('\\');
+        putchar(letters[found - special]);
+        done = i + 1;
     }
+    if (p.length > done)
+        put_bytes(p.bytes + done, p.length - done);
 }
 
 static void put_tsv_row(struct rows *r, const struct spot *s)
@@ -34,7 +38,7 @@ static void put_tsv_row(struct rows *r, const struct spot *s)
     struct piece fields[POINT_FIELDS];
 
     printf("%s\t%lu", (const char *)r->name.bytes, (unsigned long)s->slot);
-    if (s->kind == SPOT_PLACED && point_take(&r->record, s->text, fields)) {
+    if (has_coordinates(s) && point_take(&r->record, s->text, fields)) {
         for (int i = 0; i < POINT_FIELDS; i++) {
             putchar('\t');
             put_tsv(fields[i]);
@@ -50,14 +54,24 @@ static void put_tsv_row(struct rows *r, const struct spot *s)
 
 /* ---- JSON ---- */
 
-static void put_json_character(const uint8_t *at, size_t length)
+/* What does not print by its number, which may take two. */
+static void put_json_number_of(uint32_t c)
+{
+    if (c > 0xFFFF) {
+        printf("\\u%04lx", (unsigned long)(0xD800 + ((c - 0x10000) >> 10)));
+        c = 0xDC00 + ((c - 0x10000) & 0x3FF);
+    }
+    printf("\\u%04lx", (unsigned long)c);
+}
+
+static void put_json_character(const uint8_t *at, size_t length, uint32_t c)
 {
     if (length == 0)
         fputs("\\ufffd", stdout);
     else if (*at == '"' || *at == '\\')
         printf("\\%c", *at);
-    else if (*at < 32)
-        printf("\\u%04x", *at);
+    else if (utf8_prints(at, length) == 0)
+        put_json_number_of(c);
     else
         fwrite(at, 1, length, stdout);
 }
@@ -70,7 +84,7 @@ static void put_json(struct piece p)
         uint32_t c;
         size_t used = utf8_read(p.bytes, p.length, &c);
 
-        put_json_character(p.bytes, used);
+        put_json_character(p.bytes, used, c);
         used = used > 0 ? used : 1;
         p.bytes += used;
         p.length -= used;
@@ -102,7 +116,8 @@ static void put_json_number(struct piece p)
 static void put_json_fields(const struct piece fields[POINT_FIELDS])
 {
     for (int i = 0; i < POINT_FIELDS; i++) {
-        if (fields[i].length == 0)
+        if (fields[i].length == 0 ||
+            (i != NOTE && piece_trim(fields[i]).length == 0))
             continue;
         printf(",\"%s\":", point_words[i]);
         if (i == NOTE)
@@ -128,7 +143,7 @@ static void put_json_row(struct rows *r, const struct spot *s)
     fputs("{\"name\":", stdout);
     put_json(name);
     printf(",\"slot\":%lu", (unsigned long)s->slot);
-    if (s->kind == SPOT_PLACED && point_take(&r->record, s->text, fields)) {
+    if (has_coordinates(s) && point_take(&r->record, s->text, fields)) {
         put_json_fields(fields);
     } else if (s->kind == SPOT_DAMAGED) {
         fputs(",\"damaged\":true", stdout);
@@ -159,7 +174,7 @@ static void put_long_row(const struct rows *r, const struct spot *s)
 static void put_text_row(const struct rows *r, const struct spot *s)
 {
     printf("%s\t", (const char *)r->name.bytes);
-    fwrite(s->text.bytes, 1, s->text.length, stdout);
+    put_bytes(s->text.bytes, s->text.length);
     if (s->text.length == 0 || s->text.bytes[s->text.length - 1] != '\n')
         putchar('\n');
 }

@@ -45,6 +45,17 @@ double round_up(double least)
     return step_up(least, steps);
 }
 
+double round_down(double most)
+{
+    static const double steps[] = { 5, 2, 1 };
+    double unit = pow(10, floor(log10(most) + 1e-9));
+    int i = 0;
+
+    while (i < 2 && steps[i] * unit > most * (1 + 1e-9))
+        i++;
+    return steps[i] * unit;
+}
+
 /* Scales for which there are rulers, or that are easily reckoned. */
 static double scale_up(double least)
 {
@@ -119,7 +130,10 @@ size_t xml_put(FILE *to, const char *bytes, size_t length)
         uint32_t c;
         size_t used = utf8_read((const uint8_t *)bytes, length, &c);
 
-        if (used > 0 && is_xml(c)) {
+        if (used > 0 && is_xml(c) && c >= 160 &&
+            utf8_prints((const uint8_t *)bytes, length) == 0) {
+            fprintf(to, "&#x%lX;", (unsigned long)c);
+        } else if (used > 0 && is_xml(c)) {
             put_escaped(to, bytes, used);
         } else {
             fputs("\xEF\xBF\xBD", to);
@@ -132,6 +146,20 @@ size_t xml_put(FILE *to, const char *bytes, size_t length)
     return replaced;
 }
 
+int xml_holds(const char *bytes, size_t length)
+{
+    while (length > 0) {
+        uint32_t c;
+        size_t used = utf8_read((const uint8_t *)bytes, length, &c);
+
+        if (used == 0 || !is_xml(c))
+            return 0;
+        bytes += used;
+        length -= used;
+    }
+    return 1;
+}
+
 void svg_text(double x, double y, double size, const char *anchor,
               const char *text)
 {
@@ -141,22 +169,26 @@ void svg_text(double x, double y, double size, const char *anchor,
     fputs("</text>\n", stdout);
 }
 
-/* Characters of East Asia and pictures take two places. */
 double text_width(const char *text, double size)
 {
-    size_t length = strlen(text);
-    double places = 0;
+    return places_of(text) * size * 0.61;
+}
 
-    while (length > 0) {
-        uint32_t c = 0;
-        size_t used = utf8_read((const uint8_t *)text, length, &c);
+double title_size(const char *text, double size, double width)
+{
+    double wide = text_width(text, size);
 
-        places += used > 0 && c >= 0x1100 ? 2 : 1;
-        used = used > 0 ? used : 1;
-        text += used;
-        length -= used;
-    }
-    return places * size * 0.61;
+    return wide <= width ? size : size * width / wide;
+}
+
+void file_word(char *to, size_t room, const char *path)
+{
+    const char *slash = strrchr(path, '/');
+    const char *name = slash != NULL ? slash + 1 : path;
+
+    snprintf(to, room, "%s", name);
+    if (strlen(name) >= room)
+        memcpy(to + room - 3, "..", 3);
 }
 
 /* ---- the drawing ---- */
@@ -267,9 +299,19 @@ static void draw_bar_part(const struct sheet *s, int part, double metres)
            s->bottom + 10, wide, part % 2 == 0 ? "#222" : "#fff");
 }
 
+static double bar_part(const struct sheet *s)
+{
+    return round_up(bar_least * s->scale / 1000);
+}
+
+double sheet_bar_end(const struct sheet *s)
+{
+    return s->left + BAR_PARTS * bar_part(s) * 1000 / s->scale;
+}
+
 static void draw_bar(const struct sheet *s)
 {
-    double metres = round_up(bar_least * s->scale / 1000);
+    double metres = bar_part(s);
     double y = s->bottom + 8.8;
     char label[40];
 
@@ -277,11 +319,10 @@ static void draw_bar(const struct sheet *s)
     for (int part = 0; part < BAR_PARTS; part++)
         draw_bar_part(s, part, metres);
     svg_text(s->left, y, 2.8, "middle", "0");
-    snprintf(label, sizeof label, "%g", 2 * metres);
+    snprintf(label, sizeof label, "%.10g", 2 * metres);
     svg_text(s->left + 2 * metres * 1000 / s->scale, y, 2.8, "middle", label);
     snprintf(label, sizeof label, "%.10g m", BAR_PARTS * metres);
-    svg_text(s->left + BAR_PARTS * metres * 1000 / s->scale, y, 2.8, "middle",
-             label);
+    svg_text(sheet_bar_end(s), y, 2.8, "middle", label);
     fputs("</g>\n", stdout);
 }
 

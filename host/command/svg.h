@@ -27,6 +27,9 @@ struct bounds {
  * `least`, which is above 0. */
 double round_up(double least);
 
+/* The last of them that is not above `most`. */
+double round_down(double most);
+
 void bounds_put(struct bounds *b, const struct at *place);
 
 /* Puts the bounds into the middle of the frame, at the largest round scale at
@@ -44,12 +47,25 @@ void svg_end(void);
 /* Frame, grid with its coordinates, north arrow and scale bar. */
 void sheet_draw(const struct sheet *s);
 
+/* The scale bar ends here, in millimetres of paper. */
+double sheet_bar_end(const struct sheet *s);
+
 /* Bytes as XML text. What XML cannot hold becomes U+FFFD; answers how many. */
 size_t xml_put(FILE *to, const char *bytes, size_t length);
+
+/* Can XML hold these bytes as they are? */
+int xml_holds(const char *bytes, size_t length);
 
 /* A line of text; anchor is start, middle or end. */
 void svg_text(double x, double y, double size, const char *anchor,
               const char *text);
+
+/* A path's last part, at most so many bytes of it, for a title. */
+void file_word(char *to, size_t room, const char *path);
+
+/* The size of letters, `size` at most, at which a title fits so many
+ * millimetres. */
+double title_size(const char *text, double size, double width);
 
 /* Millimetres that a text takes in a type of fixed width, at most. */
 double text_width(const char *text, double size);

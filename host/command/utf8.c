@@ -1,6 +1,8 @@
 /* UTF-8: its characters, and what of it prints. */
 #include "utf8.h"
 
+#include <string.h>
+
 struct range {
     uint32_t first;
     uint32_t last;
@@ -84,4 +86,21 @@ int utf8_whole(const uint8_t *bytes, size_t length)
         length -= step;
     }
     return 1;
+}
+
+int places_of(const char *text)
+{
+    size_t left = strlen(text);
+    int places = 0;
+
+    while (left > 0) {
+        uint32_t c = 0;
+        size_t used = utf8_read((const uint8_t *)text, left, &c);
+
+        places += used > 0 && c >= 0x1100 ? 2 : 1;
+        used = used > 0 ? used : 1;
+        text += used;
+        left -= used;
+    }
+    return places;
 }

@@ -17,4 +17,8 @@ size_t utf8_prints(const uint8_t *at, size_t left);
 /* Are these bytes UTF-8 throughout, whether they print or not? */
 int utf8_whole(const uint8_t *bytes, size_t length);
 
+/* Places on a screen that a text takes; characters of East Asia and pictures
+ * take two. */
+int places_of(const char *text);
+
 #endif

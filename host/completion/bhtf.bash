@@ -8,35 +8,33 @@ _bhtf_options() {
   echo --help
 }
 
-# Which word of the command line this is, options and files of records not
-# counted: 1 the command, 2 the file, 3 what is behind it.
-_bhtf_place() {
-  local i place=1
-  for ((i = 1; i < COMP_CWORD; i++)); do
-    case ${COMP_WORDS[i - 1]}:${COMP_WORDS[i]} in
-      *:-* | --delta:*) ;;
-      *) place=$((place + 1)) ;;
-    esac
-  done
-  echo "$place"
+# The options of a command that a value follows, between blanks.
+_bhtf_valued() {
+  "$1" help "$2" 2>/dev/null |
+    sed -n 's/^  *\(\(-[A-Za-z]\), \)\{0,1\}\(--[a-z-]*\) [A-Z].*/ \2 \3 /p' | tr -d '\n'
 }
 
-# The first word behind the command that is no option: the file.
-_bhtf_file() {
-  local i
-  for ((i = 2; i < COMP_CWORD; i++)); do
-    case ${COMP_WORDS[i - 1]}:${COMP_WORDS[i]} in
-      *:-* | --delta:*) ;;
-      *) echo "${COMP_WORDS[i]}"; return ;;
-    esac
+# The words in front of the one to complete that are neither options nor values
+# of options, one a line: the command, the file, what is behind it.
+_bhtf_plain() {
+  local i valued=' ' previous=
+  valued=$(_bhtf_valued "${COMP_WORDS[0]}" "${COMP_WORDS[1]:-}")
+  for ((i = 1; i < COMP_CWORD; i++)); do
+    if [[ ${COMP_WORDS[i]} != -* && ( -z $previous || $valued != *" $previous "* ) ]]; then
+      printf '%s\n' "${COMP_WORDS[i]}"
+      previous=
+    else
+      [[ ${COMP_WORDS[i]} == -* ]] && previous=${COMP_WORDS[i]} || previous=
+    fi
   done
 }
 
 _bhtf() {
   local program=${COMP_WORDS[0]} command=${COMP_WORDS[1]:-} current=${COMP_WORDS[COMP_CWORD]}
-  local previous=${COMP_WORDS[COMP_CWORD - 1]} place words=()
+  local previous=${COMP_WORDS[COMP_CWORD - 1]} place words=() plain=()
   COMPREPLY=()
-  place=$(_bhtf_place)
+  mapfile -t plain < <(_bhtf_plain)
+  place=$((${#plain[@]} + 1))
   if [ "$COMP_CWORD" -eq 1 ] || { [ "$command" = help ] && [ "$COMP_CWORD" -eq 2 ]; }; then
     mapfile -t words < <(_bhtf_commands "$program")
     [ "$command" = help ] && [ "$COMP_CWORD" -eq 2 ] || words+=(help --help --version)
@@ -45,16 +43,18 @@ _bhtf() {
   else
     case $previous in
       --columns | -c) words=(PNEZD PENZD "name,easting,northing,height,note") ;;
-      --delimiter | -d) words=(comma semicolon tab) ;;
+      --delimiter | -d) words=(comma semicolon tab blank) ;;
+      --encoding) words=(utf-8 windows-1252 utf-16 bytes) ;;
+      --drop) words=(easting,northing height note text) ;;
       --decimal) words=(comma point) ;;
       --by | -b) words=(name slot) ;;
       --format) words=(1.0.2 1.0.1 1.0.0) ;;
       --paper | -p) words=(A4 A3 A2 A1 A0) ;;
       --delta) compopt -o default 2>/dev/null ;;
       *)
-        if { [ "$place" -eq 3 ] && [[ $command =~ ^(get|delete|withdraw|add)$ ]]; } ||
-          { [ "$place" -gt 2 ] && [[ $command =~ ^(get|figure)$ ]]; }; then
-          mapfile -t words < <("$program" list "$(_bhtf_file)" --wait 0 2>/dev/null)
+        if { [ "$place" -eq 3 ] && [[ $command =~ ^(delete|withdraw|add|set|rename|log)$ ]]; } ||
+          { [ "$place" -gt 2 ] && [[ $command =~ ^(get|figure|list|delete|export|plot)$ ]]; }; then
+          mapfile -t words < <("$program" list "${plain[1]}" --wait 0 2>/dev/null)
         else
           compopt -o default 2>/dev/null
         fi

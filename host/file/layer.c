@@ -48,16 +48,28 @@ void layer_put_error(char *words, size_t room, int error)
     snprintf(words + used, room - used, ": %s", text);
 }
 
+const char *layer_shown(const char *path, char room[LAYER_SHOWN])
+{
+    size_t length = strlen(path);
+
+    if (length < LAYER_SHOWN)
+        return path;
+    snprintf(room, LAYER_SHOWN, "...%s", path + length - (LAYER_SHOWN - 4));
+    return room;
+}
+
 uint32_t layer_fail(bhtf_file *f, uint32_t number, int error,
                     const char *format, ...)
 {
     struct bhtf_file_error *why = &f->why;
+    char shown[LAYER_SHOWN];
     size_t used;
     va_list list;
 
     why->number = number;
     why->error = error;
-    snprintf(why->words, sizeof why->words - 128, "%s: ", f->path);
+    snprintf(why->words, sizeof why->words, "%s: ",
+             layer_shown(f->path, shown));
     used = strlen(why->words);
     va_start(list, format);
     vsnprintf(why->words + used, sizeof why->words - used, format, list);
@@ -98,33 +110,13 @@ int bhtf_file_unsure(const bhtf_file *file)
 
 /* ---- names ---- */
 
-int layer_sync_directory(const char *path)
-{
-    int fd = open(path, O_RDONLY | O_CLOEXEC);
-    int error = fd >= 0 && fsync(fd) == 0 ? 0 : errno;
-
-    if (fd >= 0)
-        close(fd);
-    return error == EACCES || error == EINVAL ? 0 : error;
-}
-
+/* Does a name, through its links, lead to the open file? */
 static int leads_here(const bhtf_file *f, const char *name)
 {
     struct stat ours, there;
 
     return fstat(f->fd, &ours) == 0 && stat(name, &there) == 0 &&
            ours.st_dev == there.st_dev && ours.st_ino == there.st_ino;
-}
-
-static uint32_t replaced(bhtf_file *f)
-{
-    return layer_fail(f, BHTF_FILE_REPLACED, 0, "another program removed or "
-                      "replaced the file while it was in use");
-}
-
-uint32_t layer_ask_name(bhtf_file *f)
-{
-    return leads_here(f, f->real) ? BHTF_ACCEPTED : replaced(f);
 }
 
 int layer_is_owner(const bhtf_file *f)
@@ -143,24 +135,50 @@ static char *join_words(const char *a, size_t length, const char *b)
     return joined;
 }
 
-static char *directory_of(const char *real)
+/* What is after a path's last slash. */
+static const char *entry_of(const char *path)
 {
-    const char *slash = strrchr(real, '/');
+    const char *slash = strrchr(path, '/');
 
-    return slash == NULL ? join_words(".", 1, "")
-                         : join_words(real, (size_t)(slash - real) + 1, "");
+    return slash == NULL ? path : slash + 1;
 }
 
-/* Names beside `real`, which is taken over. */
-static int take_names(bhtf_file *f, char *real)
+static void forget_names(bhtf_file *f)
 {
     free(f->real);
     free(f->journal_path);
-    free(f->directory);
+    free(f->draft_path);
+    if (f->directory >= 0)
+        close(f->directory);
+    f->real = f->journal_path = f->draft_path = NULL;
+    f->directory = -1;
+}
+
+/* `real` is taken over: 0, or errno. */
+static int take_names(bhtf_file *f, char *real)
+{
+    char *slash;
+
+    forget_names(f);
     f->real = real;
     f->journal_path = join_words(real, strlen(real), ".journal");
-    f->directory = directory_of(real);
-    return f->journal_path != NULL && f->directory != NULL ? 0 : -1;
+    f->draft_path = join_words(real, strlen(real), ".journal.new");
+    if (f->journal_path == NULL || f->draft_path == NULL)
+        return ENOMEM;
+    f->entry = entry_of(f->real);
+    f->journal_entry = entry_of(f->journal_path);
+    f->draft_entry = entry_of(f->draft_path);
+    slash = strrchr(real, '/');
+    if (slash == NULL)
+        f->directory = layer_open_directory(".");
+    else if (slash == real)
+        f->directory = layer_open_directory("/");
+    else {
+        *slash = '\0';
+        f->directory = layer_open_directory(real);
+        *slash = '/';
+    }
+    return f->directory >= 0 ? 0 : errno;
 }
 
 /* The path from the root, or as it is where nobody knows the way to it. */
@@ -191,6 +209,7 @@ static bhtf_file *make_handle(const char *path, const struct bhtf_file_how *how)
     f->limit = f->how.wait;
     f->writing = (f->how.flags & BHTF_FILE_WRITE) != 0;
     f->fd = -1;
+    f->directory = -1;
     f->journal = -1;
     f->image = &f->none;
     f->owner = getpid();
@@ -204,9 +223,11 @@ static bhtf_file *make_handle(const char *path, const struct bhtf_file_how *how)
     return NULL;
 }
 
+/* No call changes a file that is longer than any: it needs no bits. */
 static size_t pages_of(const bhtf_file *f)
 {
-    return f->length / LAYER_PAGE + (f->length % LAYER_PAGE != 0);
+    return f->length > BHTF_IMAGE_MAX
+        ? 0 : f->length / LAYER_PAGE + (f->length % LAYER_PAGE != 0);
 }
 
 static void unmap(bhtf_file *f)
@@ -241,9 +262,7 @@ static void free_handle(bhtf_file *f)
     release(f);
     free(f->path);
     free(f->name);
-    free(f->real);
-    free(f->journal_path);
-    free(f->directory);
+    forget_names(f);
     free(f->touched);
     free(f->list);
     free(f->stage);
@@ -270,27 +289,24 @@ static uint32_t learn_length(bhtf_file *f)
         return system_failed(f, "cannot be examined");
     if (!S_ISREG(about.st_mode))
         return layer_fail(f, BHTF_FILE_UNFIT, 0, "not a regular file");
-    if (f->writing && about.st_nlink > 1)
-        return layer_fail(f, BHTF_FILE_UNFIT, 0, "the file has %lu names (hard "
-                          "links), and its journal could stand beside one of "
-                          "them only; write to a copy",
-                          (unsigned long)about.st_nlink);
     if ((uintmax_t)about.st_size > SIZE_MAX / 2)
         return layer_fail(f, BHTF_FILE_SYSTEM, EFBIG, "cannot be mapped");
     f->length = (size_t)about.st_size;
     return BHTF_ACCEPTED;
 }
 
+/* A link that has the name by now is another program's doing. */
 static uint32_t open_name(bhtf_file *f)
 {
     char *real = realpath(f->name, NULL);
+    int error = real == NULL ? errno : take_names(f, real);
 
-    if (real == NULL)
-        return system_failed(f, "cannot open");
-    if (take_names(f, real) != 0)
-        return layer_fail(f, BHTF_FILE_SYSTEM, ENOMEM, "cannot open");
-    f->fd = open(real, (f->writing ? O_RDWR : O_RDONLY) | O_CLOEXEC |
-                 O_NONBLOCK | O_NOCTTY);
+    if (error != 0)
+        return layer_fail(f, BHTF_FILE_SYSTEM, error, "cannot open");
+    f->fd = openat(f->directory, f->entry, (f->writing ? O_RDWR : O_RDONLY) |
+                   O_CLOEXEC | O_NONBLOCK | O_NOCTTY | O_NOFOLLOW);
+    if (f->fd < 0 && errno == ELOOP)
+        return layer_replaced(f);
     return f->fd >= 0 ? learn_length(f) : system_failed(f, "cannot open");
 }
 
@@ -323,7 +339,7 @@ static uint32_t open_reader(bhtf_file *f, int64_t deadline)
             number = learn_length(f);
         if (number == BHTF_ACCEPTED)
             number = map_view(f, &f->image, PROT_READ, MAP_SHARED);
-        if (number == BHTF_ACCEPTED)
+        if (number == BHTF_ACCEPTED && !f->unasked)
             number = layer_journal_read(f);
         if (number != BHTF_FILE_REPLACED || tries == 100)
             return number;
@@ -344,8 +360,14 @@ static uint32_t open_writer(bhtf_file *f, int64_t deadline)
         number = learn_length(f);
     if (number == BHTF_ACCEPTED)
         number = map_view(f, &f->disk, access, MAP_SHARED);
+    if (f->unasked)
+        return number;
     if (number == BHTF_ACCEPTED)
         number = layer_journal_recover(f, deadline);
+    if (number == BHTF_ACCEPTED)
+        number = layer_ask_names(f); /* recovery is for any number of them */
+    if (number == BHTF_ACCEPTED)
+        number = layer_lock_steady(f);
     if (number == BHTF_ACCEPTED)
         number = map_view(f, &f->image, access, MAP_PRIVATE | MAP_NORESERVE);
     if (number != BHTF_ACCEPTED)
@@ -356,8 +378,8 @@ static uint32_t open_writer(bhtf_file *f, int64_t deadline)
         ? BHTF_ACCEPTED : layer_fail(f, BHTF_FILE_SYSTEM, ENOMEM, "cannot open");
 }
 
-bhtf_file *bhtf_file_open(const char *path, const struct bhtf_file_how *how,
-                          struct bhtf_file_error *why)
+static bhtf_file *open_handle(const char *path, const struct bhtf_file_how *how,
+                              int unasked, struct bhtf_file_error *why)
 {
     bhtf_file *f = make_handle(path, how);
     int64_t deadline;
@@ -367,6 +389,7 @@ bhtf_file *bhtf_file_open(const char *path, const struct bhtf_file_how *how,
         no_memory(path, why);
         return NULL;
     }
+    f->unasked = unasked;
     deadline = layer_deadline(f);
     number = f->writing ? open_writer(f, deadline) : open_reader(f, deadline);
     if (number == BHTF_ACCEPTED)
@@ -375,6 +398,18 @@ bhtf_file *bhtf_file_open(const char *path, const struct bhtf_file_how *how,
         *why = f->why;
     free_handle(f);
     return NULL;
+}
+
+bhtf_file *bhtf_file_open(const char *path, const struct bhtf_file_how *how,
+                          struct bhtf_file_error *why)
+{
+    return open_handle(path, how, 0, why);
+}
+
+bhtf_file *layer_open_unasked(const char *path, const struct bhtf_file_how *how,
+                              struct bhtf_file_error *why)
+{
+    return open_handle(path, how, 1, why);
 }
 
 uint32_t bhtf_file_close(bhtf_file *file)
@@ -390,7 +425,7 @@ uint32_t bhtf_file_close(bhtf_file *file)
 
 const uint8_t *bhtf_file_image(const bhtf_file *file, size_t *image_len)
 {
-    *image_len = file->paused ? 0 : file->length;
+    *image_len = file->paused || !layer_is_owner(file) ? 0 : file->length;
     return file->image;
 }
 
@@ -400,8 +435,21 @@ static uint32_t for_readers(bhtf_file *f)
                       "and this is for readers");
 }
 
+static uint32_t ask_process(bhtf_file *f)
+{
+    return layer_is_owner(f)
+        ? BHTF_ACCEPTED
+        : layer_fail(f, BHTF_FILE_MISUSE, 0, "another process opened it, of "
+                     "which this one is a fork; close it here, and open it "
+                     "again");
+}
+
 uint32_t bhtf_file_pause(bhtf_file *file)
 {
+    uint32_t number = ask_process(file);
+
+    if (number != BHTF_ACCEPTED)
+        return number;
     if (file->writing)
         return for_readers(file);
     if (file->own)
@@ -421,7 +469,7 @@ static uint32_t resume(bhtf_file *f, int64_t deadline)
     if (number == BHTF_ACCEPTED)
         number = layer_ask_name(f);
     if (number == BHTF_ACCEPTED && !leads_here(f, f->name))
-        number = replaced(f);
+        number = layer_replaced(f);
     if (number == BHTF_ACCEPTED)
         number = learn_length(f);
     if (number != BHTF_ACCEPTED)
@@ -483,11 +531,13 @@ static void forget_changes(bhtf_file *f)
 
 static int put_run(bhtf_file *f, size_t from, size_t size)
 {
-    uint8_t *at = f->runs + 8 * f->run_count;
+    uint8_t *at;
 
     if (f->run_count > 0) {
-        size_t last = layer_u32(at - 8) + layer_u32(at - 4);
+        size_t last;
 
+        at = f->runs + 8 * f->run_count;
+        last = layer_u32(at - 8) + layer_u32(at - 4);
         if (from - last <= GAP) {
             f->run_bytes += from + size - last;
             layer_put_u32(at - 4, (uint32_t)(from + size - layer_u32(at - 8)));
@@ -502,8 +552,8 @@ static int put_run(bhtf_file *f, size_t from, size_t size)
             return -1;
         f->runs = runs;
         f->run_room = room;
-        at = runs + 8 * f->run_count;
     }
+    at = f->runs + 8 * f->run_count;
     layer_put_u32(at, (uint32_t)from);
     layer_put_u32(at + 4, (uint32_t)size);
     f->run_bytes += size;
@@ -594,6 +644,10 @@ static uint32_t commit(bhtf_file *f)
 
 static uint32_t ask_writer(bhtf_file *f)
 {
+    uint32_t number = ask_process(f);
+
+    if (number != BHTF_ACCEPTED)
+        return number;
     if (!f->writing)
         return layer_fail(f, BHTF_FILE_MISUSE, 0,
                           "the file is open to be read only");
@@ -768,6 +822,10 @@ uint8_t *bhtf_file_batch_image(bhtf_file *file, size_t *image_len)
     *image_len = 0;
     if (ask_batch(file) != BHTF_ACCEPTED)
         return NULL;
+    if (file->length > BHTF_IMAGE_MAX) {
+        refused(file, BHTF_BAD_LENGTH);
+        return NULL;
+    }
     file->all = 1;
     *image_len = file->length;
     return file->image;

@@ -1,6 +1,4 @@
 /* The file layer: a new file, whose name is there when all of it is. */
-#define _GNU_SOURCE /* for O_TMPFILE */
-
 #include "layer.h"
 
 #include <errno.h>
@@ -19,9 +17,10 @@
 struct bhtf_file_new {
     const char *path;
     struct bhtf_file_error *why;
-    char *directory;
+    int directory;
+    const char *entry;  /* its name there */
     char *journal;
-    char *temporary;  /* name, if it has one */
+    char *temporary;    /* path, if it has one */
     int fd;
     int sync;
     uint8_t *bytes;
@@ -30,10 +29,13 @@ struct bhtf_file_new {
 
 static uint32_t fail(bhtf_file_new *m, const char *what, int error)
 {
+    char shown[LAYER_SHOWN];
+
     if (m->why != NULL) {
         m->why->number = BHTF_FILE_SYSTEM;
         m->why->error = error;
-        snprintf(m->why->words, sizeof m->why->words, "%s: %s", m->path, what);
+        snprintf(m->why->words, sizeof m->why->words, "%s: %s",
+                 layer_shown(m->path, shown), what);
         layer_put_error(m->why->words, sizeof m->why->words, error);
     }
     errno = error;
@@ -42,11 +44,14 @@ static uint32_t fail(bhtf_file_new *m, const char *what, int error)
 
 static uint32_t is_there(bhtf_file_new *m)
 {
+    char shown[LAYER_SHOWN];
+
     if (m->why != NULL) {
         m->why->number = BHTF_FILE_SYSTEM;
         m->why->error = EEXIST;
         snprintf(m->why->words, sizeof m->why->words, "%s: there already is a "
-                 "file of that name; it is left as it was", m->path);
+                 "file of that name; it is left as it was",
+                 layer_shown(m->path, shown));
     }
     errno = EEXIST;
     return BHTF_FILE_SYSTEM;
@@ -63,32 +68,52 @@ static char *joined(const char *a, size_t length, const char *b)
     return words;
 }
 
+static const char *entry_of(const char *path)
+{
+    const char *slash = strrchr(path, '/');
+
+    return slash == NULL ? path : slash + 1;
+}
+
 static uint32_t make_names(bhtf_file_new *m)
 {
-    const char *slash = strrchr(m->path, '/');
+    char *directory;
 
-    m->directory = slash == NULL
+    m->entry = entry_of(m->path);
+    directory = m->entry == m->path
         ? joined(".", 1, "")
-        : joined(m->path, (size_t)(slash - m->path) + 1, "");
+        : joined(m->path, (size_t)(m->entry - m->path), "");
     m->journal = joined(m->path, strlen(m->path), ".journal");
-    return m->directory != NULL && m->journal != NULL
-        ? BHTF_ACCEPTED : fail(m, "cannot create", ENOMEM);
+    if (directory != NULL)
+        m->directory = layer_open_directory(directory);
+    else
+        errno = ENOMEM;
+    free(directory);
+    if (m->directory < 0)
+        return fail(m, "cannot create", errno);
+    return m->journal != NULL ? BHTF_ACCEPTED
+                              : fail(m, "cannot create", ENOMEM);
 }
 
 /* A journal without its file: of one that is gone, or stands elsewhere. */
 static uint32_t ask_names(bhtf_file_new *m)
 {
+    char shown[LAYER_SHOWN], journal[LAYER_SHOWN];
     struct stat about;
 
     if (lstat(m->path, &about) == 0)
         return is_there(m);
     if (lstat(m->journal, &about) != 0)
-        return BHTF_ACCEPTED;
+        return errno != ENAMETOOLONG
+            ? BHTF_ACCEPTED
+            : fail(m, "cannot create: no journal could stand beside it",
+                   ENAMETOOLONG);
     fail(m, "cannot create", EEXIST);
     if (m->why != NULL)
         snprintf(m->why->words, sizeof m->why->words, "%s: cannot create: there "
                  "is a journal %s of a file that is gone; if nobody has that "
-                 "file any more, remove the journal", m->path, m->journal);
+                 "file any more, remove the journal",
+                 layer_shown(m->path, shown), layer_shown(m->journal, journal));
     return BHTF_FILE_SYSTEM;
 }
 
@@ -103,17 +128,11 @@ static mode_t usual_rights(void)
 
 static uint32_t open_new(bhtf_file_new *m)
 {
-#ifdef O_TMPFILE
-    if (access("/proc/self/fd", X_OK) == 0) /* by which it gets its name */
-        m->fd = open(m->directory, O_TMPFILE | O_RDWR | O_CLOEXEC, 0666);
-    else
-        errno = EOPNOTSUPP;
+    m->fd = layer_open_nameless(m->directory, 0666);
     if (m->fd >= 0)
         return BHTF_ACCEPTED;
-    if (errno == ENOENT || errno == ENOTDIR || errno == EACCES ||
-        errno == EROFS)
+    if (errno != EOPNOTSUPP)
         return fail(m, "cannot create", errno);
-#endif
     m->temporary = joined(m->path, strlen(m->path), TEMPORARY);
     if (m->temporary == NULL)
         return fail(m, "cannot create", ENOMEM);
@@ -158,43 +177,17 @@ static uint32_t flush_new(bhtf_file_new *m)
     return BHTF_ACCEPTED;
 }
 
-/* One name in place of another, if there is no file of that name; at no time
- * does the file have both, where the system can do that. */
-static int rename_new(const bhtf_file_new *m)
-{
-#ifdef RENAME_NOREPLACE
-    if (renameat2(AT_FDCWD, m->temporary, AT_FDCWD, m->path,
-                  RENAME_NOREPLACE) == 0)
-        return 0;
-    if (errno != EINVAL && errno != ENOSYS)
-        return -1;
-#endif
-    if (link(m->temporary, m->path) != 0)
-        return -1;
-    unlink(m->temporary);
-    return 0;
-}
-
-static int link_new(const bhtf_file_new *m)
-{
-    char name[64];
-
-    if (m->temporary != NULL)
-        return rename_new(m);
-    snprintf(name, sizeof name, "/proc/self/fd/%d", m->fd);
-    return linkat(AT_FDCWD, name, AT_FDCWD, m->path, AT_SYMLINK_FOLLOW);
-}
-
 static uint32_t name_it(bhtf_file_new *m)
 {
-    int error = 0;
+    int error = layer_give_name(m->directory, m->fd, m->temporary == NULL
+                                ? NULL : entry_of(m->temporary), m->entry);
 
-    if (link_new(m) != 0)
-        return errno == EEXIST ? is_there(m) : fail(m, "cannot create", errno);
+    if (error != 0)
+        return error == EEXIST ? is_there(m) : fail(m, "cannot create", error);
     free(m->temporary);
     m->temporary = NULL;
     if (m->sync)
-        error = layer_sync_directory(m->directory);
+        error = layer_sync_names(m->directory, m->fd);
     return error == 0 ? BHTF_ACCEPTED
                       : fail(m, "cannot be written to the disk", error);
 }
@@ -219,7 +212,8 @@ bhtf_file_new *bhtf_file_new_begin(const char *path, size_t image_len,
     bhtf_file_new *m = calloc(1, sizeof *m);
 
     if (m == NULL) {
-        bhtf_file_new none = { path, why, NULL, NULL, NULL, -1, 0, NULL, 0 };
+        bhtf_file_new none = { path, why, -1, NULL, NULL, NULL, -1, 0, NULL,
+                               0 };
 
         fail(&none, "cannot create", ENOMEM);
         return NULL;
@@ -227,6 +221,7 @@ bhtf_file_new *bhtf_file_new_begin(const char *path, size_t image_len,
     m->path = path;
     m->why = why;
     m->fd = -1;
+    m->directory = -1;
     m->length = image_len;
     m->sync = how == NULL || !(how->flags & BHTF_FILE_NO_SYNC);
     if (begin(m) == BHTF_ACCEPTED)
@@ -251,7 +246,8 @@ void bhtf_file_new_drop(bhtf_file_new *m)
     if (m->temporary != NULL)
         unlink(m->temporary);
     free(m->temporary);
-    free(m->directory);
+    if (m->directory >= 0)
+        close(m->directory);
     free(m->journal);
     free(m);
     errno = error;

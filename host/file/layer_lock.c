@@ -1,6 +1,6 @@
 /* The file layer's locks.
  *
- * Three stretches of a file are locked, the later two behind any byte that a
+ * Four stretches of a file are locked, the later three after any byte that a
  * file can have:
  *
  *   bytes    shared by readers; exclusive to a writer while it changes them
@@ -8,9 +8,12 @@
  *            writer keeps new readers out, and a waiting reader has its turn
  *            before the writer's next change
  *   writer   exclusive to one writer from its opening to its closing
+ *   steady   the first byte of that, which the writer takes when it knows the
+ *            file to be whole: a reader that has the bytes and finds it taken
+ *            need not look at the journal
  *
  * An exclusive fcntl lock on the whole file, which other writers of these
- * files take, covers all three. Locks belong to the open file where the system
+ * files take, covers all four. Locks belong to the open file where the system
  * has such (F_OFD_SETLK), so that handles of one process exclude each other
  * too, and that the process may open and close the file elsewhere.
  */
@@ -47,7 +50,8 @@ struct stretch {
 
 static const struct stretch bytes_lock = { 0, 0x40000000 };
 static const struct stretch gate_lock = { 0x40000000, 1 };
-static const struct stretch writer_lock = { 0x40000001, 0 };
+static const struct stretch steady_lock = { 0x40000001, 1 };
+static const struct stretch writer_lock = { 0x40000002, 0 };
 
 /* ---- time ---- */
 
@@ -218,7 +222,7 @@ static uint32_t blame(bhtf_file *f, short type, struct stretch s)
                       seconds);
 }
 
-/* ---- the three ---- */
+/* ---- the four ---- */
 
 uint32_t layer_lock_writer(bhtf_file *f, int64_t deadline)
 {
@@ -227,6 +231,24 @@ uint32_t layer_lock_writer(bhtf_file *f, int64_t deadline)
     if (taken == LATE)
         return blame(f, F_WRLCK, writer_lock);
     return taken == TAKEN ? BHTF_ACCEPTED : f->why.number;
+}
+
+/* Nobody else takes it without the writer's lock. */
+uint32_t layer_lock_steady(bhtf_file *f)
+{
+    enum taken taken = take(f, F_WRLCK, steady_lock, layer_now());
+
+    if (taken == LATE)
+        return blame(f, F_WRLCK, steady_lock);
+    return taken == TAKEN ? BHTF_ACCEPTED : f->why.number;
+}
+
+int layer_is_steady(const bhtf_file *f)
+{
+    struct flock lock;
+
+    return find_holder(f, F_RDLCK, steady_lock, &lock) &&
+           lock.l_type == F_WRLCK;
 }
 
 /* A turn at the gate and the bytes. */
@@ -271,8 +293,10 @@ void layer_unlock_all(bhtf_file *f)
 {
     if (layer_is_owner(f)) {
         layer_unlock_bytes(f);
-        if (f->writing)
+        if (f->writing) {
+            give(f, steady_lock);
             give(f, writer_lock);
+        }
     }
     f->held = 0;
 }

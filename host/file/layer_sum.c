@@ -2,15 +2,12 @@
  * not change.
  *
  * The sum of an image is that of its pages' XXH64, seeded with the page's
- * number, modulo 2^64: a page's share can be taken out and another put in. In
- * images of up to SUMMED_PAGES pages every page counts, in longer ones as many,
- * spread evenly, and those that the change meets.
+ * number, modulo 2^64: a page's share can be taken out and another put in, so
+ * that a writer that stays open reads only the pages that it changes.
  */
 #include "layer.h"
 
 #include <string.h>
-
-#define SUMMED_PAGES 4096u
 
 /* ---- XXH64 ---- */
 
@@ -94,28 +91,6 @@ static size_t pages_of(size_t length)
     return length / LAYER_PAGE + (length % LAYER_PAGE != 0);
 }
 
-int layer_sum_whole(size_t length)
-{
-    return pages_of(length) <= SUMMED_PAGES;
-}
-
-/* The i-th page that counts. */
-static size_t counted(size_t pages, size_t i)
-{
-    return pages <= SUMMED_PAGES
-        ? i : (size_t)((uint64_t)i * pages / SUMMED_PAGES);
-}
-
-static int counts(size_t pages, size_t page)
-{
-    size_t i;
-
-    if (pages <= SUMMED_PAGES)
-        return 1;
-    i = (size_t)(((uint64_t)page * SUMMED_PAGES + pages - 1) / pages);
-    return i < SUMMED_PAGES && counted(pages, i) == page;
-}
-
 static size_t page_length(size_t length, size_t page)
 {
     size_t left = length - page * LAYER_PAGE;
@@ -129,14 +104,14 @@ static uint64_t page_sum(const uint8_t *image, size_t length, size_t page)
                        page);
 }
 
-uint64_t layer_sum_all(const uint8_t *image, size_t length)
+uint64_t layer_sum(const uint8_t *image, size_t length, uint64_t from,
+                   uint64_t to)
 {
-    size_t pages = pages_of(length);
-    size_t count = pages < SUMMED_PAGES ? pages : SUMMED_PAGES;
+    size_t end = pages_of((size_t)to);
     uint64_t sum = 0;
 
-    for (size_t i = 0; i < count; i++)
-        sum += page_sum(image, length, counted(pages, i));
+    for (size_t page = (size_t)(from / LAYER_PAGE); page < end; page++)
+        sum += page_sum(image, length, page);
     return sum;
 }
 
@@ -166,7 +141,6 @@ static uint64_t masked_sum(const uint8_t *image, size_t length, size_t page,
 uint64_t layer_sum_met(const uint8_t *image, size_t length,
                        const uint8_t *pairs, size_t count, int masked)
 {
-    size_t pages = pages_of(length);
     size_t next = 0; /* page */
     uint64_t sum = 0;
 
@@ -179,9 +153,8 @@ uint64_t layer_sum_met(const uint8_t *image, size_t length,
             continue;
         for (page = page < next ? next : page;
              page <= (from + size - 1) / LAYER_PAGE; page++) {
-            if (masked || counts(pages, page))
-                sum += masked ? masked_sum(image, length, page, pairs, count, i)
-                              : page_sum(image, length, page);
+            sum += masked ? masked_sum(image, length, page, pairs, count, i)
+                          : page_sum(image, length, page);
             next = page + 1;
         }
     }

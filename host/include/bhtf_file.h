@@ -10,8 +10,8 @@
  *
  * One thread at a time may use a handle. Several handles, also of one process
  * and on one file, are several readers and writers. A process that was forked
- * may close the handles that it has from its parent, and nothing else as long
- * as the parent has them.
+ * may close the handles that it has from its parent; every other call on them
+ * is refused.
  */
 #ifndef BHTF_FILE_H
 #define BHTF_FILE_H
@@ -35,6 +35,9 @@ extern "C" {
 #define BHTF_FILE_MISUSE 108u    /* the handle is not open for this */
 #define BHTF_FILE_BROKEN 109u    /* the disk failed in an earlier change: close,
                                     and open again */
+
+#define BHTF_FILE_OWNER 110u     /* the journal belongs to one who may not write
+                                    to the file */
 
 #define BHTF_FILE_WORDS 512u     /* bytes in the longest sentence */
 
@@ -141,6 +144,44 @@ uint32_t bhtf_file_commit(bhtf_file *file);
 uint8_t *bhtf_file_batch_image(bhtf_file *file, size_t *image_len);
 
 uint32_t bhtf_file_rollback(bhtf_file *file);
+
+/* ---- a journal that stops everybody ---- */
+
+/* What is known of the journal beside a file. */
+struct bhtf_file_journal {
+    uint32_t state;      /* BHTF_FILE_NO_JOURNAL, BHTF_FILE_UNFINISHED,
+                            BHTF_FILE_OF_NO_USE, or the number by which opening
+                            the file is refused: 106, 107 or 110 */
+    uint32_t owner;      /* user */
+    uint64_t length;     /* bytes */
+    int mark;            /* 0, 0xA5, another byte, or -1: it was cut away */
+    int head;            /* other than 0 if its head is whole, */
+    int content;         /* and its content */
+    int same;            /* the file's other bytes are those of the change */
+    uint32_t stretches;  /* of the change; 0 unless the content is whole */
+    uint32_t written;    /* of these, that are in the file */
+    uint64_t bytes;      /* in them */
+    int sound;           /* does bhtf_check find the file sound as it stands, */
+    int sound_after;     /* and with the change? */
+    char aside[32];      /* what follows the file's name, if set aside */
+};
+
+#define BHTF_FILE_NO_JOURNAL 0u
+#define BHTF_FILE_UNFINISHED 1u  /* opening to write finishes it */
+#define BHTF_FILE_OF_NO_USE 2u   /* the file is proved to be whole */
+
+/* What is done about it. */
+#define BHTF_FILE_LOOK 0u        /* nothing */
+#define BHTF_FILE_FINISH 1u      /* the change is made, if all of it is there and
+                                    it is this file's: else refused */
+#define BHTF_FILE_SET_ASIDE 2u   /* the file stays as it is, and the journal gets
+                                    another name */
+
+/* For a person who decides; of `how` only `wait` and `give_up` count. */
+uint32_t bhtf_file_recover(const char *path, uint32_t choice,
+                           const struct bhtf_file_how *how,
+                           struct bhtf_file_journal *journal,
+                           struct bhtf_file_error *why);
 
 /* ---- what happened ---- */
 

@@ -13,6 +13,9 @@
 
 Names and texts are bytes; a str is taken as UTF-8. A name that is shorter than
 the file's key size is filled with zero bytes, which are taken off again.
+One thread at a time uses a file: others wait, and find it closed where it was
+closed meanwhile. A process that was forked opens the file anew: all but close()
+of a file that its parent opened is refused.
 The library is looked for where the environment variable BHTF_LIBRARY says,
 beside this file, and where the system looks.
 """
@@ -20,10 +23,12 @@ import contextlib
 import ctypes
 import ctypes.util
 import errno
+import functools
 import os
+import threading
 
 NEW, REPLACE, APPEND, WITHDRAW = 1, 2, 3, 4
-ABSENT, SYSTEM, LOCKED = 14, 101, 102
+ABSENT, SYSTEM, LOCKED, MISUSE = 14, 101, 102, 108
 _WRITE, _NO_SYNC = 1, 2
 _FOREVER = 0xFFFFFFFF
 
@@ -106,12 +111,27 @@ def _raise(why):
     raise Error(why.number, why.words.decode(errors="replace"), why.error)
 
 
+def _alone(method):
+    """A method that runs in one thread at a time, in the process that opened
+    the file."""
+    @functools.wraps(method)
+    def wrapper(self, *arguments, **named):
+        if os.getpid() != self._process:
+            raise Error(MISUSE, "another process opened the file, of which "
+                        "this one is a fork; open it again")
+        with self._lock:
+            return method(self, *arguments, **named)
+    return wrapper
+
+
 class File:
     """An open file; bhtf.open makes one."""
 
     def __init__(self, handle, give_up):
         self._handle = handle
         self._give_up = give_up  # kept as long as the library may call it
+        self._lock = threading.RLock()
+        self._process = os.getpid()
 
     # ---- the handle ----
 
@@ -125,6 +145,14 @@ class File:
             _raise(_error(self._handle).contents)
 
     def close(self):
+        # A fork does not have the thread that may hold its parent's lock.
+        if os.getpid() == self._process:
+            with self._lock:
+                self._close()
+        else:
+            self._close()
+
+    def _close(self):
         if self._handle is not None:
             handle, self._handle = self._handle, None
             number = _close(handle)
@@ -153,6 +181,7 @@ class File:
             raise Error(number, _message(number).decode())
 
     @property
+    @_alone
     def key_size(self):
         self._asked(_count(*self._view(), ctypes.byref(_u32())))
         return int.from_bytes(ctypes.string_at(self._view()[0] + 12, 4), "big")
@@ -163,6 +192,7 @@ class File:
 
     # ---- reading ----
 
+    @_alone
     def get(self, name, default=None):
         """A point's text, None without one; `default` where it is absent."""
         key, (image, length) = self._key(name), self._view()
@@ -186,27 +216,36 @@ class File:
         missing = object()
         return self.get(name, missing) is not missing
 
+    @_alone
     def __len__(self):
         count = _u32()
         self._asked(_count(*self._view(), ctypes.byref(count)))
         return count.value
 
+    @_alone
+    def _name_from(self, begin):
+        """The first name from a slot on, and its slot; None at the end."""
+        size, slot, at = self.key_size, _u32(), _u32()
+        image, length = self._view()
+        self._asked(_walk(image, length, begin, ctypes.byref(slot),
+                          ctypes.byref(at)))
+        if at.value == 0:
+            return None
+        name = ctypes.string_at(image + at.value, size).rstrip(b"\0")
+        return name, slot.value
+
     def __iter__(self):
         """Names, in the order of their slots."""
-        size, slot, at, begin = self.key_size, _u32(), _u32(), 0
-        while True:
-            image, length = self._view()
-            self._asked(_walk(image, length, begin, ctypes.byref(slot),
-                              ctypes.byref(at)))
-            if at.value == 0:
-                return
-            yield ctypes.string_at(image + at.value, size).rstrip(b"\0")
-            begin = slot.value + 1
+        found = self._name_from(0)
+        while found is not None:
+            yield found[0]
+            found = self._name_from(found[1] + 1)
 
     def items(self):
         for name in self:
             yield name, self[name]
 
+    @_alone
     def is_sound(self):
         verdict, slot = _u32(), _u32()
         self._asked(_check(*self._view(), ctypes.byref(verdict),
@@ -214,20 +253,24 @@ class File:
         return verdict.value == 0
 
     @property
+    @_alone
     def recovered(self):
         """Did opening find an unfinished change, and finish it?"""
         return bool(_recovered(self._open_handle()))
 
+    @_alone
     def pause(self):
         """Lets writers in; refresh() before the next look."""
         self._done(_pause(self._open_handle()))
 
+    @_alone
     def refresh(self):
         """The file as the last writer left it."""
         self._done(_refresh(self._open_handle()))
 
     # ---- changing ----
 
+    @_alone
     def add(self, name, text, mode=NEW):
         key, text = self._key(name), _to_bytes(text)
         self._done(_add(self._open_handle(), key, len(key), text, len(text),
@@ -242,6 +285,7 @@ class File:
     def withdraw(self, name):
         self.add(name, b"", WITHDRAW)
 
+    @_alone
     def __delitem__(self, name):
         key = self._key(name)
         number = _delete(self._open_handle(), key, len(key))
@@ -249,26 +293,36 @@ class File:
             raise KeyError(name)
         self._done(number)
 
+    @_alone
     def compact(self):
         self._done(_compact(self._open_handle()))
+
+    @_alone
+    def _call(self, function):
+        self._done(function(self._open_handle()))
 
     @contextlib.contextmanager
     def batch(self):
         """All changes of the block, or, if it is left by an exception, none."""
-        self._done(_begin(self._open_handle()))
+        self._call(_begin)
         try:
             yield self
-            self._done(_commit(self._open_handle()))
+            self._call(_commit)
         except BaseException:
-            if self._handle is not None:
-                _rollback(self._handle)
+            if self._handle is not None and os.getpid() == self._process:
+                with self._lock:
+                    if self._handle is not None:
+                        _rollback(self._handle)
             raise
 
 
 def _how(write, sync, wait, give_up):
     call = _GiveUp((lambda _: int(bool(give_up()))) if give_up else 0)
     flags = (_WRITE if write else 0) | (0 if sync else _NO_SYNC)
-    wait = _FOREVER if wait is None else int(wait * 1000)
+    if wait is None or wait * 1000 >= _FOREVER:
+        wait = _FOREVER
+    else:
+        wait = max(0, int(wait * 1000))
     return _How(flags, wait, call, None), call
 
 
@@ -280,7 +334,8 @@ def open(path, write=False, sync=True, wait=10, give_up=None):
     handle = _open(os.fsencode(path), ctypes.byref(how), ctypes.byref(why))
     if not handle:
         if why.error == errno.ENOENT:
-            raise FileNotFoundError(why.error, why.words.decode(), path)
+            raise FileNotFoundError(
+                why.error, why.words.decode(errors="replace"), path)
         _raise(why)
     return File(handle, call)
 
@@ -296,5 +351,6 @@ def create(path, key_size=16, slots=0, seed=0, size=1 << 20, sync=True):
     if _create(os.fsencode(path), image, size, ctypes.byref(how),
                ctypes.byref(why)) != 0:
         if why.error == errno.EEXIST:
-            raise FileExistsError(why.error, why.words.decode(), path)
+            raise FileExistsError(
+                why.error, why.words.decode(errors="replace"), path)
         _raise(why)

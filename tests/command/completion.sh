@@ -19,7 +19,7 @@ same "bash: commands" $'check\ncompact\ncount\ncreate' "$(completed 'bhtf c')"
 same "bash: every command" "$( (bhtf --help | sed -n 's/^  bhtf \([a-z]*\) .*/\1/p'; echo help) | LC_ALL=C sort)" \
   "$(completed 'bhtf ' | grep -v '^-')"
 same "bash: help" $'dump' "$(completed 'bhtf help du')"
-same "bash: options" $'--decimal\n--delimiter\n--delta\n--dry-run' "$(completed 'bhtf import finish --d')"
+same "bash: options" $'--decimal\n--delimiter\n--delta\n--drop\n--dry-run' "$(completed 'bhtf import finish --d')"
 same "bash: letters are no names of options" '' "$(completed 'bhtf count finish --long')"
 same "bash: names of points" $'CP-1\nCP\\ 2' "$(completed 'bhtf get finish C')"
 same "bash: names behind options" 'RP-3' "$(completed 'bhtf delete finish -q R')"
@@ -29,6 +29,10 @@ same "bash: names behind one" 'RP-3' "$(completed 'bhtf delete --delta changes f
 same "bash: versions" $'1.0.0\n1.0.1\n1.0.2' "$(completed 'bhtf create new --format 1')"
 same "bash: columns" 'PENZD' "$(completed 'bhtf import finish x.csv --columns PE')"
 same "bash: delimiters" 'semicolon' "$(completed 'bhtf import finish x.csv -d s')"
+same "bash: names behind an option's value" 'RP-3' "$(completed 'bhtf get --wait 5 finish R')"
+same "bash: and behind a letter's" 'RP-3' "$(completed 'bhtf set -H 489.3 finish R')"
+same "bash: patterns begin as names do" 'RP-3' "$(completed 'bhtf list finish --by name R')"
+same "bash: encodings" 'windows-1252' "$(completed 'bhtf import finish x.csv --encoding w')"
 same "bash: a file that is not there" '' "$(completed 'bhtf get nowhere C')"
 
 # zsh's own completion, on a terminal of its own.
@@ -56,6 +60,7 @@ zsh_completes() { # LINE PATTERN: on a busy machine it may take more than one tr
   return 1
 }
 holds "zsh: a command" zsh_completes 'bhtf exp' 'bhtf export'
-holds "zsh: an option" zsh_completes 'bhtf import finish --dr' 'import finish --dry-run'
+holds "zsh: an option" zsh_completes 'bhtf import finish --dry' 'import finish --dry-run'
 holds "zsh: a name of a point" zsh_completes 'bhtf get finish R' 'get finish RP-3'
+holds "zsh: a name behind an option's value" zsh_completes 'bhtf get --wait 5 finish R' 'finish RP-3'
 holds "zsh: columns" zsh_completes 'bhtf import finish x --columns PE' 'columns PENZD'

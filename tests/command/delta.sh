@@ -166,10 +166,10 @@ gives "a dry run of an import" 0 'would be stored' bhtf import office "$root/hos
 holds "leave no record" cmp changes7 changes
 gives "a refused point" 1 'refused \(14\)' bhtf delete office nobody --delta none
 holds "leaves no new file" test ! -e none
-printf 'P,E,N,Z,D\nI-1,1,2,3,\nCP-1,1,2,3,\nI-3,1,2,3,\n' >stops.csv
+printf 'P,E,N,Z,D\nI-1,1,2,3,\nCP-1,4,2,3,\nI-3,7,2,3,\n' >stops.csv
 gives "an import that stops" 1 'stopped: nothing was stored' bhtf import office stops.csv --delta changes
 holds "has no record" cmp changes7 changes
-gives "one that keeps going" 1 '^2 points stored' bhtf import office stops.csv --keep-going --delta changes
+gives "one that keeps going" 1 '^2 points stored' bhtf import office stops.csv --keep-going --allow-far --delta changes
 gives "has a record of what it stored" 0 '^1 record applied, 7 passed over$' bhtf apply copy1 changes
 holds "which is all" cmp office copy1
 # What cannot be followed is not done.
@@ -217,7 +217,7 @@ limited() { sh -c 'limit=$1; shift; ulimit -f "$limit"; exec "$@"' - $(($(stat -
 undone "a disk that is full" 2 'changes: cannot be written to: File too large' limited bhtf add office CP-6 "$long" --delta changes
 gives "it is said that nothing changed" 2 'office: is as it was' limited bhtf add office CP-6 "$long" --delta changes
 sed "s/,3,\$/,3,$long/" stops.csv >long.csv
-undone "a disk that is full at an import" 2 'import stopped: nothing was stored' limited bhtf import office long.csv --replace --delta changes
+undone "a disk that is full at an import" 2 'import stopped: nothing was stored' limited bhtf import office long.csv --replace --drop text --allow-far --delta changes
 bhtf add office Z "$long" --delta changes
 bhtf delete office Z --delta changes
 undone "and at a compaction" 2 'office: is as it was' limited bhtf compact office --delta changes

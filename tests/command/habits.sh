@@ -126,10 +126,10 @@ mkfifo slow.dump
 bhtf create slow2 --slots 3000
 seq 2000 | sed 's/.*/S&,&,&,&,/' | bhtf import slow2 - --quiet -c PENZD
 bhtf dump slow2 >whole.dump
-for i in $(seq 400); do sed 1,6d whole.dump; done | sed 's/^"\(S[0-9]*\)" "\(.*\)"$/\1,\2/; /^end$/d' >long.csv
+for i in $(seq 400); do sed 1,6d whole.dump; done | sed 's/^"\(S[0-9]*\)" "\(.*\)"$/\1,\2higher/; /^end$/d' >long.csv
 on_terminal "$work/sanitize/bhtf import slow2 long.csv -r -c PENZD" >progress
-gives "a long import shows its share and the time left" 0 'bhtf: [0-9]+ points stored, [0-9]+ %, [0-9]+ s left' cat progress
-gives "and what it stored" 0 '800000 points stored: 0 new, 800000 in place of others' cat progress
+gives "a long import shows its share and the time left" 0 'bhtf: [0-9]+ points (read|stored), [0-9]+ %, [0-9]+ s left' cat progress
+gives "and what it stored" 0 '2000 points stored: 0 new, 2000 changed, 0 equal' cat progress
 (head -n 1500 whole.dump; sleep 0.8; tail -n +1501 whole.dump) >slow.dump &
 helpers+=($!)
 on_terminal "bhtf load slow3 slow.dump" >progress

@@ -7,10 +7,12 @@ lines() { printf '%s\n' "$@"; }
 stores() {
   local name=$1 text=$2 from=$3
   shift 3
-  printf '%s' "$from" | bhtf import office - --replace --quiet "$@" >"$work/out" 2>&1 ||
-    { cat "$work/out"; return 1; }
+  printf '%s' "$from" | bhtf import office - --replace --drop easting,northing,height,note,text "${anywhere[@]}" --quiet "$@" ||
+    return 1
   [ "$(bhtf get office "$name")" = "$text" ] || { bhtf get office "$name"; return 1; }
 }
+# The office's points lie anywhere, and on top of each other.
+anywhere=(--allow-far --allow-near --allow-swapped)
 place='4482113.402,5351874.118,489.271,CP'
 
 # ---- columns ----
@@ -20,7 +22,7 @@ gives "lines without a heading are refused" 2 'line 1: the first line is no head
 gives "and nothing was stored" 0 '^0$' bhtf count office
 gives "PNEZD" 0 '^1 point stored$' bhtf import office plain.csv --columns PNEZD
 same "northing and easting in their places" "$place" "$(bhtf get office 1)"
-gives "PENZD, in small letters" 0 '^1 point' bhtf import office - -c penzd <<<"2,4482113.402,5351874.118,489.271,CP"
+gives "PENZD, in small letters" 0 '^1 point' bhtf import office - --allow-near -c penzd <<<"2,4482113.402,5351874.118,489.271,CP"
 same "the other order, the same text" "$place" "$(bhtf get office 2)"
 holds "letters for fewer columns" stores a '1,2,,' $'a,2,1\n' -c PNE
 holds "words in --columns, one passed over" stores b "$place" $'x;CP;489.271;b;5351874.118;4482113.402\n' \
@@ -31,10 +33,12 @@ for heading in 'P,N,E,Z,D' 'p,n,e,z,d' 'Point,Northing,Easting,Elevation,Descrip
   bhtf delete office h 2>/dev/null
   holds "the heading $heading" stores h "$place" "$heading"$'\nh,5351874.118,4482113.402,489.271,CP\n'
 done
-holds "point, y, x, h" stores g "$place" $'point,y,x,h,note\ng,4482113.402,5351874.118,489.271,CP\n'
+gives "y in front of x is not guessed" 2 'the heading: x and y are each easting to some and northing to others' \
+  bhtf import office - <<<$'point,y,x,h,note\ng,4482113.402,5351874.118,489.271,CP'
+holds "--columns says what y is" stores g "$place" $'point,y,x,h,note\ng,4482113.402,5351874.118,489.271,CP\n' -c PENZD
 holds "a heading in another order" stores i "$place" $'D;Z;N;E;P\nCP;489.271;5351874.118;4482113.402;i\n'
 holds "a heading without notes and heights" stores j '1,2,,' $'northing,name,easting\n2,j,1\n'
-gives "x in front of y is not guessed" 2 'line 1: the heading: x in front of y' \
+gives "x in front of y is not guessed" 2 'line 1: the heading: x and y are each easting' \
   bhtf import office - <<<$'point,x,y,z\nk,1,2,3'
 holds "--columns says what x is" stores k '1,2,3,' $'point,x,y,z\nk,1,2,3\n' -c name,easting,northing,height
 gives "a heading that contradicts --columns" 2 'contradicts --columns' bhtf import office - -c PENZD <<<$'P,N,E,Z,D\nl,1,2,3,'
@@ -42,7 +46,7 @@ gives "a heading of another length than --columns" 2 'another number of columns'
   bhtf import office - -c PENZ <<<$'P,E,N,Z,D\nl,1,2,3,'
 gives "a word that is not known" 2 'line 1: the heading: sigma is not known; --columns' bhtf import office - <<<$'name,easting,northing,sigma\nl,1,2,3'
 holds "is passed over if --columns says so" stores l '1,2,,' $'name,easting,northing,sigma\nl,1,2,3\n' -c name,e,n,-
-gives "a column twice" 2 'a column stands there twice' bhtf import office - <<<$'name,easting,northing,height,east'
+gives "a column twice, and which" 2 'a column stands there twice: easting, as number 2 and number 5' bhtf import office - <<<$'name,easting,northing,height,east'
 gives "no name" 2 'no column for the name' bhtf import office - <<<$'easting,northing'
 gives "half of a place" 2 'easting and northing go together' bhtf import office - <<<$'name,easting'
 for wrong in PNEZX PP name,nothing '' name,x,y PEE name,e; do
@@ -51,9 +55,9 @@ done
 before=$(bhtf count office)
 gives "a heading alone stores nothing" 0 '^0 points stored$' bhtf import office - <<<'P,N,E,Z,D'
 gives "nor does the same heading again" 0 '^2 points stored$' \
-  bhtf import office - --any-text <<<$'P,N,E,Z,D\nagain1,1,2,3,\nP,N,E,Z,D\nagain2,1,2,3,'
+  bhtf import office - "${anywhere[@]}" --any-text <<<$'P,N,E,Z,D\nagain1,1,2,3,\nP,N,E,Z,D\nagain2,1,2,3,'
 same "there is no point P" "$((before + 2))" "$(bhtf count office)"
-gives "lines to skip" 0 '^1 point' bhtf import office - --skip 2 <<<$'Site 12\nas of Monday\n\nname,e,n\nskipped,1,2'
+gives "lines to skip" 0 '^1 point' bhtf import office - "${anywhere[@]}" --skip 2 <<<$'Site 12\nas of Monday\n\nname,e,n\nskipped,1,2'
 gives "a line number behind skipped lines" 2 'line 5: the easting one' \
   bhtf import office - --skip 2 <<<$'Site 12\nas of Monday\n\nname,e,n\nskipped,one,2'
 gives "all lines skipped" 0 '^0 points' bhtf import office - --skip 9 <<<'x'
@@ -100,16 +104,16 @@ holds "commas, with a semicolon in the note" stores CP5 '1,2,3,a;b;c;d;e;f' $'CP
 holds "commas, with quoted decimal commas" stores CP6 "$place" $'CP6,"4482113,402","5351874,118","489,271",CP\n' --decimal , -c PENZD
 holds "a given delimiter" stores CP7 '1,2,3,' $'CP7;1;2;3;\n' --delimiter ';' -c PENZD
 holds "a delimiter by its name" stores CP8 '1,2,3,' $'CP8\t1\t2\t3\t\n' -d tab -c PENZD
-gives "a delimiter that is not there" 2 'the line has 1 fields, and not the 5' \
+gives "a delimiter that is not there" 2 'the line has 1 field, and not the 5' \
   bhtf import office - -d semicolon -c PENZD <<<'CP9,1,2,3,'
-gives "a delimiter that is none" 2 '--delimiter is comma, semicolon or tab, and not x' bhtf import office plain.csv -d x
+gives "a delimiter that is none" 2 '--delimiter is comma, semicolon, tab or blank, and not x' bhtf import office plain.csv -d x
 gives "a decimal sign that is none" 2 '--decimal is , or \. and not x' bhtf import office plain.csv --decimal x
 gives "a decimal point where a comma was promised" 2 'the easting 1\.5 has a decimal point and not a comma' bhtf import office - --decimal , -c PENZD <<<'CP9;1.5;2,5;;'
 holds "a note with a comma between semicolons" stores CP10 '1.5,2.5,,"a, b"' $'CP10;1,5;2,5;;a, b\n' --decimal , -c PENZD
 
 holds "a first line sep=;" stores CP11 '1.5,2.5,,"a, b"' $'sep=;\r\nP;E;N;Z;D\r\nCP11;1.5;2.5;;a, b\r\n'
 gives "lines are counted with it" 2 'line 3: the easting x' bhtf import office - <<<$'sep=;\nP;E;N\nCP12;x;1'
-gives "another delimiter is taken from it" 0 '^1 point' bhtf import office - <<<$'sep=|\nP|E|N\nCP12|1|2'
+gives "another delimiter is taken from it" 0 '^1 point' bhtf import office - "${anywhere[@]}" <<<$'sep=|\nP|E|N\nCP12|1|2'
 gives "it alone" 0 '^0 points' bhtf import office - <<<'sep=;'
 gives "a heading of words that nobody knows" 2 'if that is a heading, --skip 1 passes over it' \
   bhtf import office - -c PENZD <<<$'Wo,Da,Dort,Hoch hinaus,Was\nCP13,1,2,3,'
@@ -118,9 +122,9 @@ holds "is passed over so" stores CP13 '1,2,3,' $'Wo,Da,Dort,Hoch hinaus,Was\nCP1
 # ---- bytes ----
 
 printf '\357\273\277P,E,N,Z,D\nbom,1,2,3,\n' >bom2.csv
-gives "a byte order mark in front of a heading" 0 '^1 point' bhtf import office bom2.csv
+gives "a byte order mark in front of a heading" 0 '^1 point' bhtf import office bom2.csv "${anywhere[@]}"
 printf '\357\273\277bom2,1,2,3,\n' >bom3.csv
-gives "a byte order mark in front of a point" 0 '^1 point' bhtf import office bom3.csv -c PENZD
+gives "a byte order mark in front of a point" 0 '^1 point' bhtf import office bom3.csv "${anywhere[@]}" -c PENZD
 same "its name" '1,2,3,' "$(bhtf get office bom2)"
 for order in LE BE; do
   iconv -f UTF-8 -t "UTF-16$order" <<<$'P,E,N,Z,D\nwide,1,2,3,' >wide.csv
@@ -132,8 +136,9 @@ printf '\377\376' >wide.csv
 gives "a mark alone" 2 'this is UTF-16' bhtf import office wide.csv
 holds "blanks around a name are trimmed" stores 'trim me' '1,2,3, a ' $'P,E,N,Z,D\n \ttrim me\t , 1 ,2 , 3, a \n'
 printf 'P,E,N,Z,D\nS\374d,1,2,3,\nN\374rd,1,2,3,\n' >latin.csv
-gives "a name that is not UTF-8 is warned of" 0 'line 2: warning: the name S\\xFCd is not UTF-8' bhtf import office latin.csv
-same "once" 1 "$(bhtf import office latin.csv --replace 2>&1 | grep -c warning)"
+gives "a name that is not UTF-8 is refused" 2 'line 2: the byte FC is not UTF-8; this looks like Windows-1252.*--encoding windows-1252' \
+  bhtf import office latin.csv
+gives "unless its bytes are meant" 0 '^2 points' bhtf import office latin.csv "${anywhere[@]}" --encoding bytes
 same "and kept" '1,2,3,' "$(bhtf get office 'S\xFCd')"
 gives "a name with a line feed is escaped in an error" 1 'two\\x0Alines' bhtf get office $'two\nlines'
 gives "and in import's" 1 'line 2: a\\x0A\\x1B\[1mb.*: refused \(7\)' \
@@ -145,9 +150,10 @@ gives "and a file's name" 2 'no\\x1Bwhere: cannot open' bhtf count $'no\033where
 bhtf create swap
 bhtf import swap "$root/host/site.csv" --quiet
 cp swap swap.before
-gives "swapped coordinates are warned of" 0 \
+both=$'P,E,N,Z,D\ns1,4482100,5351800,489,\ns2,5351800,4482100,489,'
+gives "swapped coordinates of a few are warned of" 0 \
   'warning: 1 of 2 points would lie near those of swap if easting and northing changed places; line 3 is the first' \
-  bhtf import swap - <<<$'P,E,N,Z,D\ns1,4482100,5351800,489,\ns2,5351800,4482100,489,'
+  bhtf import swap - --allow-far <<<"$both"
 gives "a warning does not hinder" 0 '^14$' bhtf count swap
 same "points in their place are not" '1 point stored' "$(bhtf import swap - 2>&1 <<<$'P,E,N,Z,D\ns3,4483000,5350000,489,')"
 bhtf create local
@@ -160,8 +166,8 @@ same "nor is the first of a file" '1 point stored' "$(bhtf import fresh1 - 2>&1 
 # ---- dry run ----
 
 cp swap.before swap
-lines 'P;N;E;Z;D' 'd1;5351800;4482100;489;' 'd2;x;4482100;489;' 'CP-101;5351800;4482100;489;' 'd3;5351800;4482100;489;' \
-  'd4;1;2' 'd5;5351800;4482100;489;' >dry.csv
+lines 'P;N;E;Z;D' 'd1;5351800;4482101;489;' 'd2;x;4482100;489;' 'CP-101;5351800;4482102;489;' 'd3;5351800;4482103;489;' \
+  'd4;1;2' 'd5;5351800;4482105;489;' >dry.csv
 bhtf import swap dry.csv --dry-run >dry.out 2>dry.err
 same "a dry run has import's status" 2 $?
 bhtf import swap dry.csv >/dev/null 2>import.err
@@ -169,7 +175,7 @@ same "import's status" 2 $?
 cp swap swap.after
 cp swap.before swap
 gives "a dry run says the columns" 0 '^columns name,northing,easting,height,note from the heading, delimiter semicolon, decimal point$' cat dry.out
-gives "how many points" 0 '^3 points would be stored in swap: 3 new, 0 in place of others$' cat dry.out
+gives "how many points" 0 '^3 points would be stored in swap: 3 new, 0 changed, 0 equal, if the others were not refused$' cat dry.out
 gives "each refused line" 0 'line 3: the northing x' cat dry.err
 gives "also those of the library" 0 'line 4: CP-101: refused \(9\)' cat dry.err
 gives "and behind" 0 'line 6: the line has 3 fields' cat dry.err
@@ -181,7 +187,7 @@ same "--keep-going has the first refused line's status" 2 $?
 gives "stores the others" 0 '^3 points stored$' cat keep.out
 gives "says which lines" 0 'line 6: the line has 3 fields' cat keep.err
 gives "and how many" 0 'dry\.csv: 3 lines refused, the first is line 3; the others are stored' cat keep.err
-gives "they are there" 0 '^4482100,5351800,489,$' bhtf get swap d5
+gives "they are there" 0 '^4482105,5351800,489,$' bhtf get swap d5
 cp swap.before swap
 gives "a dry run of that" 2 '3 lines would be refused, the first is line 3$' bhtf import swap dry.csv --keep-going -n
 bhtf import swap dry.csv -n >/dev/null 2>&1
@@ -190,8 +196,8 @@ bhtf import swap - -n -c PENZD >dry.out 2>&1 < <(seq 40 | sed 's/$/,x,1,1,/')
 same "it tells 20 refused lines" 20 "$(grep -c 'is not a number' dry.out)"
 gives "and counts all" 0 '40 lines would be refused; an import would stop at line 1, with nothing stored' cat dry.out
 gives "a dry run of a file that is refused" 1 'refused \(5\)' bhtf import zeros dry.csv -n
-gives "with --replace" 0 '2 points would be stored in swap: 1 new, 1 in place of others' \
-  bhtf import swap - -nr <<<$'P,E,N\nCP-101,4482100,5351800\nnew,4482100,5351800'
+gives "with --replace" 0 '2 points would be stored in swap: 1 new, 1 changed, 0 equal$' \
+  bhtf import swap - -nr --drop height,note <<<$'P,E,N\nCP-101,4482101,5351800\nnew,4482100,5351800'
 gives "a dry run leaves the lock free and needs no permission to write" 0 'would be stored' \
   sh -c 'chmod 444 swap; bhtf import swap - -nr' <<<$'P,E,N\nnew,4482100,5351800'
 chmod 644 swap

@@ -99,7 +99,7 @@ gives "import takes it" 0 '^6 points stored$' bhtf import kinds3 kinds.csv
 gives "nothing changed" 0 '^6 same, 0 new' bhtf diff kinds kinds3
 bhtf withdraw kinds3 empty
 bhtf add kinds3 none '' --replace
-gives "import --replace puts none in a text's place, and an empty text in none's" 0 '^6 points stored: 0 new, 6 in place of others$' \
+gives "import --replace puts none in a text's place, and an empty text in none's" 0 '^6 points stored: 0 new, 2 changed, 4 equal$' \
   bhtf import kinds3 kinds.csv --replace
 gives "so that nothing differs" 0 '^6 same, 0 new' bhtf diff kinds kinds3
 gives "four empty fields are none, as ever" 0 '^1 point stored$' bhtf import kinds3 - <<<$'P,E,N,Z,D\nold,,,,'
@@ -107,7 +107,7 @@ gives "which has no text" 1 'has no text' bhtf get kinds3 old
 gives "the same again is refused" 1 'line 2: old: refused \(9\)' bhtf import kinds3 - <<<$'P,E,N,Z,D\nold,,,,'
 gives "a name and the column alone" 0 '^2 points stored$' bhtf import kinds3 - <<<$'name,empty\nyes1, YES\nno1,'
 same "one is empty, one is none" '0 1' "$(bhtf get kinds3 yes1 -q; echo -n "$? "; bhtf get kinds3 no1 -q; echo $?)"
-gives "by --columns" 0 '^1 point stored: 0 new, 1 in place of others$' bhtf import kinds3 - -r -c name,empty <<<'no1,yes'
+gives "by --columns" 0 '^1 point stored: 0 new, 1 changed, 0 equal$' bhtf import kinds3 - -r -c name,empty <<<'no1,yes'
 gives "another word" 2 'line 2: the column empty takes yes, or nothing' bhtf import kinds3 - <<<$'name,empty\nx,no'
 gives "yes beside coordinates" 2 'line 2: the column empty says yes, and there is a text' \
   bhtf import kinds3 - <<<$'name,e,n,empty\nx,1,2,yes'

@@ -7,7 +7,7 @@ bhtf create round --key-size 20 --slots 300
 add_text() { printf "$2" | bhtf add round "$1"; }
 add_text four '4482113.402,5351874.118,489.271,bolt'
 add_text quoted '1,2,3,"a, ""b"""'
-add_text needless '"1",2,3,bolt'
+add_text needless '"1",2,4,bolt'
 add_text feed '1,2,3,bolt\n'
 add_text feeds '\n\n'
 add_text crlf '1,2,3,bolt\r\n'
@@ -15,7 +15,7 @@ add_text empties ',,,'
 add_text words 'free, text'
 add_text letters 'a,b,c,d'
 add_text fields ',,,,,'
-add_text blanks ' 1,2,3,'
+add_text blanks ' 1,2,6,'
 add_text exponent '1e3,2,3,'
 add_text comma ','
 add_text quote '"'
@@ -24,7 +24,7 @@ add_text half '1,,,'
 add_text zero 'a\000b'
 add_text return '\r'
 add_text note ',,,a note'
-add_text 'ümlaut Süd' '1,2,3,Kirchturm Süd ✓'
+add_text 'ümlaut Süd' '1,2,5,Kirchturm Süd ✓'
 add_text '\xFF\x00\x01' '\377\376'
 add_text '\x20blank\x20' 'b'
 add_text 'a,"b' 'c'
@@ -52,16 +52,16 @@ same_points() { # FILE: has the same points and texts as round, and none where t
 
 bhtf export round >round.csv
 bhtf create round2 --key-size 20 --slots 300
-gives "all of an export is imported" 0 "^$points points stored$" bhtf import round2 round.csv
+gives "all of an export is imported" 0 "^$points points stored$" bhtf import round2 round.csv --encoding bytes --allow-near --allow-far
 holds "with equal texts" same_points round2
 bhtf export round --crlf >round-crlf.csv
 bhtf create round3 --key-size 20 --slots 300
-bhtf import round3 round-crlf.csv --quiet
+bhtf import round3 round-crlf.csv --encoding bytes --allow-near --allow-far --quiet
 holds "with line ends of the other kind too" same_points round3
 gives "a text of fields stands in its columns" 0 '^four,4482113\.402,5351874\.118,489\.271,bolt,,$' cat round.csv
-gives "one with needless quotes in both" 0 '^needless,1,2,3,bolt,"""1"",2,3,bolt",$' cat round.csv
+gives "one with needless quotes in both" 0 '^needless,1,2,4,bolt,"""1"",2,4,bolt",$' cat round.csv
 gives "one that is no coordinates in its own alone" 0 '^letters,,,,,"a,b,c,d",$' cat round.csv
-gives "UTF-8 is exported as it is" 0 '^ümlaut Süd,1,2,3,Kirchturm Süd ✓,,$' cat round.csv
+gives "UTF-8 is exported as it is" 0 '^ümlaut Süd,1,2,5,Kirchturm Süd ✓,,$' cat round.csv
 gives "and listed" 0 '^ümlaut Süd$' bhtf list round
 gives "other bytes escaped" 0 '^\\xFF\\x00\\x01$' bhtf list round
 gives "blanks at the ends of a name too" 0 '^\\x20blank\\x20$' bhtf list round
@@ -118,7 +118,7 @@ gives "a withdrawn one too" 0 '^"withdrawn" -$' cat round.dump
 gives "an empty text is not" 0 '^"visited" ""$' cat round.dump
 gives "nor is one that was put in a text's place" 0 '^"emptied" ""$' cat round.dump
 gives "a text with line feeds stays on its line" 0 '^"feeds" "\\n\\n"$' cat round.dump
-gives "UTF-8 stands as it is" 0 '^"ümlaut Süd" "1,2,3,Kirchturm Süd ✓"$' cat round.dump
+gives "UTF-8 stands as it is" 0 '^"ümlaut Süd" "1,2,5,Kirchturm Süd ✓"$' cat round.dump
 holds "nothing but text" sh -c "! LC_ALL=C grep -qP '[\x00-\x09\x0B-\x1F\x7F]' round.dump"
 gives "load" 0 "^$points points loaded$" bhtf load loaded round.dump
 holds "equal points and texts" same_points loaded
@@ -280,9 +280,9 @@ random_round() { # SEED
   "$program" load random2 random1.dump -q && cmp random1.dump <("$program" dump random2) || return 1
   rm random2
   "$program" create random2 -k 24 -s 1000 -S 256K --seed "$1" && "$program" export random1 >random.csv &&
-    "$program" import random2 random.csv -q && cmp random1.dump <("$program" dump random2) || return 1
+    "$program" import random2 random.csv -q --encoding bytes --allow-near --allow-far && cmp random1.dump <("$program" dump random2) || return 1
   "$program" create random3 -k 24 -s 1000 -S 256K --seed "$1" && "$program" export random1 --crlf >random.csv &&
-    "$program" import random3 random.csv -q && cmp random1.dump <("$program" dump random3)
+    "$program" import random3 random.csv -q --encoding bytes --allow-near --allow-far && cmp random1.dump <("$program" dump random3)
 }
 for seed in 1 2 $((RANDOM)); do holds "900 random texts there and back, seed $seed" random_round $seed; done
 

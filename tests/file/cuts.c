@@ -5,7 +5,9 @@
  * behind every system call and at random instructions, and by the power,
  * wherever the disk is then. After each cut a reader must see the file before
  * or after the call that was cut, and every call that was acknowledged; then a
- * writer must find the same, and leave no journal.
+ * writer must find the same, and leave no journal. Where the command appends
+ * to a file of records, its next change must go on from there, and a copy of
+ * the file before all of them must follow.
  *
  *   --command  bhtf, cut too
  *   --random   instructions at which each scene is cut, 20 unless given
@@ -28,6 +30,7 @@
 #include <string.h>
 #include <sys/stat.h>
 #include <sys/syscall.h>
+#include <sys/wait.h>
 #include <time.h>
 #include <unistd.h>
 
@@ -328,6 +331,61 @@ static int is_there(const char *path, const char *behind)
     return access(name, F_OK) == 0;
 }
 
+/* ---- files of records ---- */
+
+static char records[700], copy_path[700];
+static int has_records;                  /* the command appends to them */
+static uint8_t *kept_records;            /* what they begin with; may be NULL */
+static size_t kept_records_length;
+
+static int run_words(char *const *words)
+{
+    int status = -1;
+    pid_t child;
+
+    fflush(NULL);
+    child = fork();
+    if (child == 0) {
+        int null = open("/dev/null", O_RDWR);
+
+        dup2(null, 0);
+        dup2(null, 1);
+        dup2(null, 2);
+        execv(command, words);
+        _exit(99);
+    }
+    waitpid(child, &status, 0);
+    return WIFEXITED(status) ? WEXITSTATUS(status) : -1;
+}
+
+static uint8_t *read_file(const char *path, const char *behind, size_t *length);
+
+static void follow_records(const char *path, const char *place)
+{
+    char *const change[] = { "bhtf", "add", (char *)path, "K60", "probe",
+                             "--delta", records, NULL };
+    char *const apply[] = { "bhtf", "apply", copy_path, records, "--no-sync",
+                            NULL };
+    size_t first_length = 0, second_length = 0;
+    uint8_t *first, *second;
+
+    if (run_words(change) != 0) {
+        complain(place, "the next change with --delta is refused");
+        return;
+    }
+    write_file(copy_path, image_at[0], IMAGE);
+    if (run_words(apply) != 0)
+        complain(place, "a copy cannot follow");
+    first = read_file(path, "", &first_length);
+    second = read_file(copy_path, "", &second_length);
+    if (first == NULL || second == NULL || first_length != second_length ||
+        memcmp(first, second, first_length) != 0)
+        complain(place, "a copy that follows is another");
+    free(first);
+    free(second);
+    unlink(copy_path);
+}
+
 /* A file after a cut, behind so many acknowledged calls. States of a file that
  * is being created begin with none. */
 static void look_after(const char *path, int acknowledged, int absent,
@@ -352,6 +410,8 @@ static void look_after(const char *path, int acknowledged, int absent,
         complain(place, "a writer sees another state than a reader did");
     if (second >= 0 && is_there(path, ".journal"))
         complain(place, "a journal is left");
+    if (second >= 0 && has_records)
+        follow_records(path, place);
 }
 
 /* ---- cuts by KILL ---- */
@@ -370,6 +430,13 @@ typedef void setting(const char *path);
 static void set_first(const char *path)
 {
     write_file(path, image_at[0], IMAGE);
+}
+
+static void set_records(const char *path)
+{
+    write_file(path, image_at[0], IMAGE);
+    if (kept_records != NULL)
+        write_file(records, kept_records, kept_records_length);
 }
 
 static void set_nothing(const char *path)
@@ -480,6 +547,7 @@ static int none_of_them(size_t change) { (void)change; return 0; }
 static int all_of_them(size_t change) { (void)change; return 1; }
 static int only_one(size_t change) { return change == chosen; }
 static int all_but_one(size_t change) { return change != chosen; }
+static int torn_one(size_t change) { return change == chosen ? 2 : 1; }
 static int any_of_them(size_t change) { (void)change; return rand() % 3; }
 
 static void try_state(struct run *r, size_t events, int acknowledged,
@@ -508,6 +576,7 @@ static void cut_by_power(struct run *r)
         for (chosen = 0; chosen < open_changes && chosen < 40; chosen++) {
             try_state(r, events, acknowledged, only_one, "only");
             try_state(r, events, acknowledged, all_but_one, "all but");
+            try_state(r, events, acknowledged, torn_one, "torn");
         }
         for (chosen = 0; chosen < random_states; chosen++)
             try_state(r, events, acknowledged, any_of_them, "random");
@@ -737,7 +806,8 @@ static void try_create(void)
 static void try_command(const char *name, char *const *words, int absent)
 {
     struct job job = { NULL, words, "", -1 };
-    struct run r = { name, &job, absent ? set_nothing : set_first, absent,
+    struct run r = { name, &job, absent ? set_nothing
+                     : has_records ? set_records : set_first, absent,
                      { -1, -1 } };
     struct stop stop;
     char said[200];
@@ -769,15 +839,77 @@ static void try_command(const char *name, char *const *words, int absent)
 
 #define WORDS(...) (char *[]) { "bhtf", __VA_ARGS__, NULL }
 
+static int write_output(const char *to, char *const *words)
+{
+    int status = -1;
+    pid_t child;
+
+    fflush(NULL);
+    child = fork();
+    if (child == 0) {
+        int fd = open(to, O_RDWR | O_CREAT | O_TRUNC, 0644);
+
+        dup2(fd, 1);
+        execv(command, words);
+        _exit(99);
+    }
+    waitpid(child, &status, 0);
+    return WIFEXITED(status) ? WEXITSTATUS(status) : -1;
+}
+
+/* What leads from the first image to one with another point and texts. */
+static void make_delta(const char *path, const char *delta)
+{
+    char after[800];
+
+    snprintf(after, sizeof after, "%s/after", work);
+    write_file(copy_path, image_at[0], IMAGE);
+    write_file(after, image_at[0], IMAGE);
+    must(run_words(WORDS("add", after, "K51", "a text")) == 0 &&
+         run_words(WORDS("delete", after, "K07")) == 0 &&
+         write_output(delta, WORDS("delta", copy_path, after)) == 0, path);
+}
+
+/* Commands that append what they change: to a new file, and to one that has
+ * a record. */
+static void try_records(char *path, char *csv)
+{
+    has_records = 1;
+    for (int later = 0; later < 2; later++) {
+        try_command(later ? "add --delta" : "add --delta, the first",
+                    WORDS("add", path, "K50", "a text", "--delta", records), 0);
+        try_command(later ? "compact --delta" : "compact --delta, the first",
+                    WORDS("compact", path, "--delta", records), 0);
+        if (later)
+            try_command("import --delta", WORDS("import", path, csv, "-c",
+                        "PENZD", "--delta", records), 0);
+        if (!later) { /* a record that leads to the first image */
+            char before[800], delta[800];
+
+            snprintf(before, sizeof before, "%s/before", work);
+            snprintf(delta, sizeof delta, "%s/first", work);
+            write_file(before, image_at[0], IMAGE);
+            write_file(copy_path, image_at[0], IMAGE);
+            must(run_words(WORDS("delete", before, "K01")) == 0 &&
+                 write_output(delta, WORDS("delta", before, copy_path)) == 0,
+                 "a record");
+            kept_records = read_file(delta, "", &kept_records_length);
+        }
+    }
+    has_records = 0;
+}
+
 static void try_commands(void)
 {
-    char path[700], csv[700], records[700];
+    char path[700], csv[700], dump[700], delta[700];
     FILE *f;
 
     snprintf(path, sizeof path, "%s/site", cut_place);
     snprintf(csv, sizeof csv, "%s/points.csv", work);
-    snprintf(records, sizeof records, "%s/records", work);
-    unlink(records);
+    snprintf(dump, sizeof dump, "%s/dump", work);
+    snprintf(delta, sizeof delta, "%s/delta", work);
+    snprintf(copy_path, sizeof copy_path, "%s/copy", work);
+    snprintf(records, sizeof records, "%s/records", cut_place);
     f = fopen(csv, "w");
     must(f != NULL, "a CSV file");
     for (int i = 50; i < 60; i++)
@@ -788,16 +920,17 @@ static void try_commands(void)
                 WORDS("add", path, "K03", "another text", "--replace"), 0);
     try_command("add --append",
                 WORDS("add", path, "K03", " and more", "--append"), 0);
-    /* What a cut left in the records is of a change that the file, set back
-     * each time, does not have. */
-    try_command("add --delta",
-                WORDS("add", path, "K50", "a text", "--delta", records), 0);
     try_command("withdraw", WORDS("withdraw", path, "K04"), 0);
     try_command("delete", WORDS("delete", path, "K06"), 0);
     try_command("compact", WORDS("compact", path), 0);
     try_command("import", WORDS("import", path, csv, "-c", "PENZD"), 0);
     try_command("create", WORDS("create", path, "--key-size", "4", "--slots",
                                 "61", "--size", "16384"), 1);
+    make_delta(path, delta);
+    try_command("apply", WORDS("apply", path, delta), 0);
+    must(write_output(dump, WORDS("dump", copy_path)) == 0, "a dump");
+    try_command("load", WORDS("load", path, dump), 1);
+    try_records(path, csv);
 }
 
 static int option(int argc, char **argv, int *i, const char *name)

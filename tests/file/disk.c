@@ -303,7 +303,8 @@ static void make_sector(const struct event *e, int torn)
 {
     struct made *m = find_made(e->file);
     size_t end = (e->number + 1) * SECTOR;
-    size_t from = torn ? (size_t)rand() % SECTOR : 0;
+    /* Often near its beginning, where a head is. */
+    size_t from = torn ? (size_t)rand() % (rand() % 2 == 0 ? 96 : SECTOR) : 0;
 
     if (end > m->reach) {
         m->bytes = realloc(m->bytes, end);

@@ -6,6 +6,7 @@
 #include <fcntl.h>
 #include <stdlib.h>
 #include <string.h>
+#include <sys/syscall.h>
 #include <unistd.h>
 
 static const char *fails(void)
@@ -15,13 +16,14 @@ static const char *fails(void)
     return what == NULL ? "" : what;
 }
 
-int unlink(const char *path)
+int unlinkat(int directory, const char *path, int flags)
 {
     const char *end = strrchr(path, '.');
 
     if (strcmp(fails(), "unlink") != 0 || end == NULL ||
-        strcmp(end, ".journal") != 0 || access(path, F_OK) != 0)
-        return unlinkat(AT_FDCWD, path, 0);
+        strcmp(end, ".journal") != 0 ||
+        faccessat(directory, path, F_OK, 0) != 0)
+        return (int)syscall(SYS_unlinkat, directory, path, flags);
     errno = EIO;
     return -1;
 }

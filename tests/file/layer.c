@@ -13,6 +13,7 @@
 #include <stdlib.h>
 #include <string.h>
 #include <sys/stat.h>
+#include <sys/syscall.h>
 #include <sys/wait.h>
 #include <unistd.h>
 
@@ -127,7 +128,32 @@ int fdatasync(int fd)
     return fsync(fd);
 }
 
-static int reads_fail, room_fails;
+static int reads_fail, room_fails, ends_at_rights, whole_systems;
+static long filled_bytes; /* of the file, by whole pages; -1 if by others */
+
+/* A writer that is killed when its journal has no rights yet. */
+int fchown(int fd, uid_t user, gid_t group)
+{
+    if (ends_at_rights)
+        _exit(7);
+    return (int)syscall(SYS_fchown, fd, user, group);
+}
+
+static int has_holes;
+
+/* In memory a file's holes are filled when they are looked at. */
+off64_t lseek64(int fd, off64_t offset, int whence)
+{
+    if (has_holes && whence == SEEK_HOLE)
+        return offset;
+    return (off64_t)syscall(SYS_lseek, fd, offset, whence);
+}
+
+int syncfs(int fd)
+{
+    whole_systems++;
+    return (int)syscall(SYS_syncfs, fd);
+}
 
 /* A journal that cannot be read. */
 ssize_t pread64(int fd, void *bytes, size_t length, off64_t at)
@@ -141,6 +167,11 @@ ssize_t pread64(int fd, void *bytes, size_t length, off64_t at)
 /* A disk that becomes full when some of the room was given. */
 int posix_fallocate64(int fd, off64_t at, off64_t length)
 {
+    struct stat about;
+
+    if (fstat(fd, &about) == 0 && about.st_size == SIZE && filled_bytes >= 0)
+        filled_bytes = at % 4096 == 0 && length % 4096 == 0
+            ? filled_bytes + (long)length : -1;
     if (!room_fails)
         return posix_fallocate(fd, at, length);
     return ftruncate(fd, at + length - 4096) == 0 ? ENOSPC : EIO;
@@ -436,56 +467,231 @@ static void flip(const char *path, off_t at)
     close(fd);
 }
 
-/* A journal whose length did not reach the disk before the power failed: its
- * last byte is one of the content, and looks like a mark. */
-static void try_short(void)
-{
-    char text[6001];
+/* ---- damage ---- */
 
-    memset(text, 0xA5, sizeof text);
-    text[6000] = '\0';
+static uint8_t half[SIZE], after[SIZE];
+static char now_aside[700];
+
+static void read_file(uint8_t *bytes)
+{
+    int fd = open(file, O_RDONLY);
+
+    if (fd < 0 || read(fd, bytes, SIZE) != SIZE)
+        exit(2);
+    close(fd);
+}
+
+static void write_file(const uint8_t *bytes)
+{
+    int fd = open(file, O_RDWR);
+
+    if (fd < 0 || write(fd, bytes, SIZE) != SIZE)
+        exit(2);
+    close(fd);
+}
+
+/* An unfinished change, of which the file has every second byte that it
+ * writes. */
+static void leave_half(void)
+{
+    int odd = 0;
+
     make_fresh();
-    copy_file(file, other);
-    holds("a long text, unfinished", leave_unfinished_behind(NULL, text));
-    copy_file(other, file);
-    holds("cut short where it looks marked", truncate(journal, 9192) == 0 &&
-          has(file, "X", NULL));
+    if (!leave_unfinished())
+        exit(2);
+    read_file(after);
+    memcpy(half, after, SIZE);
+    for (size_t i = 0; i < SIZE; i++)
+        if (half[i] != first[i] && odd++ % 2 == 0)
+            half[i] = first[i];
+    write_file(half);
+}
+
+static void zero(off_t from, off_t length)
+{
+    static const uint8_t nothing[65536];
+    int fd = open(journal, O_RDWR);
+
+    if (pwrite(fd, nothing, (size_t)length, from) != length)
+        exit(2);
+    close(fd);
+}
+
+static off_t journal_length(void)
+{
+    struct stat about;
+
+    return stat(journal, &about) == 0 ? about.st_size : 0;
+}
+
+static void damage_first_sector(void) { zero(0, 512); }
+static void damage_magic(void) { zero(0, 1); }
+static void damage_head(void) { flip(journal, 20); }
+static void damage_head_sum(void) { flip(journal, 76); }
+static void damage_content(void) { flip(journal, 4096 + 20); }
+static void damage_mark(void) { flip(journal, journal_length() - 1); }
+static void damage_mark_zero(void) { zero(journal_length() - 1, 1); }
+static void damage_last_sector(void) { zero(journal_length() - 512, 512); }
+static void damage_mark_page(void) { zero(journal_length() - 4096, 4096); }
+static void damage_rest(void) { zero(4096, journal_length() - 4096); }
+static void damage_all(void) { zero(0, journal_length()); }
+
+static void cut_to(off_t length)
+{
+    if (truncate(journal, length) != 0)
+        exit(2);
+}
+
+static void damage_last_page(void) { cut_to(journal_length() - 4096); }
+static void damage_last_byte(void) { cut_to(journal_length() - 1); }
+static void damage_all_but_head(void) { cut_to(512); }
+static void damage_to_nothing(void) { cut_to(0); }
+static void damage_longer(void) { cut_to(journal_length() + 1); }
+static void damage_other(void) { copy_file(file, journal); }
+
+static const struct {
+    const char *name;
+    void (*damage)(void);
+    int finished; /* all of it is known */
+} damages[] = {
+    { "zeros in the first sector", damage_first_sector, 0 },
+    { "a zero in the magic", damage_magic, 0 },
+    { "a bit of the head", damage_head, 0 },
+    { "a bit of the head's sum", damage_head_sum, 0 },
+    { "a bit of content", damage_content, 0 },
+    { "a bit of the mark", damage_mark, 0 },
+    { "the mark", damage_mark_zero, 0 },
+    { "zeros in the last sector", damage_last_sector, 0 },
+    { "zeros in the last page", damage_mark_page, 0 },
+    { "zeros from the content on", damage_rest, 0 },
+    { "zeros", damage_all, 0 },
+    { "the last page cut", damage_last_page, 0 },
+    { "the last byte cut", damage_last_byte, 0 },
+    { "all except the head cut", damage_all_but_head, 0 },
+    { "cut to nothing", damage_to_nothing, 0 },
+    { "one byte more", damage_longer, 1 },
+    { "another file in its place", damage_other, 0 }
+};
+
+/* Half a change is never read, and its journal never removed, whatever became
+ * of that. */
+static void try_damage_of_half(size_t i)
+{
+    static uint8_t now[SIZE];
+    struct bhtf_file_error why = { 0, 0, "" };
+    char name[120];
+    bhtf_file *f;
+
+    leave_half();
+    damages[i].damage();
+    f = bhtf_file_open(file, NULL, &why);
+    snprintf(name, sizeof name, "half a change, and of its journal %s: a reader",
+             damages[i].name);
+    holds(name, damages[i].finished
+          ? f != NULL && bhtf_file_recovered(f)
+          : f == NULL && why.number == BHTF_FILE_JOURNAL &&
+            strstr(why.words, "bhtf recover") != NULL);
+    if (f != NULL)
+        bhtf_file_close(f);
+    f = open_writer(&why);
+    read_file(now);
+    holds("a writer", damages[i].finished
+          ? f != NULL && memcmp(now, after, SIZE) == 0 && !is_there(journal)
+          : f == NULL && why.number == BHTF_FILE_JOURNAL &&
+            memcmp(now, half, SIZE) == 0 && is_there(journal));
+    if (f != NULL)
+        bhtf_file_close(f);
+    unlink(journal);
+}
+
+/* Where the file is whole, it is read as it is, or not at all. */
+static void try_damage_of_whole(size_t i, const uint8_t *bytes)
+{
+    static uint8_t now[SIZE];
+    char name[120];
+    bhtf_file *f;
+    int read, written;
+
+    leave_half();
+    write_file(bytes);
+    damages[i].damage();
+    f = bhtf_file_open(file, NULL, NULL);
+    read = f == NULL || damages[i].finished || !bhtf_file_recovered(f);
+    if (f != NULL)
+        bhtf_file_close(f);
+    f = open_writer(NULL);
+    read_file(now);
+    written = memcmp(now, damages[i].finished ? after : bytes, SIZE) == 0 &&
+              is_there(journal) == (f == NULL);
+    if (f != NULL)
+        bhtf_file_close(f);
+    snprintf(name, sizeof name, "no change or all of it, and %s",
+             damages[i].name);
+    holds(name, read && written);
     unlink(journal);
 }
 
 static void try_damaged(void)
 {
+    for (size_t i = 0; i < sizeof damages / sizeof damages[0]; i++) {
+        try_damage_of_half(i);
+        try_damage_of_whole(i, first);
+        try_damage_of_whole(i, after);
+    }
+    leave_half();
+    write_file(after);
+    damage_content();
+    holds("a journal that is proved to be of no use does not stop",
+          has(file, "X", "unfinished"));
+    unlink(journal);
+}
+
+/* What a person may choose where a journal is damaged. */
+static void try_recover(void)
+{
+    static uint8_t now[SIZE];
+    struct bhtf_file_journal j;
     struct bhtf_file_error why;
-    bhtf_file *f;
 
     make_fresh();
-    leave_unfinished();
-    flip(journal, 4096 + 20);
-    f = bhtf_file_open(file, NULL, &why);
-    holds("a journal with damaged content is refused", f == NULL &&
-          why.number == BHTF_FILE_JOURNAL);
-    unlink(journal);
-
-    make_fresh();
-    leave_unfinished();
-    flip(journal, 20);
-    f = bhtf_file_open(file, NULL, &why);
-    holds("and one with a damaged head", f == NULL &&
-          why.number == BHTF_FILE_JOURNAL);
-    holds("by writers too", open_writer(&why) == NULL &&
-          why.number == BHTF_FILE_JOURNAL && is_there(journal));
-    unlink(journal);
-
-    make_fresh();
-    copy_file(file, journal);
-    f = open_writer(NULL);
-    holds("a file that is no journal is not removed", f != NULL &&
-          put(f, "A", "x") == BHTF_FILE_SYSTEM && is_there(journal));
-    holds("and the words say so", strstr(bhtf_file_error(f)->words,
-                                         "something else") != NULL);
-    bhtf_file_close(f);
-    holds("nothing was changed", has(file, "A", NULL));
-    unlink(journal);
+    holds("no journal is told", bhtf_file_recover(file, BHTF_FILE_LOOK, NULL, &j,
+          &why) == 0 && j.state == BHTF_FILE_NO_JOURNAL && j.sound);
+    holds("and cannot be finished", bhtf_file_recover(file, BHTF_FILE_FINISH,
+          NULL, &j, &why) == BHTF_FILE_MISUSE);
+    leave_half();
+    holds("an unfinished change is told", bhtf_file_recover(file, BHTF_FILE_LOOK,
+          NULL, &j, &why) == 0 && j.state == BHTF_FILE_UNFINISHED &&
+          j.mark == 0xA5 && j.head && j.content && j.same && j.sound_after &&
+          j.written < j.stretches && is_there(journal));
+    damage_mark_zero();
+    holds("one without its mark", bhtf_file_recover(file, BHTF_FILE_LOOK, NULL,
+          &j, &why) == 0 && j.state == BHTF_FILE_JOURNAL && j.mark == 0 &&
+          j.content && j.same);
+    read_file(now);
+    holds("looking touches nothing", memcmp(now, half, SIZE) == 0);
+    holds("can be finished", bhtf_file_recover(file, BHTF_FILE_FINISH, NULL, &j,
+          &why) == 0 && !is_there(journal));
+    read_file(now);
+    holds("and is", memcmp(now, after, SIZE) == 0 &&
+          has(file, "X", "unfinished"));
+    leave_half();
+    damage_last_page();
+    holds("so can one whose last page is cut", bhtf_file_recover(file,
+          BHTF_FILE_FINISH, NULL, &j, &why) == 0 && !is_there(journal) &&
+          has(file, "X", "unfinished"));
+    leave_half();
+    damage_content();
+    holds("but not one without its content", bhtf_file_recover(file,
+          BHTF_FILE_FINISH, NULL, &j, &why) == BHTF_FILE_JOURNAL &&
+          is_there(journal));
+    holds("that is set aside", bhtf_file_recover(file, BHTF_FILE_SET_ASIDE, NULL,
+          &j, &why) == 0 && !is_there(journal) &&
+          strcmp(j.aside, ".journal.aside-1") == 0);
+    read_file(now);
+    holds("and the file is as it stood", memcmp(now, half, SIZE) == 0);
+    snprintf(now_aside, sizeof now_aside, "%s%s", file, j.aside);
+    holds("the journal is kept", is_there(now_aside));
+    unlink(now_aside);
 }
 
 /* ---- handles ---- */
@@ -600,6 +806,218 @@ static void try_names(void)
     holds("the new one is as it was", has(file, "A", NULL));
 }
 
+static int is_image_sound(bhtf_file *f)
+{
+    uint32_t verdict, slot;
+    size_t length;
+    const uint8_t *image = bhtf_file_image(f, &length);
+
+    return bhtf_check(image, length, &verdict, &slot) == 0 && verdict == 0;
+}
+
+/* A file that is moved, with a symbolic link left in its place. */
+static void try_moved(const char *directory)
+{
+    char place[700], moved[800], beside[800], link[600];
+    bhtf_file *w, *r;
+
+    snprintf(place, sizeof place, "%s/elsewhere", directory);
+    snprintf(moved, sizeof moved, "%s/site", place);
+    snprintf(beside, sizeof beside, "%s.journal", moved);
+    strcpy(link, file);
+    mkdir(place, 0755);
+    unlink(moved);
+    make_fresh();
+    w = open_writer(NULL);
+    put(w, "A", "1");
+    if (rename(file, moved) != 0 || symlink(moved, file) != 0)
+        exit(2);
+    holds("a file that was moved, with a link in its place, is not written",
+          put(w, "A", "2") == BHTF_FILE_REPLACED);
+    bhtf_file_close(w);
+    unlink(file);
+    rename(moved, file);
+
+    make_fresh();
+    r = bhtf_file_open(file, NULL, NULL);
+    bhtf_file_pause(r);
+    if (rename(file, moved) != 0 || symlink(moved, file) != 0)
+        exit(2);
+    strcpy(file, moved);
+    strcpy(journal, beside);
+    if (!leave_unfinished())
+        exit(2);
+    read_file(after);
+    for (size_t i = 0, odd = 0; i < SIZE; i++)
+        if (after[i] != first[i] && odd++ % 2 == 0)
+            after[i] = first[i];
+    write_file(after);
+    holds("a reader goes with it, and with its journal",
+          bhtf_file_refresh(r) == 0 && bhtf_file_recovered(r) &&
+          is_image_sound(r));
+    bhtf_file_close(r);
+    unlink(journal);
+    unlink(file);
+    strcpy(file, link);
+    unlink(file);
+    snprintf(journal, sizeof journal, "%s.journal", file);
+    rmdir(place);
+}
+
+/* A hard link that is made while a writer is open, or beside half a change. */
+static void try_hard_links(void)
+{
+    struct bhtf_file_error why;
+    static uint8_t now[SIZE];
+    bhtf_file *f;
+
+    make_fresh();
+    unlink(other);
+    f = open_writer(NULL);
+    put(f, "A", "1");
+    if (link(file, other) != 0)
+        exit(2);
+    holds("a file that got a second name is not written",
+          put(f, "A", "2") == BHTF_FILE_UNFIT && has(file, "A", "1"));
+    unlink(other);
+    holds("until it has one again", put(f, "A", "3") == 0);
+    bhtf_file_close(f);
+    leave_half();
+    if (link(file, other) != 0)
+        exit(2);
+    f = open_writer(&why);
+    read_file(now);
+    holds("a change is finished, though the file has two names", f == NULL &&
+          why.number == BHTF_FILE_UNFIT && memcmp(now, after, SIZE) == 0 &&
+          !is_there(journal));
+    unlink(other);
+}
+
+/* Journals of those who may not write to the file. */
+static void try_owner(void)
+{
+    struct bhtf_file_error why;
+    bhtf_file *f;
+
+    if (geteuid() != 0) {
+        printf("not root: no journal of another user can be made\n");
+        return;
+    }
+    leave_half();
+    if (chmod(file, 0644) != 0 || chown(journal, 65534, 65534) != 0)
+        exit(2);
+    holds("a journal of one who may not write to the file stops a reader",
+          bhtf_file_open(file, NULL, &why) == NULL &&
+          why.number == BHTF_FILE_OWNER &&
+          strstr(why.words, "belongs to user 65534") != NULL);
+    holds("and a writer", open_writer(&why) == NULL &&
+          why.number == BHTF_FILE_OWNER);
+    if (chmod(journal, 0) != 0 || chmod(file, 0664) != 0)
+        exit(2);
+    holds("though a group may", bhtf_file_open(file, NULL, &why) == NULL &&
+          why.number == BHTF_FILE_OWNER);
+    if (chown(file, 0, 65534) != 0)
+        exit(2);
+    f = bhtf_file_open(file, NULL, &why);
+    holds("unless it is theirs", f != NULL && bhtf_file_recovered(f));
+    if (f != NULL)
+        bhtf_file_close(f);
+    if (chown(file, 65534, 0) != 0)
+        exit(2);
+    f = open_writer(&why);
+    holds("or the file is", f != NULL && bhtf_file_recovered(f));
+    if (f != NULL)
+        bhtf_file_close(f);
+}
+
+/* A journal has its rights when it has its name. */
+static void try_rights(void)
+{
+    struct stat about;
+    int status = 0;
+    bhtf_file *f;
+    pid_t child;
+
+    make_fresh();
+    fflush(stdout);
+    child = fork();
+    if (child == 0) {
+        f = open_writer(NULL);
+        ends_at_rights = 1;
+        if (f != NULL)
+            put(f, "A", "1");
+        _exit(8);
+    }
+    waitpid(child, &status, 0);
+    holds("a writer that is killed before its journal has its rights",
+          WIFEXITED(status) && WEXITSTATUS(status) == 7);
+    holds("leaves none", !is_there(journal));
+    chmod(file, 0664);
+    f = open_writer(NULL);
+    put(f, "A", "1");
+    holds("a journal has the file's rights", stat(journal, &about) == 0 &&
+          (about.st_mode & 0777) == 0664);
+    bhtf_file_close(f);
+}
+
+/* A file with holes gets whole pages before a change. */
+static void try_holes(void)
+{
+    bhtf_file *f;
+    int fd;
+
+    make_fresh();
+    unlink(file);
+    fd = open(file, O_RDWR | O_CREAT, 0644);
+    if (ftruncate(fd, SIZE) != 0 || pwrite(fd, first, 4096, 0) != 4096)
+        exit(2);
+    close(fd);
+    f = open_writer(NULL);
+    filled_bytes = 0;
+    has_holes = 1;
+    holds("holes are filled by pages", f != NULL && put(f, "A", "1") == 0 &&
+          filled_bytes == 8192);
+    has_holes = 0;
+    if (f != NULL)
+        bhtf_file_close(f);
+}
+
+/* A directory that may not be read. */
+static void try_unreadable_directory(const char *directory)
+{
+    const struct bhtf_file_how how = { BHTF_FILE_WRITE, 100, NULL, NULL };
+    char place[700], name[800];
+    int status = 0;
+    pid_t child;
+
+    snprintf(place, sizeof place, "%s/unread", directory);
+    snprintf(name, sizeof name, "%s/site", place);
+    mkdir(place, 0777);
+    make_fresh();
+    copy_file(file, name);
+    if (chmod(directory, 0755) != 0 || chmod(name, 0666) != 0 ||
+        chmod(place, 0333) != 0)
+        exit(2);
+    fflush(stdout);
+    child = fork();
+    if (child == 0) {
+        bhtf_file *f;
+
+        if (geteuid() == 0 && (setgid(65534) != 0 || setuid(65534) != 0))
+            _exit(9);
+        f = bhtf_file_open(name, &how, NULL);
+        _exit(f == NULL ? 8 : put(f, "A", "1") != 0 ? 7 : whole_systems != 1);
+    }
+    waitpid(child, &status, 0);
+    holds("where a directory may not be read, its file system is flushed",
+          WIFEXITED(status) && WEXITSTATUS(status) == 0);
+    chmod(place, 0755);
+    unlink(name);
+    strcat(name, ".journal");
+    unlink(name);
+    rmdir(place);
+}
+
 /* A link that leads to another file by now, and a process that went elsewhere
  * since it opened one by a relative name. */
 static void try_links(const char *directory)
@@ -656,6 +1074,17 @@ static void try_fork(void)
           status == 0 && is_there(journal));
     holds("and the lock", open_writer(NULL) == NULL);
     child = fork();
+    if (child == 0) {
+        size_t length = 1;
+
+        bhtf_file_image(f, &length);
+        _exit(put(f, "C", "3") != BHTF_FILE_MISUSE || length != 0 ||
+              bhtf_file_begin(f) != BHTF_FILE_MISUSE);
+    }
+    waitpid(child, &status, 0);
+    holds("one that changes the file by it is refused", status == 0 &&
+          has(file, "C", NULL));
+    child = fork();
     if (child == 0) { /* has the descriptors until it is told to end */
         close(way[1]);
         _exit(read(way[0], &byte, 1) != 0);
@@ -672,23 +1101,42 @@ static void try_fork(void)
     waitpid(child, &status, 0);
 }
 
-/* A name so long that no journal can stand beside it. */
+/* A name so long that no journal can stand beside it, and one of which the
+ * words have only the end. */
 static void try_long_name(const char *directory)
 {
     const struct bhtf_file_how how = { BHTF_FILE_WRITE, 100, NULL, NULL };
+    struct bhtf_file_error why;
     char name[900];
     bhtf_file *f;
 
     make_fresh();
     snprintf(name, sizeof name, "%s/%0250d", directory, 0);
     unlink(name);
-    holds("a name of 250 bytes", bhtf_file_create(name, first, SIZE, NULL,
-          NULL) == 0 && has(name, "A", NULL));
+    holds("a name of 250 bytes is too long for a journal",
+          bhtf_file_create(name, first, SIZE, NULL, &why) != 0 &&
+          why.error == ENAMETOOLONG &&
+          strstr(why.words, "no journal could stand beside it") != NULL);
+    copy_file(file, name);
     f = bhtf_file_open(name, &how, NULL);
-    holds("is read only", f != NULL && put(f, "A", "1") == BHTF_FILE_SYSTEM &&
-          bhtf_file_error(f)->error == ENAMETOOLONG);
+    holds("one that has it is read only", has(name, "A", NULL) && f != NULL &&
+          put(f, "A", "1") == BHTF_FILE_SYSTEM &&
+          bhtf_file_error(f)->error == ENAMETOOLONG &&
+          strstr(bhtf_file_error(f)->words, "File name too long") != NULL);
     if (f != NULL)
         bhtf_file_close(f);
+    unlink(name);
+    snprintf(name, sizeof name, "%s/%0240d", directory, 0);
+    unlink(name);
+    copy_file(file, name);
+    f = bhtf_file_open(name, &how, NULL);
+    strcat(name, ".journal");
+    mkdir(name, 0755);
+    holds("words keep their reason", f != NULL && put(f, "A", "1") != 0 &&
+          strstr(bhtf_file_error(f)->words, "File exists") != NULL);
+    bhtf_file_close(f);
+    rmdir(name);
+    *strrchr(name, '.') = '\0';
     unlink(name);
 }
 
@@ -697,18 +1145,18 @@ static void try_long_name(const char *directory)
 static uint64_t others(const uint8_t *image, size_t length,
                        const uint8_t *pairs, size_t count)
 {
-    return layer_sum_all(image, length) -
+    return layer_sum(image, length, 0, length) -
            layer_sum_met(image, length, pairs, count, 0) +
            layer_sum_met(image, length, pairs, count, 1);
 }
 
 static void try_sums(void)
 {
-    static uint8_t big[4100 * 4096];
-    const uint8_t uncounted[8] = { 0, 64, 0, 10, 0, 0, 0, 5 }; /* page 1024 */
+    static uint8_t big[5000 * 4096];
     const uint8_t pairs[16] = { 0, 0, 0, 10, 0, 0, 0, 5, 0, 0, 32, 0, 0, 0, 0,
                                 3 };
     uint64_t before;
+    int seen = 1;
 
     holds("XXH64 of nothing",
           layer_xxh64(NULL, 0, 0) == UINT64_C(0xEF46DB3751D8E999));
@@ -725,22 +1173,22 @@ static void try_sums(void)
     holds("stretches do not count",
           before == others(big, sizeof big, pairs, 2));
     big[15] = 1;
-    holds("the byte behind one does",
+    holds("the byte after one does",
           before != others(big, sizeof big, pairs, 2));
-    before = layer_sum_all(big, sizeof big);
-    big[1024 * 4096 + 15] = 1;
-    holds("a page that is not in a long file's sum",
-          before == layer_sum_all(big, sizeof big));
-    before = others(big, sizeof big, uncounted, 1);
-    memset(big + 1024 * 4096 + 10, 'x', 5);
-    holds("where stretches meet it they do not count",
-          before == others(big, sizeof big, uncounted, 1));
-    big[1024 * 4096 + 15] = 2;
-    holds("and its other bytes do",
-          before != others(big, sizeof big, uncounted, 1));
+    before = layer_sum(big, sizeof big, 0, sizeof big);
+    for (size_t page = 0; page < 5000; page++) {
+        big[page * 4096 + page % 4096] ^= 1;
+        seen &= layer_sum(big, sizeof big, 0, sizeof big) != before;
+        big[page * 4096 + page % 4096] ^= 1;
+        page += 236;
+    }
+    holds("every page of a long file is in its sum", seen);
+    holds("a sum is that of its parts", before ==
+          layer_sum(big, sizeof big, 0, 8192) +
+          layer_sum(big, sizeof big, 8192, sizeof big));
 }
 
-/* Above 16 MiB not every page counts. */
+/* A file above 16 MiB. */
 static void try_large(void)
 {
     const size_t size = 40u << 20;
@@ -764,6 +1212,52 @@ static void try_large(void)
     unlink(file);
 }
 
+/* An older copy of a large file that is put back, which differs in one text. */
+static void try_large_foreign(void)
+{
+    enum { LARGE = 40 << 20, TEXT = 3 << 20, TEXTS = 5 };
+    static char text[TEXT + 1];
+    uint8_t *image = calloc(LARGE, 1), *older = malloc(LARGE);
+    int refused = 0;
+
+    unlink(file);
+    unlink(journal);
+    memset(text, 'a', TEXT);
+    if (image == NULL || older == NULL ||
+        bhtf_create(image, LARGE, KEY, 1000, 3) != 0)
+        exit(2);
+    for (char name[] = "A"; name[0] < 'A' + TEXTS; name[0]++)
+        bhtf_add(image, LARGE, key(name), KEY, (uint8_t *)text, TEXT, BHTF_NEW);
+    for (int i = 0; i < TEXTS; i++) {
+        int fd = open(file, O_RDWR | O_CREAT, 0644);
+        char name[] = { (char)('A' + i), '\0' };
+        struct bhtf_file_error why = { 0, 0, "" };
+        bhtf_file *f;
+
+        if (write(fd, image, LARGE) != LARGE)
+            exit(2);
+        f = open_writer(NULL);
+        text[1 + 131072 * i] = 'b';
+        put(f, name, text);
+        text[1 + 131072 * i] = 'a';
+        bhtf_file_close(f);
+        leave_unfinished();
+        if (pwrite(fd, image, LARGE, 0) != LARGE)
+            exit(2);
+        close(fd);
+        f = bhtf_file_open(file, NULL, &why);
+        refused += f == NULL && why.number == BHTF_FILE_FOREIGN;
+        if (f != NULL)
+            bhtf_file_close(f);
+        unlink(journal);
+    }
+    holds("older copies of a large file, each other in one byte",
+          refused == TEXTS);
+    free(image);
+    free(older);
+    unlink(file);
+}
+
 int main(int argc, char **argv)
 {
     if (argc != 2)
@@ -784,11 +1278,18 @@ int main(int argc, char **argv)
     try_lost();
     try_unreadable();
     try_foreign();
-    try_short();
     try_damaged();
+    try_recover();
+    try_moved(argv[1]);
+    try_hard_links();
+    try_owner();
+    try_rights();
+    try_holes();
+    try_unreadable_directory(argv[1]);
     try_long_name(argv[1]);
     try_fork();
     try_large();
+    try_large_foreign();
     try_links(argv[1]);
     printf("%d passed, %d failed\n", passed, failed);
     return failed == 0 && passed > 0 ? 0 : 1;

@@ -1,6 +1,8 @@
 """module.py DIRECTORY: the module bhtf.py."""
 import os
 import sys
+import threading
+import time
 
 import bhtf
 
@@ -73,3 +75,60 @@ try:
 except ValueError:
     pass
 assert not os.path.exists(path + ".journal")
+
+# ---- forks ----
+with bhtf.open(path, write=True) as f:
+    child = os.fork()
+    if child == 0:
+        try:
+            refused(bhtf.MISUSE, f.add, "child", b"x")
+            refused(bhtf.MISUSE, f.get, "CP-103")
+            refused(bhtf.MISUSE, lambda: list(f))
+            f.close()
+            os._exit(0)
+        finally:
+            os._exit(1)
+    assert os.waitpid(child, 0)[1] == 0
+    f["CP-108"] = "the parent goes on"
+    assert f["CP-108"] == b"the parent goes on" and "child" not in f
+
+# ---- threads ----
+
+
+def close_while_read():
+    f = bhtf.open(path)
+    seen = []
+
+    def read():
+        try:
+            while True:
+                f.get("CP-103")
+                list(f)
+        except Exception as error:
+            seen.append(error)
+    thread = threading.Thread(target=read)
+    thread.start()
+    time.sleep(0.002)
+    f.close()
+    thread.join()
+    assert isinstance(seen[0], ValueError), seen
+
+
+for _ in range(100):
+    close_while_read()
+
+# ---- names and waits that are odd ----
+for call in bhtf.open, lambda name: bhtf.create(name + b"/no/such"):
+    try:
+        call(os.fsencode(path) + b"\xff")
+        raise AssertionError("opened")
+    except FileNotFoundError:
+        pass
+    except bhtf.Error as error:
+        assert error.errno == 2, error
+with bhtf.open(path, write=True) as f:
+    start = time.monotonic()
+    refused(bhtf.LOCKED, lambda: bhtf.open(path, write=True, wait=-1))
+    assert time.monotonic() - start < 5
+with bhtf.open(path, wait=5e6), bhtf.open(path, wait=1e300):
+    pass
