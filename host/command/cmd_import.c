@@ -312,7 +312,7 @@ static int says(struct import *m, struct piece text,
     if (!point_take(&m->apart, text, own))
         return 0;
     for (int i = 0; i < POINT_FIELDS; i++)
-        if (!same_piece(own[i], fields[i]))
+        if (!same_piece(i == NOTE ? own[i] : piece_trim(own[i]), fields[i]))
             return 0;
     return 1;
 }
