@@ -15,7 +15,7 @@ bhtf create finish
 bhtf add finish 'CP-1' x
 bhtf add finish 'CP 2' x
 bhtf add finish 'RP-3' x
-same "bash: commands" $'check\ncompact\ncount\ncreate' "$(completed 'bhtf c')"
+same "bash: commands" $'check\ncompact\ncopy\ncount\ncreate' "$(completed 'bhtf c')"
 same "bash: every command" "$( (bhtf --help | sed -n 's/^  bhtf \([a-z]*\) .*/\1/p'; echo help) | LC_ALL=C sort)" \
   "$(completed 'bhtf ' | grep -v '^-')"
 same "bash: help" $'dump' "$(completed 'bhtf help du')"
