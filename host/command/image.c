@@ -14,8 +14,8 @@
 static void end_on_bus_error(int number)
 {
     static const char words[] =
-        "bhtf: the file was cut short by another program, or its disk is full "
-        "or failed, while it was in use\n";
+        "bhtf: the file was cut short by another program, its disk is full, or "
+        "its disk failed, while it was in use\n";
     ssize_t ignored = write(STDERR_FILENO, words, sizeof words - 1);
 
     (void)ignored;
