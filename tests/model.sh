@@ -1,8 +1,8 @@
 #!/usr/bin/env bash
 # The library beside a second model of documents 01 and 02 and its book, in Python, on random lists of calls; then the model with seeded
-# faults, each of which must be found. LIB: the proved archive. MODEL_SECONDS: how long the lists go on, 60 if not set; MODEL_SEED: their
-# seed, drawn and printed if not set. Faults are looked for with one seed, so that they are found every time or never. The last line is
-# 'N passed, M failed'.
+# faults, each of which must be found. LIB: the proved archive. MODEL_SECONDS: how long the lists go on by the processor's time, 60 if not
+# set; MODEL_SEED: their seed, drawn and printed if not set. Faults are looked for with one seed and a number of calls, so that they are
+# found every time or never. The last line is 'N passed, M failed'.
 set -u
 cd "$(dirname "$0")/.." || exit 2
 
@@ -33,7 +33,7 @@ counted() {
 if gcc -shared -o "$room/libmodel.so" -Wl,--whole-archive "$lib" -Wl,--no-whole-archive; then
   run=(python3 -B tests/model/run.py --library "$room/libmodel.so")
   counted "${run[@]}" --large --seconds "$seconds" ${MODEL_SEED:+--seed "$MODEL_SEED"}
-  counted "${run[@]}" --seconds 60 --seed 1 --faults
+  counted "${run[@]}" --seed 1 --faults
 else
   failed=$((failed + 1))
   echo "FAILED: no shared object of $lib"

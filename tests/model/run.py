@@ -50,6 +50,7 @@ BOOK_FLOOR = 100    # calls of one name beside the book
 LONG_FLOOR = 50     # calls with long slices
 LARGE_FLOOR = 5     # calls on a large table
 DIFFERENCES = 5     # after as many the run ends
+FAULT_CALLS = 60_000  # in as many a fault must be found
 
 
 def load(fault=None):
@@ -583,10 +584,11 @@ def attempt(run, options, what, n=None):
 
 
 def play_lists(run, options):
-    begun = told = time.monotonic()
+    """List after list. Time is the processor's: on a busy machine as many calls are made, and they take longer."""
+    begun = told = time.process_time()
     n = 0
     while len(run.failed) < DIFFERENCES:
-        now = time.monotonic()
+        now = time.process_time()
         if options.calls and run.calls >= options.calls or options.seconds and now - begun >= options.seconds:
             break
         if now - told > 60:
@@ -600,7 +602,7 @@ def full_run(library, options):
     run = Run(library, next(fault for fault in FAULTS if fault.name == options.fault) if options.fault else None)
     run.shrink_seconds = 15
     passed, failed = (0, 0) if options.no_examples else try_examples()
-    begun = time.monotonic()
+    begun, begun_by_processor = time.monotonic(), time.process_time()
     floors = {}
     if options.list is not None:
         attempt(run, options, lambda: run.play(options.seed, options.list), options.list)
@@ -612,7 +614,8 @@ def full_run(library, options):
             attempt(run, options, lambda: run.large(options.seed))
         play_lists(run, options)
     run.table()
-    print(f'seed {options.seed}: {run.lists} lists, {run.calls} calls in {time.monotonic() - begun:.0f} s')
+    print(f'seed {options.seed}: {run.lists} lists, {run.calls} calls in {time.monotonic() - begun:.0f} s, '
+          f'{time.process_time() - begun_by_processor:.0f} of the processor')
     missing = [name for name in LATER if name not in run.names]
     print(f'drove {", ".join(run.names)}' + (f'; not exported: {", ".join(missing)}' if missing else ''))
     for group in sorted(set(floors) | set(run.failed)):
@@ -634,10 +637,9 @@ def try_faults(library, options):
             print(f'not tried: {fault.name}: the library has no {fault.needs}')
             continue
         run = Run(library, fault)
-        begun = time.monotonic()
         found = None
         n = 0
-        while found is None and time.monotonic() - begun < options.seconds:
+        while found is None and run.calls < (options.calls or FAULT_CALLS):
             try:
                 run.play(options.seed, n)
             except Difference as difference:
@@ -656,15 +658,15 @@ def main():
     parser = argparse.ArgumentParser(description=__doc__.split('\n')[0])
     parser.add_argument('--library', required=True, help='the library as a shared object')
     parser.add_argument('--seed', type=int, default=random.SystemRandom().randrange(10 ** 9))
-    parser.add_argument('--seconds', type=float, default=None, help='end after as long, or a fault that long')
-    parser.add_argument('--calls', type=int, default=None, help='end after as many calls')
+    parser.add_argument('--seconds', type=float, default=None, help='end after as long by the processor, 60 if nothing is said')
+    parser.add_argument('--calls', type=int, default=None, help='end after as many calls, or look as many long for a fault')
     parser.add_argument('--list', type=int, default=None, help='play this list of the seed alone')
     parser.add_argument('--large', action='store_true', help='begin with a table of 140,000 texts, which takes a while')
     parser.add_argument('--no-examples', action='store_true', help='leave the worked examples of the model out')
     parser.add_argument('--faults', action='store_true', help='try seeded faults instead')
     parser.add_argument('--fault', help='run with this fault, to see what is said of it')
     options = parser.parse_args()
-    if options.seconds is None and (options.faults or options.calls is None):
+    if options.seconds is None and options.calls is None:
         options.seconds = 60
     faulthandler.enable()
     print(f'seed {options.seed}', flush=True)
