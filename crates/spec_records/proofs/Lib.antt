@@ -1,0 +1,2 @@
+-- Cases of storing and reading records by column.
+pub mod CasesRecords  -- by computation
