@@ -2,11 +2,13 @@
 --     storeRecords img key recs W      the image afterwards, and the answer
 --     readRecords img key room         the answer to a reading with a lent slice of so many bytes; the image stays
 --     filledRecords img key out        what the lent slice holds afterwards
+--     Stores, Reads                    what the contracts of the calls say
 -- Assumes nothing.
 use Prim.Native.Nat.{ℕ, _-_}
 use mathlib.Core.Bool.{Bool, cond, _&&_}
 use mathlib.Core.List.{List, [], _∷_, _++_}
 use mathlib.Core.Option.{some}
+use mathlib.Core.Path.{_≡_}
 use lib.ListN.{length}
 use lib.Dec.{leb, eqb}
 use Rattle.spec_file.specs.Bytes.{Bytes, store}
@@ -74,3 +76,15 @@ readRecords img key room =
 unfoldable pub filledRecords : Bytes → Bytes → Bytes → Bytes
 filledRecords img key out =
     settled (readNumber img key (length out)) out (store out 0 (records (storedBytes img key)))
+
+-- ---- what the contracts of the calls say: the answer, and every byte that they may write
+
+pub record Stores (img key recs : Bytes) (W : ℕ) (after : Bytes) (n : ℕ) : Type 0 where
+  pub number : n ≡ storeRecords img key recs W .answer .number
+  pub image : after ≡ storeRecords img key recs W .after
+
+-- out and filled: the lent slice before the call and after it
+pub record Reads (img key out filled : Bytes) (n m : ℕ) : Type 0 where
+  pub number : n ≡ readRecords img key (length out) .answer .number
+  pub count : m ≡ readRecords img key (length out) .answer .amount
+  pub slice : filled ≡ filledRecords img key out
