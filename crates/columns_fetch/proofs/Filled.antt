@@ -26,22 +26,24 @@ use Rattle.columns_fetch.specs.Fills.{Fills}
 -- ---- by what is stored
 
 module _ (stored out : Bytes) where
-  fills-none : readable stored (length out) ≡ false → Fills stored out out 19 0
-  unfolding recordsAnswer plain
-  fills-none h =
-      record {
-        number = sym (firstNo-no 19 _ [] h);
-        count = refl;
-        slice = sym (settled-no 19 out _ (λ z. omega arith));
-      }
+  -- as `refused` answers 19
+  module _ (n m : ℕ) (is : (n ≡ 19) × (m ≡ 0)) where
+    fills-none : readable stored (length out) ≡ false → Fills stored out out n m
+    unfolding recordsAnswer plain
+    fills-none h =
+        record {
+          number = is .0 ∙ sym (firstNo-no 19 _ [] h);
+          count = is .1 ∙ sym (ap (λ (k : ℕ). recordsAnswer k stored .amount) (is .0));
+          slice = sym (settled-no n out _ (λ z. omega (arith, is .0)));
+        }
 
-  pub fills-part : wholeColumns stored ≡ false → Fills stored out out 19 0
-  fills-part h = fills-none (unfold readable in rw h refl)
+    pub fills-part : wholeColumns stored ≡ false → Fills stored out out n m
+    fills-part h = fills-none (unfold readable in rw h refl)
+
+    pub fills-short : wholeColumns stored ≡ true → length out < length stored - 1 → Fills stored out out n m
+    fills-short h l = fills-none (unfold readable in rw (h, lt-leb (length stored - 1) (length out) l) refl)
 
   module _ (h : wholeColumns stored ≡ true) where
-    pub fills-short : length out < length stored - 1 → Fills stored out out 19 0
-    fills-short l = fills-none (unfold readable in rw (h, lt-leb (length stored - 1) (length out) l) refl)
-
     pub fills-all : length stored - 1 ≤ length out → (filled : Bytes) → filled ≡ store out 0 (records stored)
         → Fills stored out filled 0 (length stored - 1)
     unfolding recordsAnswer readable
@@ -58,15 +60,15 @@ module _ (stored out : Bytes) where
 -- ---- by lookup's answer
 
 module _ (img key out : Bytes) where
-  pub reads-refused : (n : ℕ) → n ≡ lookupNumber img key → (n ≡ 0 → ⊥) → Reads img key out out n 0
+  pub reads-refused : (n m : ℕ) → n ≡ lookupNumber img key → (n ≡ 0 → ⊥) → m ≡ 0 → Reads img key out out n m
   unfolding readRecords filledRecords plain
-  reads-refused n e z =
+  reads-refused n m e z e₀ =
       let refused : lookupNumber img key ≡ 0 → ⊥ = λ q. z (e ∙ q) in
       let is : n ≡ readNumber img key (length out) = e ∙ sym (read-stop img key (length out) refused) in
       let no : readNumber img key (length out) ≡ 0 → ⊥ = λ q. z (is ∙ q) in
       record {
         number = is ∙ sym (records-number _ (storedBytes img key));
-        count = sym (ap (λ (a : Answer). a .amount) (records-refused _ (storedBytes img key) no));
+        count = e₀ ∙ sym (ap (λ (a : Answer). a .amount) (records-refused _ (storedBytes img key) no));
         slice = sym (settled-no _ out _ no);
       }
 

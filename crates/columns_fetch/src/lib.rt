@@ -2,7 +2,7 @@
 use call_lookup::locate;
 use columns_read::read_columns;
 use columns_width::whole_columns;
-ghost use lib.ListN.{length};
+ghost use mathlib.Core.Path.{_≡_};
 ghost use Rattle.spec_records.specs.Records.{Reads};
 ghost use Rattle.columns_fetch.specs.Fills.{Fills};
 
@@ -13,22 +13,23 @@ pub struct Fetched {
     pub bytes: usize,
 }
 
-// Fills the slice with the records that are stored, as far as they reach; 19 where there are none, or it is too short.
+// A refusal's answer.
+fn refused(number: u32) -> Fetched
+    ensures { λ r. ⌜ (r .number ≡ number) × (r .bytes ≡ 0) ⌝ }
+{
+    Fetched { number, bytes: 0 }
+}
+
+// Fills the front of the slice with the records that are stored; 19 where no whole columns are, or it is too short.
 fn fill(out: &mut [u8], stored: &[u8]) -> Fetched
     ensures { λ r. ⌜ Fills (now (stored .entry)) (now (out .entry)) (now (out .exit)) (r .number) (r .bytes) ⌝ }
 {
     if !whole_columns(stored) {
-        return Fetched {
-            number: 19,
-            bytes: 0,
-        };
+        return refused(19);
     }
     let bytes = stored.len() - 1;
     if out.len() < bytes {
-        return Fetched {
-            number: 19,
-            bytes: 0,
-        };
+        return refused(19);
     }
     read_columns(&mut out[0..bytes], stored);
     Fetched { number: 0, bytes }
@@ -43,7 +44,7 @@ pub fn read_records(image: &[u8], key: &[u8], out: &mut [u8]) -> Fetched
     let found = locate(image, key);
     let number = found.number;
     if number != 0 {
-        return Fetched { number, bytes: 0 };
+        return refused(number);
     }
     let start = found.start.at();
     let end = start + found.length;

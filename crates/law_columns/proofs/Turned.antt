@@ -1,7 +1,8 @@
 -- Columns and records byte by byte, and each after the other: "reading after storing gives the records, and
 -- rearranging what was read gives the stored bytes".
 --     whole-width, whole-count, whole-stored, whole-read     what the test of 19 says; nothing-stored
---     length-columns, width-columns, byte-columns      what is stored: its length, its first byte, the others
+--     length-columns, width-columns, byte-columns      what is stored: its length, its first byte, the others;
+--                                                      length-stored, of whole records
 --     length-records, byte-records                     the same of what is read; length-read, of whole columns
 --     columns-only, records-only      nothing else has these bytes
 --     records-columns, columns-records      each after the other, for every W from 1 on
@@ -101,6 +102,12 @@ module _ (W n : ℕ) (recs : Bytes) (pos : 0 < W) (l : length recs ≡ n * W) wh
       ∙ ap (λ (p : ℕ). getD (W ∷ concatenate W (column W n recs)) p 0) at
       ∙ byte-rows W n (column W n recs) length-column j r h′ h
       ∙ byte-tabulate n (λ r. getD recs (r * W + j) 0) r h)
+
+-- of whole records: one byte more than they have
+pub length-stored : (W : ℕ) (recs : Bytes) → wholeRecords W (length recs) ≡ true
+    → length (columns W recs) ≡ 1 + length recs
+length-stored W recs h =
+    length-columns W (length recs / W) recs (whole-width W (length recs) h .0) (whole-count W (length recs) h)
 
 -- ---- what is read of n records
 

@@ -18,11 +18,16 @@ use Rattle.columns_fetch.proofs.fill.Tie as tie
 whole-columns-requires : tie.Need-whole-columns-requires
 whole-columns-requires c κs = search needs
 
+refused-requires : tie.Need-refused-requires
+refused-requires c κs = search needs
+
 returns : tie.Need-returns
 returns c =
-    let W = c .before in
+    let T = c .before in
+    let W = T .before in
     let A = W .before .before .before .args in
-    fills-part (A .stored .now) (A .out .now) (was-no (W .whole-columns .ensures) (c .if1 .taken))
+    fills-part (A .stored .now) (A .out .now) _ _ (c .refused .ensures)
+    (was-no (W .whole-columns .ensures) (T .if1 .taken))
 
 -- ---- whole columns are stored
 
@@ -38,11 +43,14 @@ some-stored c = omega (arith, length-read _ (whole c))
 sub-bytes : tie.Need-sub-bytes
 sub-bytes c = some-stored c
 
+refused-requires-2 : tie.Need-refused-requires-2
+refused-requires-2 c κs = search needs
+
 returns-2 : tie.Need-returns-2
 returns-2 c =
-    let E = c .before in
-    let A = start-at-else1 E .args in
-    fills-short (A .stored .now) (A .out .now) (whole E) (c .if2 .taken)
+    let T = c .before in
+    let A = start-at-else1 (T .before) .args in
+    fills-short (A .stored .now) (A .out .now) _ _ (c .refused2 .ensures) (whole (T .before)) (T .if2 .taken)
 
 sub-read-columns : tie.Need-sub-read-columns
 sub-read-columns c = search needs
@@ -83,8 +91,10 @@ fill-spec =
     tie.close
     (tie.spec
     whole-columns-requires
+    refused-requires
     returns
     sub-bytes
+    refused-requires-2
     returns-2
     sub-read-columns
     part-read-columns-start

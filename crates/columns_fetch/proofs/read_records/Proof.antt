@@ -18,11 +18,17 @@ locate-requires c κs = search needs
 abbrev start-at-locate : tie.After-locate → tie.Start
 start-at-locate c = c .before .before .before .before
 
+refused-requires : tie.Need-refused-requires
+refused-requires c κs = search needs
+
 returns : tie.Need-returns
 returns c =
-    let L = c .before in
+    let T = c .before in
+    let L = T .before in
     let A = start-at-locate L .args in
-    reads-refused (A .image .now) (A .key .now) (A .out .now) _ (L .locate .ensures .0) (c .if1 .taken)
+    let r = c .refused .ensures in
+    reads-refused (A .image .now) (A .key .now) (A .out .now) _ _ (r .0 ∙ L .locate .ensures .0)
+    (λ z. T .if1 .taken (sym (r .0) ∙ z)) (r .1)
 
 at-requires : tie.Need-at-requires
 at-requires c κs = search needs
@@ -85,6 +91,7 @@ read-records-spec =
     tie.close
     (tie.spec
     locate-requires
+    refused-requires
     returns
     at-requires
     add-end
