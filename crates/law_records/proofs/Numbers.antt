@@ -1,6 +1,7 @@
 -- What storing and reading answer, by the first no, on any image; and what they leave then.
 --     store-stop, store-19, store-on      storing's number: as every call's on a name, 19, as add's in mode 2
 --     store-add                           with whole records storing is an add, in mode 2, of what is stored
+--     store-noted                         which is never empty, so that the version stays
 --     read-stop, read-on                  reading's number: lookup's, or whether what is stored can be read
 --     records-number, records-refused     reading's answer, by its number
 -- Assumes nothing.
@@ -10,10 +11,11 @@ use native.Mathlib.Omega.{arith}
 use mathlib.Core.Bool.{Bool, true, false}
 use mathlib.Core.List.{List, [], _∷_, _++_}
 use lib.ListN.{length}
+use borrow.Author.Tests.{ne-eqb}
 use Rattle.spec_file.specs.Bytes.{Bytes}
 use Rattle.spec_file.specs.Image.{Layout, layoutOf}
 use Rattle.spec_file.specs.Search.{Probe, search, isMet}
-use Rattle.spec_file.specs.Messages.{added}
+use Rattle.spec_file.specs.Messages.{noted}
 use Rattle.spec_file.specs.Questions.{Question, ask, firstNo, nameAllowed, modeKnown, metMessageSound, opened, pointAsks, addAsks, lookupAsks, openNumber, seekNumber, addNumber, lookupNumber}
 use Rattle.spec_file.specs.Calls.{Answer, plain, settled, add}
 use Rattle.law_file.proofs.Tests.{by-bool, by-eq, zero-no}
@@ -21,6 +23,7 @@ use Rattle.law_file.proofs.Opened.{firstNo-none, firstNo-yes, firstNo-no, first
 use Rattle.law_file.proofs.Sought.{seek-closed, seek-7, seek-0, seek-opened, seek-allowed, add-stop, add-on}
 use Rattle.law_file.proofs.Outcomes.{lookup-closed}
 use Rattle.spec_columns.specs.Columns.{wholeRecords, columns}
+use Rattle.law_columns.proofs.Turned.{length-stored}
 use Rattle.spec_records.specs.Records.{storeAsks, storeNumber, storeRecords, storedBytes, readable, readAsks, readNumber, recordsAnswer}
 
 -- ---- storing
@@ -65,6 +68,12 @@ module _ (img key recs : Bytes) (W : ℕ) where
   pub store-add : whole ≡ true → storeRecords img key recs W ≡ add img key (columns W recs) 2
   unfolding storeRecords add
   store-add h = rw (store-add-number h) refl
+
+  pub store-noted : whole ≡ true → (b : Bytes) → noted (columns W recs) 2 b ≡ b
+  unfolding noted
+  store-noted h b =
+      let some′ : length (columns W recs) ≡ 0 → ⊥ = λ e. omega (arith, length-stored W recs h) in
+      rw (ne-eqb (length (columns W recs)) 0 some′) refl
 
 -- ---- reading
 
