@@ -1,5 +1,6 @@
 // Records stored by column under a name that is absent: its entry goes to the empty slot where the search ended, the
 // columns to new space.
+use bytes_words::answers::TABLE_FULL;
 use bytes_words::fields::read_u32;
 use bytes_words::limits::FREE_FIELD;
 use bytes_words::limits::POINTS_FIELD;
@@ -66,11 +67,11 @@ pub fn store_absent(
         (columns width (now (records .entry))) 2)) ⌝ }
 {
     let Found::Empty(slot) = found else {
-        return 10;
+        return TABLE_FULL;
     };
     let slots = shape.slots;
     if slots <= read_u32(image, POINTS_FIELD) as usize {
-        return 10;
+        return TABLE_FULL;
     }
     let number = room_number(image, shape, 1 + records.len());
     if number != 0 {

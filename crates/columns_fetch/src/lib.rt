@@ -1,4 +1,5 @@
 // Reading records that are stored by column: the call, on any image bytes.
+use bytes_words::answers::BAD_RECORDS;
 use call_lookup::locate;
 use columns_read::read_columns;
 use columns_width::whole_columns;
@@ -25,11 +26,11 @@ fn fill(out: &mut [u8], stored: &[u8]) -> Fetched
     ensures { λ r. ⌜ Fills (now (stored .entry)) (now (out .entry)) (now (out .exit)) (r .number) (r .bytes) ⌝ }
 {
     if !whole_columns(stored) {
-        return refused(19);
+        return refused(BAD_RECORDS);
     }
     let bytes = stored.len() - 1;
     if out.len() < bytes {
-        return refused(19);
+        return refused(BAD_RECORDS);
     }
     read_columns(&mut out[0..bytes], stored);
     Fetched { number: 0, bytes }

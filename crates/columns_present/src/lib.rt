@@ -1,4 +1,5 @@
 // Records stored by column under a name that is present: in place of its message where they fit, else in new space.
+use bytes_words::answers::DAMAGED;
 use bytes_words::fields::read_u32;
 use bytes_words::limits::FREE_FIELD;
 use columns_message::overwrite_records;
@@ -103,7 +104,7 @@ pub fn store_present(
 {
     let o = offset_of(image, shape, slot);
     if !message_sound(image, shape, o) {
-        return 11;
+        return DAMAGED;
     }
     replace_records(image, shape, slot, o, records, width)
 }

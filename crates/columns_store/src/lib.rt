@@ -1,5 +1,6 @@
 // Storing records by column: the call, on any image bytes. It does what add does in mode 2, with the columns as the
 // text, which is written straight into the image.
+use bytes_words::answers::BAD_RECORDS;
 use columns_absent::store_absent;
 use columns_present::store_present;
 use columns_width::whole_records;
@@ -55,7 +56,7 @@ pub fn store_records(image: &mut [u8], key: &[u8], records: &[u8], width: usize)
         Sought::Refused(number) => number,
         Sought::At(shape, found, _) => {
             if !whole_records(width, records.len()) {
-                return 19;
+                return BAD_RECORDS;
             }
             store_found(image, shape, found, key, records, width)
         }

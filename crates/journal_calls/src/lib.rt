@@ -3,6 +3,7 @@
 //     packed    compaction in this form
 pub mod packed;
 
+use bytes_words::answers::SHORT_SLICE;
 use call_add::add;
 use call_delete::delete;
 use changes_bytes::put_part;
@@ -10,7 +11,7 @@ use journal_commit::update;
 ghost use lib.ListN.{length};
 ghost use Rattle.spec_file.specs.Bytes.{Bytes};
 ghost use Rattle.spec_file.specs.Calls.{add, delete};
-ghost use Rattle.journal_calls.specs.Journals.{Journals};
+ghost use Rattle.spec_changes.specs.Journals.{Journals};
 
 // Add by way of the journal.
 pub fn add_journaled(
@@ -27,7 +28,7 @@ pub fn add_journaled(
 {
     let size = image.len();
     if work.len() < size {
-        return 16;
+        return SHORT_SLICE;
     }
     put_part(work, 0, image, 0, size);
     let number = add(&mut work[0..size], key, bytes, mode);
@@ -45,7 +46,7 @@ pub fn delete_journaled(image: &mut [u8], key: &[u8], work: &mut [u8], journal: 
 {
     let size = image.len();
     if work.len() < size {
-        return 16;
+        return SHORT_SLICE;
     }
     put_part(work, 0, image, 0, size);
     let number = delete(&mut work[0..size], key);

@@ -1,10 +1,11 @@
 // Compaction in the form that a cut does not harm.
+use bytes_words::answers::SHORT_SLICE;
 use call_compact::compact;
 use changes_bytes::put_part;
 use journal_commit::update;
 ghost use lib.ListN.{length};
 ghost use Rattle.spec_compaction.specs.Compact.{compact};
-ghost use Rattle.journal_calls.specs.Journals.{Journals};
+ghost use Rattle.spec_changes.specs.Journals.{Journals};
 
 // Compaction by way of the journal.
 pub fn compact_journaled(image: &mut [u8], work: &mut [u8], journal: &mut [u8]) -> u32
@@ -14,7 +15,7 @@ pub fn compact_journaled(image: &mut [u8], work: &mut [u8], journal: &mut [u8]) 
 {
     let size = image.len();
     if work.len() < size {
-        return 16;
+        return SHORT_SLICE;
     }
     put_part(work, 0, image, 0, size);
     let number = compact(&mut work[0..size]);
