@@ -3,14 +3,17 @@
 --     store-add                           with whole records storing is an add, in mode 2, of what is stored
 --     store-noted                         which is never empty, so that the version stays
 --     read-stop, read-on                  reading's number: lookup's, or whether what is stored can be read
---     records-number, records-refused     reading's answer, by its number
+--     records-number, records-refused, records-shown      reading's answer, by its number
+--     read-within                         its count is at most the length of what is stored
 -- Assumes nothing.
 use mathlib.Core.Path.{_≡_, refl, sym, ap, _∙_}
-use Prim.Native.Nat.{ℕ}
+use Prim.Native.Nat.{ℕ, _-_, _≤_}
 use native.Mathlib.Omega.{arith}
 use mathlib.Core.Bool.{Bool, true, false}
 use mathlib.Core.List.{List, [], _∷_, _++_}
+use mathlib.Core.Option.{some}
 use lib.ListN.{length}
+use lib.Dec.{leb}
 use borrow.Author.Tests.{ne-eqb}
 use Rattle.spec_file.specs.Bytes.{Bytes}
 use Rattle.spec_file.specs.Image.{Layout, layoutOf}
@@ -18,13 +21,13 @@ use Rattle.spec_file.specs.Search.{Probe, search, isMet}
 use Rattle.spec_file.specs.Messages.{noted}
 use Rattle.spec_file.specs.Questions.{Question, ask, firstNo, nameAllowed, modeKnown, metMessageSound, opened, pointAsks, addAsks, lookupAsks, openNumber, seekNumber, addNumber, lookupNumber}
 use Rattle.spec_file.specs.Calls.{Answer, plain, settled, add}
-use Rattle.law_file.proofs.Tests.{by-bool, by-eq, zero-no}
+use Rattle.law_file.proofs.Tests.{by-bool, by-eq, and-left, zero-yes, zero-no}
 use Rattle.law_file.proofs.Opened.{firstNo-none, firstNo-yes, firstNo-no, firstNo-head, firstNo-tail, firstNo-opened, firstNo-refused}
 use Rattle.law_file.proofs.Sought.{seek-closed, seek-7, seek-0, seek-opened, seek-allowed, add-stop, add-on}
 use Rattle.law_file.proofs.Outcomes.{lookup-closed}
-use Rattle.spec_columns.specs.Columns.{wholeRecords, columns}
-use Rattle.law_columns.proofs.Turned.{length-stored}
-use Rattle.spec_records.specs.Records.{storeAsks, storeNumber, storeRecords, storedBytes, readable, readAsks, readNumber, recordsAnswer}
+use Rattle.spec_columns.specs.Columns.{wholeRecords, wholeColumns, columns, records}
+use Rattle.law_columns.proofs.Turned.{length-stored, length-read}
+use Rattle.spec_records.specs.Records.{storeAsks, storeNumber, storeRecords, storedBytes, readable, readAsks, readNumber, recordsAnswer, readRecords}
 
 -- ---- storing
 
@@ -126,7 +129,30 @@ module _ (n : ℕ) (stored : Bytes) where
   unfolding recordsAnswer
   records-refused z = zero-no n _ (plain n) z
 
+  pub records-shown : n ≡ 0
+      → recordsAnswer n stored
+      ≡ record { number = 0; amount = length (records stored); text = some (records stored) }
+  unfolding recordsAnswer
+  records-shown z = zero-yes n _ (plain n) z
+
   pub records-number : recordsAnswer n stored .number ≡ n
   unfolding plain recordsAnswer
   records-number =
       by-eq n 0 (λ z. rw z refl) (λ z. ap (λ (a : Answer). a .number) (records-refused z))
+
+-- the records of what can be read are one byte shorter than it
+pub read-within : (img key : Bytes) (room : ℕ)
+    → readRecords img key room .answer .amount ≤ length (storedBytes img key)
+unfolding readRecords readable plain
+read-within img key room =
+    let stored : Bytes = storedBytes img key in
+    let none′ : (readNumber img key room ≡ 0 → ⊥) → readRecords img key room .answer .amount ≤ length stored =
+    λ z. omega (arith, ap (λ (a : Answer). a .amount) (records-refused (readNumber img key room) stored z)) in
+    by-eq (lookupNumber img key) 0
+    (λ z. by-bool (readable stored room)
+    (λ h.
+    let whole = and-left (wholeColumns stored) (leb (length stored - 1) room) h in
+    let shown = records-shown (readNumber img key room) stored (read-0 img key room z h) in
+    omega (arith, ap (λ (a : Answer). a .amount) shown, length-read stored whole))
+    (λ h. none′ (λ e. omega (arith, read-19 img key room z h))))
+    (λ z. none′ (λ e. z (sym (read-stop img key room z) ∙ e)))

@@ -1,23 +1,23 @@
+-- The number of bytes filled fits 32 bits. Assumes nothing.
+use native.Mathlib.Omega.{arith}
+use lib.ListN.{length}
 use borrow.Author.Needs.{needs}
+use Rattle.station.proofs.Small.{read-small}
 use Rattle.station.proofs.bhtf_read_columns.Statement.{statement}
 use Rattle.station.proofs.bhtf_read_columns.Tie as tie
-use Rattle.station.proofs.bhtf_read_columns.Reads as reads
-use Rattle.station.proofs.bhtf_read_columns.Lts as lts
-use Rattle.columns_fetch.proofs.read_records.Reads as read-records-reads
 
--- src/lib.rt:318:9
 read-records-requires : tie.Need-read-records-requires
 read-records-requires c κs = search needs
 
--- src/lib.rt:319:14
 cast-bytes : tie.Need-cast-bytes
-cast-bytes c = ?
+cast-bytes c =
+    let P = c .before .before .before in
+    let A = P .before .before .before .before .before .args in
+    omega (arith, read-small (A .image .now) (A .key .now) (length (A .out .now)), P .read-records .ensures .count)
 
--- src/lib.rt:313:1
 same-length : tie.Need-same-length
 same-length c = search needs
 
--- src/lib.rt:313:1
 returns : tie.Need-returns
 returns c = search needs
 
