@@ -6,12 +6,12 @@ use Prim.Native.Nat.{ℕ}
 use native.Mathlib.Omega.{arith}
 use mathlib.Core.Bool.{Bool, true, false}
 use mathlib.Core.List.{List, [], _∷_}
-use mathlib.Core.Option.{Option}
+use mathlib.Core.Option.{Option, none}
 use lib.ListN.{length}
 use borrow.Author.Tests.{ne-eqb}
 use Rattle.spec_file.specs.Bytes.{Bytes}
 use Rattle.spec_file.specs.Image.{Layout, slot, offsetOf}
-use Rattle.spec_file.specs.Search.{met, search}
+use Rattle.spec_file.specs.Search.{met, search, isMet}
 use Rattle.spec_file.specs.Messages.{shown, bytesOf}
 use Rattle.spec_file.specs.Questions.{Question, ask, firstNo, nameAllowed, modeKnown, named, seekNumber, lookupNumber}
 use Rattle.spec_file.specs.Calls.{Answer, Outcome, plain, settled, lookup}
@@ -80,6 +80,15 @@ module _ (g : Layout) (img : Bytes) (b : Book) (r : Reflects g img b) (key : Byt
           after = rw (ne-eqb (firstNo asks) 0 z) r;
         }
 
+    -- 14
+    absent-both : Allowed g key → isMet (search g img key) ≡ false
+        → Same g (readRecords img key room) (readFound b room none)
+    unfolding readFound
+    absent-both a h =
+        let absent = lookup-14 img key (open₀ r) (rw (r .file .layout) a) (rw (r .file .layout) h) in
+        let fourteen : firstNo (ask 14 false ∷ []) ≡ 14 = firstNo-no 14 false [] refl in
+        read-both (ask 14 false ∷ []) b (absent ∙ sym fourteen) (λ z. omega (arith, z, fourteen))
+
     -- the point's text is what is stored
     module _ (a : Allowed g key) (i : ℕ) (m : search g img key ≡ met i) where
       abbrev text : Option Bytes
@@ -106,19 +115,17 @@ module _ (g : Layout) (img : Bytes) (b : Book) (r : Reflects g img b) (key : Byt
         let found = find key (b .entries) in
         by-bool (nameAllowed (g .K) key)
         (λ a.
-        rw (guarded-yes b _ (readFound b room found) (rw (book-key r) (firstNo-yes 7 _ [] a ∙ firstNo-none)))
+        let named₀ : firstNo (ask 7 (nameAllowed (b .terms .K) key) ∷ []) ≡ 0 =
+        rw (book-key r) (firstNo-yes 7 _ [] a ∙ firstNo-none) in
+        rw (guarded-yes b _ (readFound b room found) named₀)
         (by-met g img b r key
         (λ i m.
         rw (found-met g img b r key a i m)
         (record { answer = unfold readFound in met-answer a i m; after = unfold readRecords readFound in r }))
-        (λ h.
-        let absent = lookup-14 img key (open₀ r) (rw (r .file .layout) a) (rw (r .file .layout) h) in
-        let fourteen : firstNo (ask 14 false ∷ []) ≡ 14 = firstNo-no 14 false [] refl in
-        rw (found-none g img b r key a h)
-        (unfold readFound in read-both (ask 14 false ∷ []) b (absent ∙ sym fourteen) (λ z. omega (arith, z, fourteen))))))
+        (λ h. rw (found-none g img b r key a h) (absent-both a h))))
         (λ n.
         let refused = lookup-7 img key (open₀ r) (rw (r .file .layout) n) in
-        let seven : firstNo (ask 7 (nameAllowed (b .terms .K) key) ∷ []) ≡ 7 =
-        rw (book-key r) (firstNo-no 7 _ [] n) in
-        rw (guarded-no b _ (readFound b room found) (λ z. omega (arith, z, seven)))
-        (read-both _ b (refused ∙ sym seven) (λ z. omega (arith, z, seven))))
+        let asks₇ = ask 7 (nameAllowed (b .terms .K) key) ∷ [] in
+        let seven : firstNo asks₇ ≡ 7 = rw (book-key r) (firstNo-no 7 _ [] n) in
+        let no : firstNo asks₇ ≡ 0 → ⊥ = λ z. omega (arith, z, seven) in
+        rw (guarded-no b asks₇ (readFound b room found) no) (read-both asks₇ b (refused ∙ sym seven) no))

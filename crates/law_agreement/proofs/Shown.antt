@@ -87,73 +87,86 @@ module _ (g : Layout) (img key : Bytes) (i : ℕ) (s : Bytes) (room : Room g (le
       (λ more. search-empty g put key pos j f .2 i here-lt more .1 key-here))))
       (λ f. absurd (search-exhausted g put key pos f i here-lt .1 key-here))
 
--- ---- a message that was written, where the key's slot says
+-- ---- the image, and the key that is allowed there
 
-module _ (img img₁ key t : Bytes) (o : Opened img) (k : Kept img img₁) (o₁ : Opened img₁) where
-  abbrev G : Layout
-  G = layoutOf img
-
-  same-layout : layoutOf img₁ ≡ G
-  same-layout = kept-layout (k .fixed) (o .last)
-
-  low-some : (at : ℕ) → G .D ≤ at → at ≡ 0 → ⊥
-  unfolding layoutOf
-  low-some at lo q = omega (arith, area-above img o)
-
-  text-shown : (at : ℕ) → Written G img₁ at t → (at ≡ 0 → ⊥) → shown G img₁ at ≡ some t
-  unfolding shown isActive
-  text-shown at w z = rw (w .letter, w .text, ne-eqb at 0 z) refl
-
-  final : nameAllowed (G .K) key ≡ true → (i at : ℕ) → search G img₁ key ≡ met i → offsetOf G (slot G img₁ i) ≡ at
-      → G .D ≤ at → length t < 256 ^ G .W → part img₁ at (headSize G + length t) ≡ message (G .W) t
-      → at + (headSize G + length t) ≤ field img₁ freeField
-      → lookup img₁ key .answer ≡ record { number = 0; amount = length t; text = some t }
-  unfolding bytesOf
-  final a i at m e lo small there hi =
-      let z : at ≡ 0 → ⊥ = low-some at lo in
-      let w : Written G img₁ at t = written G img₁ at t small there in
-      let s : messageSound G img₁ at ≡ true = lies-sound G img₁ at (written-lies G img₁ at t w z lo hi) in
-      lookup-shows img₁ key (facts-opened img₁ o₁) (rw same-layout a) i (rw same-layout m)
-      (rw same-layout (rw e s))
-      ∙ rw (same-layout, e, text-shown at w z) refl
-
--- ---- in place
-
-module _ (img key t : Bytes) (o : Opened img) (bytes : AreBytes img) (a : nameAllowed (layoutOf img .K) key ≡ true)
-    (i : ℕ) (m : search (layoutOf img) img key ≡ met i) where
+module _ (img key t : Bytes) (o : Opened img) (a : nameAllowed (layoutOf img .K) key ≡ true) where
   abbrev g : Layout
   g = layoutOf img
 
-  abbrev at : ℕ
-  at = offsetOf g (slot g img i)
+  abbrev x : ℕ
+  x = field img freeField
+
+  -- the message's offset in slot i
+  abbrev offset : ℕ → ℕ
+  offset i = offsetOf g (slot g img i)
+
+  abbrev Shows : Bytes → Type 0
+  Shows img₁ = lookup img₁ key .answer ≡ record { number = 0; amount = length t; text = some t }
 
   some-slot : 0 < g .N
   unfolding layoutOf
   some-slot = omega (arith, o .slots-low)
 
-  module _ (s : messageSound g img at ≡ true) (z : at ≡ 0 → ⊥) (le : length t ≤ held g img at) where
+  key-size : length key ≡ g .K
+  key-size = name-length (g .K) key a
+
+  not-zero : allZero key ≡ false
+  unfolding nameAllowed
+  not-zero = not-true (allZero key) (and-right (eqb (length key) (g .K)) (not (allZero key)) a)
+
+  -- ---- a message that was written, where the key's slot says
+
+  module _ (img₁ : Bytes) (k : Kept img img₁) (o₁ : Opened img₁) where
+    same-layout : layoutOf img₁ ≡ g
+    same-layout = kept-layout (k .fixed) (o .last)
+
+    low-some : (p : ℕ) → g .D ≤ p → p ≡ 0 → ⊥
+    unfolding layoutOf
+    low-some p lo q = omega (arith, area-above img o)
+
+    text-shown : (p : ℕ) → Written g img₁ p t → (p ≡ 0 → ⊥) → shown g img₁ p ≡ some t
+    unfolding shown isActive
+    text-shown p w z = rw (w .letter, w .text, ne-eqb p 0 z) refl
+
+    final : (i p : ℕ) → search g img₁ key ≡ met i → offsetOf g (slot g img₁ i) ≡ p
+        → g .D ≤ p → length t < 256 ^ g .W → part img₁ p (headSize g + length t) ≡ message (g .W) t
+        → p + (headSize g + length t) ≤ field img₁ freeField
+        → Shows img₁
+    unfolding bytesOf
+    final i p m e lo small there hi =
+        let z : p ≡ 0 → ⊥ = low-some p lo in
+        let w : Written g img₁ p t = written g img₁ p t small there in
+        let s : messageSound g img₁ p ≡ true = lies-sound g img₁ p (written-lies g img₁ p t w z lo hi) in
+        lookup-shows img₁ key (facts-opened img₁ o₁) (rw same-layout a) i (rw same-layout m)
+        (rw same-layout (rw e s))
+        ∙ rw (same-layout, e, text-shown p w z) refl
+
+  -- ---- in place
+
+  module _ (bytes : AreBytes img) (i : ℕ) (m : search g img key ≡ met i)
+      (s : messageSound g img (offset i) ≡ true) (z : offset i ≡ 0 → ⊥) (le : length t ≤ held g img (offset i)) where
     abbrev v : Bytes
-    v = message (g .W) t ++ zeros (held g img at - length t)
+    v = message (g .W) t ++ zeros (held g img (offset i) - length t)
 
     abbrev over : Bytes
-    over = store img at v
+    over = store img (offset i) v
 
-    length-v : length v ≡ span g img at
+    length-v : length v ≡ span g img (offset i)
     length-v =
-        length-append (message (g .W) t) (zeros (held g img at - length t))
-        ∙ ap₂ _+_ (length-message g t) (length-zeros (held g img at - length t))
-        ∙ omega (arith, held-some g img at z, le)
+        length-append (message (g .W) t) (zeros (held g img (offset i) - length t))
+        ∙ ap₂ _+_ (length-message g t) (length-zeros (held g img (offset i) - length t))
+        ∙ omega (arith, held-some g img (offset i) z, le)
 
-    inside : at + length v ≤ length img
-    inside = rw length-v (omega (arith, message-end img o at s z, o .free-high))
+    inside : offset i + length v ≤ length img
+    inside = rw length-v (omega (arith, message-end img o (offset i) s z, o .free-high))
 
-    low : g .D ≤ at
+    low : g .D ≤ offset i
     unfolding layoutOf
-    low = message-low img o at s z
+    low = message-low img o (offset i) s z
 
-    above : tableStart ≤ at
+    above : tableStart ≤ offset i
     unfolding layoutOf
-    above = omega (arith, area-above img o, message-low img o at s z)
+    above = omega (arith, area-above img o, message-low img o (offset i) s z)
 
     small : length t < 256 ^ g .W
     unfolding lengthAt headSize
@@ -161,15 +174,15 @@ module _ (img key t : Bytes) (o : Opened img) (bytes : AreBytes img) (a : nameAl
         omega (
           arith,
           le,
-          held-some g img at z,
-          part-below img (at + 1) (g .W) bytes (omega (arith, message-end img o at s z, o .free-high)),
+          held-some g img (offset i) z,
+          part-below img (offset i + 1) (g .W) bytes (omega (arith, message-end img o (offset i) s z, o .free-high)),
         )
 
     over-kept : Kept img over
-    over-kept = kept-store img at v inside above
+    over-kept = kept-store img (offset i) v inside above
 
     over-field : (f : ℕ) → f + 4 ≤ tableStart → field over f ≡ field img f
-    over-field f h = field-store-other img at v f inside (inl (omega (arith, above)))
+    over-field f h = field-store-other img (offset i) v f inside (inl (omega (arith, above)))
 
     over-opened : Opened over
     over-opened =
@@ -179,241 +192,206 @@ module _ (img key t : Bytes) (o : Opened img) (bytes : AreBytes img) (a : nameAl
         (rw (over-field freeField (omega arith)) (o .free-high))
 
     over-slot : (j : ℕ) → j < g .N → slot g over j ≡ slot g img j
-    over-slot j l = slot-store-data g img (opened-room img o) at v j l low inside
+    over-slot j l = slot-store-data g img (opened-room img o) (offset i) v j l low inside
 
-    over-there : part over at (headSize g + length t) ≡ message (g .W) t
+    over-there : part over (offset i) (headSize g + length t) ≡ message (g .W) t
     unfolding part
     over-there =
-        ap (λ (x : ℕ). part over x (headSize g + length t)) (sym (add-zero at))
-        ∙ part-store-inside img at v 0 (headSize g + length t) (omega (arith, inside))
-        (rw length-v (omega (arith, held-some g img at z, le)))
-        ∙ take-at (message (g .W) t) (zeros (held g img at - length t)) (headSize g + length t) (length-message g t)
+        ap (λ (p : ℕ). part over p (headSize g + length t)) (sym (add-zero (offset i)))
+        ∙ part-store-inside img (offset i) v 0 (headSize g + length t) (omega (arith, inside))
+        (rw length-v (omega (arith, held-some g img (offset i) z, le)))
+        ∙ take-at (message (g .W) t) (zeros (held g img (offset i) - length t)) (headSize g + length t)
+        (length-message g t)
 
-    pub overwrite-shown : lookup (overwrite g img at t) key .answer
-        ≡ record { number = 0; amount = length t; text = some t }
+    overwrite-shown : Shows (overwrite g img (offset i) t)
     unfolding overwrite
     overwrite-shown =
-        final img over key t o over-kept over-opened a i at
+        final over over-kept over-opened i (offset i)
         (search-frame g img over key some-slot over-slot ∙ m)
         (ap (offsetOf g) (over-slot i (search-met g img key some-slot i m .0)))
         low small over-there
         (rw (over-field freeField (omega arith))
-        (omega (arith, message-end img o at s z, held-some g img at z, le)))
+        (omega (arith, message-end img o (offset i) s z, held-some g img (offset i) z, le)))
 
--- ---- in new space, which is taken in an image b that keeps what no call changes, and X; then the key's slot is put
-
-module _ (img key t : Bytes) (o : Opened img) (a : nameAllowed (layoutOf img .K) key ≡ true) (b : Bytes)
-    (kb : Kept img b) (ob : Opened b) (free-b : field b freeField ≡ field img freeField)
-    (short : length t ≤ layoutOf img .most)
-    (fits : field img freeField + headSize (layoutOf img) + length t ≤ length img)
-    (i : ℕ) (il : i < layoutOf img .N) where
-  abbrev g : Layout
-  g = layoutOf img
-
-  abbrev x : ℕ
-  x = field img freeField
-
-  layout-b : layoutOf b ≡ g
-  layout-b = kept-layout (kb .fixed) (o .last)
-
-  fits-b : field b freeField + headSize (layoutOf b) + length t ≤ length b
-  fits-b = rw (layout-b, free-b, kb .fixed .size) fits
-
-  abbrev wide : Bytes
-  wide = takeSpace g b t
-
-  space : Spaced g b t
-  space = rw layout-b at (spaced b ob t fits-b)
-
-  wide-opened : Opened wide
-  wide-opened = rw layout-b at (space-opened b ob t fits-b)
-
-  wide-kept : Kept img wide
-  wide-kept = kept-trans kb (space .kept)
-
-  wide-room : Room g (length wide)
-  wide-room = rw (wide-kept .fixed .size) (opened-room img o)
-
-  -- the entry
-  entry-long : length (slotBytes key x) ≡ slotSize g
-  entry-long = length-entry g key x (name-length (g .K) key a)
-
-  abbrev put : Bytes
-  put = putSlot g wide i (slotBytes key x)
-
-  put-kept : Kept wide put
-  unfolding putSlot
-  put-kept =
-      kept-store wide (slotStart g i) (slotBytes key x)
-      (omega (arith, slot-end g wide-room i il, wide-room .area, entry-long)) (slot-above g i)
-
-  put-field : (f : ℕ) → f + 4 ≤ tableStart → field put f ≡ field wide f
-  put-field f h = field-putSlot g wide wide-room i (slotBytes key x) f il entry-long h
-
-  pub put-opened : Opened put
-  put-opened =
-      opened-kept put-kept wide-opened
-      (rw (put-field pointsField (omega arith)) (wide-opened .points))
-      (rw (put-field freeField (omega arith)) (wide-opened .free-low))
-      (rw (put-field freeField (omega arith)) (wide-opened .free-high))
-
-  low : g .D ≤ x
-  unfolding layoutOf
-  low = o .free-low
-
-  put-there : part put x (headSize g + length t) ≡ message (g .W) t
-  put-there =
-      part-putSlot-outside g wide wide-room i (slotBytes key x) x (headSize g + length t) il entry-long (inr low)
-      ∙ ap (λ (p : ℕ). part wide p (headSize g + length t)) (sym free-b)
-      ∙ space .there
-
-  -- the image f, in which C may be another
-  pub placed-shown : (f : Bytes) → Kept put f → Opened f → ((j : ℕ) → j < g .N → slot g f j ≡ slot g put j)
-      → part f x (headSize g + length t) ≡ part put x (headSize g + length t)
-      → field f freeField ≡ field put freeField → search g put key ≡ met i
-      → lookup f key .answer ≡ record { number = 0; amount = length t; text = some t }
-  placed-shown f kf of slots-f there-f free-f m =
-      let key-size : length key ≡ g .K = name-length (g .K) key a in
-      let pos : 0 < g .N = omega arith in
-      let size : x < word = omega (arith, o .free-high, o .size-high) in
-      final img f key t o (kept-trans wide-kept (kept-trans put-kept kf)) of a i x
-      (search-frame g put f key pos slots-f ∙ m)
-      (ap (offsetOf g) (slots-f i il ∙ slot-putSlot-same g wide wide-room i (slotBytes key x) il entry-long)
-      ∙ offsetOf-entry g key x key-size size)
-      low (omega (arith, short, layout-most img)) (there-f ∙ put-there)
-      (rw (free-f, put-field freeField (omega arith), space .free, free-b) (omega arith))
-
--- a point that is present
-module _ (img key t : Bytes) (o : Opened img) (a : nameAllowed (layoutOf img .K) key ≡ true)
-    (short : length t ≤ layoutOf img .most)
-    (fits : field img freeField + headSize (layoutOf img) + length t ≤ length img) where
-  abbrev g : Layout
-  g = layoutOf img
+  -- ---- in new space, which is taken in an image b that keeps what no call changes, and X; then the key's slot is put
 
   abbrev entry : Bytes
-  entry = slotBytes key (field img freeField)
+  entry = slotBytes key x
 
-  key-entry : keyOf g entry ≡ key
-  key-entry = keyOf-entry g key (field img freeField) (name-length (g .K) key a)
+  entry-long : length entry ≡ slotSize g
+  entry-long = length-entry g key x key-size
 
-  pos : 0 < g .N
-  unfolding layoutOf
-  pos = omega (arith, o .slots-low)
+  entry-key : keyOf g entry ≡ key
+  entry-key = keyOf-entry g key x key-size
 
-  module _ (i : ℕ) (m : search g img key ≡ met i)
-      (s : messageSound g img (offsetOf g (slot g img i)) ≡ true) where
-    abbrev at : ℕ
-    at = offsetOf g (slot g img i)
+  module _ (b : Bytes) (kb : Kept img b) (ob : Opened b) (free-b : field b freeField ≡ x)
+      (short : length t ≤ g .most) (fits : x + headSize g + length t ≤ length img) where
+    layout-b : layoutOf b ≡ g
+    layout-b = kept-layout (kb .fixed) (o .last)
 
-    abbrev off : Bytes
-    off = retire img at
+    fits-b : field b freeField + headSize (layoutOf b) + length t ≤ length b
+    fits-b = rw (layout-b, free-b, kb .fixed .size) fits
 
-    il : i < g .N
-    il = search-met g img key pos i m .0
+    abbrev wide : Bytes
+    wide = takeSpace g b t
 
-    free-off : field off freeField ≡ field img freeField
-    free-off = retire-field img o at s freeField (omega arith)
+    space : Spaced g b t
+    space = rw layout-b at (spaced b ob t fits-b)
 
-    abbrev gone : Bytes
-    gone = takeSpace g off t
+    wide-opened : Opened wide
+    wide-opened = rw layout-b at (space-opened b ob t fits-b)
 
-    gone-met : search g gone key ≡ met i
-    gone-met =
-        search-frame g off gone key pos
-        (space img key t o a off (retire-kept img o at s) (retire-opened img o at s) free-off short fits i il .slots)
-        ∙ search-frame g img off key pos (retire-slot img o at s)
-        ∙ m
+    wide-kept : Kept img wide
+    wide-kept = kept-trans kb (space .kept)
 
-    pub relocate-shown : lookup (relocated g img i at key t) key .answer
-        ≡ record { number = 0; amount = length t; text = some t }
-    unfolding relocated
-    relocate-shown =
-        let kept = retire-kept img o at s in
-        let opened = retire-opened img o at s in
-        let room = wide-room img key t o a off kept opened free-off short fits i il in
-        let long = entry-long img key t o a off kept opened free-off short fits i il in
-        placed-shown img key t o a off kept opened free-off short fits i il (putSlot g gone i entry)
-        (kept-refl (putSlot g gone i entry))
-        (put-opened img key t o a off kept opened free-off short fits i il) (λ j l. refl) refl refl
-        (replace-search g gone key i entry room pos long key-entry gone-met key ∙ gone-met)
+    wide-room : Room g (length wide)
+    wide-room = rw (wide-kept .fixed .size) (opened-room img o)
 
-  -- a point that is absent
-  module _ (i : ℕ) (e : search g img key ≡ empty i) (left : field img pointsField < g .N) where
-    free-lt : i < g .N
-    free-lt = search-empty g img key pos i e .0
-
-    abbrev taken : Bytes
-    taken = takeSpace g img t
-
-    abbrev entered : Bytes
-    entered = putSlot g taken i entry
-
-    abbrev count : ℕ
-    count = field taken pointsField + 1
-
-    spaced₁ : Spaced g img t
-    spaced₁ = space img key t o a img (kept-refl img) o refl short fits i free-lt
-
-    room₁ : Room g (length taken)
-    room₁ = wide-room img key t o a img (kept-refl img) o refl short fits i free-lt
-
-    long₁ : length entry ≡ slotSize g
-    long₁ = entry-long img key t o a img (kept-refl img) o refl short fits i free-lt
-
-    entered-opened : Opened entered
-    entered-opened = put-opened img key t o a img (kept-refl img) o refl short fits i free-lt
-
-    entered-kept : Kept img entered
-    entered-kept =
-        kept-trans (spaced₁ .kept) (put-kept img key t o a img (kept-refl img) o refl short fits i free-lt)
-
-    counted : count ≤ field entered slotsField
+    low-x : g .D ≤ x
     unfolding layoutOf
-    counted = omega (arith, left, spaced₁ .points, kept-slots (entered-kept .fixed))
+    low-x = o .free-low
 
-    room₂ : Room g (length entered)
-    room₂ = rw (entered-kept .fixed .size) (opened-room img o)
+    module _ (i : ℕ) (il : i < g .N) where
+      abbrev entered : Bytes
+      entered = putSlot g wide i entry
 
-    not-zero : allZero key ≡ false
-    unfolding nameAllowed
-    not-zero = not-true (allZero key) (and-right (eqb (length key) (g .K)) (not (allZero key)) a)
+      entered-kept : Kept wide entered
+      unfolding putSlot
+      entered-kept =
+          kept-store wide (slotStart g i) entry (omega (arith, slot-end g wide-room i il, wide-room .area, entry-long))
+          (slot-above g i)
 
-    entered-met : search g entered key ≡ met i
-    entered-met =
-        search-entered g taken key i entry room₁ pos long₁ key-entry not-zero
-        (search-frame g img taken key pos (spaced₁ .slots) ∙ e)
+      entered-field : (f : ℕ) → f + 4 ≤ tableStart → field entered f ≡ field wide f
+      entered-field f h = field-putSlot g wide wide-room i entry f il entry-long h
 
-    pub insert-shown : lookup (inserted g img i key (some t)) key .answer
-        ≡ record { number = 0; amount = length t; text = some t }
-    unfolding inserted enter
-    insert-shown =
-        placed-shown img key t o a img (kept-refl img) o refl short fits i free-lt (setField entered pointsField count)
-        (points-kept entered entered-opened count counted)
-        (points-opened entered entered-opened count counted)
-        (λ j l. slot-setField g entered room₂ pointsField count j (omega arith) l)
-        (points-behind entered entered-opened count counted (field img freeField) (headSize g + length t)
-        (unfold layoutOf in omega (arith, area-above img o, o .free-low)))
-        (points-free entered entered-opened count counted)
-        entered-met
+      entered-opened : Opened entered
+      entered-opened =
+          opened-kept entered-kept wide-opened
+          (rw (entered-field pointsField (omega arith)) (wide-opened .points))
+          (rw (entered-field freeField (omega arith)) (wide-opened .free-low))
+          (rw (entered-field freeField (omega arith)) (wide-opened .free-high))
+
+      entered-there : part entered x (headSize g + length t) ≡ message (g .W) t
+      entered-there =
+          part-putSlot-outside g wide wide-room i entry x (headSize g + length t) il entry-long (inr low-x)
+          ∙ ap (λ (p : ℕ). part wide p (headSize g + length t)) (sym free-b)
+          ∙ space .there
+
+      -- the image f, in which C may be another
+      placed-shown : (f : Bytes) → Kept entered f → Opened f → ((j : ℕ) → j < g .N → slot g f j ≡ slot g entered j)
+          → part f x (headSize g + length t) ≡ part entered x (headSize g + length t)
+          → field f freeField ≡ field entered freeField → search g entered key ≡ met i
+          → Shows f
+      placed-shown f kf of slots-f there-f free-f m =
+          let size : x < word = omega (arith, o .free-high, o .size-high) in
+          final f (kept-trans wide-kept (kept-trans entered-kept kf)) of i x
+          (search-frame g entered f key some-slot slots-f ∙ m)
+          (ap (offsetOf g) (slots-f i il ∙ slot-putSlot-same g wide wide-room i entry il entry-long)
+          ∙ offsetOf-entry g key x key-size size)
+          low-x (omega (arith, short, layout-most img)) (there-f ∙ entered-there)
+          (rw (free-f, entered-field freeField (omega arith), space .free, free-b) (omega arith))
+
+  module _ (short : length t ≤ g .most) (fits : x + headSize g + length t ≤ length img) where
+    -- a point that is present
+    module _ (i : ℕ) (m : search g img key ≡ met i) (s : messageSound g img (offset i) ≡ true) where
+      abbrev off : Bytes
+      off = retire img (offset i)
+
+      off-kept : Kept img off
+      off-kept = retire-kept img o (offset i) s
+
+      off-opened : Opened off
+      off-opened = retire-opened img o (offset i) s
+
+      off-free : field off freeField ≡ x
+      off-free = retire-field img o (offset i) s freeField (omega arith)
+
+      off-met : search g (takeSpace g off t) key ≡ met i
+      off-met =
+          search-frame g off (takeSpace g off t) key some-slot (space off off-kept off-opened off-free short fits .slots)
+          ∙ search-frame g img off key some-slot (retire-slot img o (offset i) s)
+          ∙ m
+
+      relocate-shown : Shows (relocated g img i (offset i) key t)
+      unfolding relocated
+      relocate-shown =
+          let il = search-met g img key some-slot i m .0 in
+          placed-shown off off-kept off-opened off-free short fits i il _ (kept-refl _)
+          (entered-opened off off-kept off-opened off-free short fits i il) (λ j l. refl) refl refl
+          (replace-search g (takeSpace g off t) key i entry (wide-room off off-kept off-opened off-free short fits)
+          some-slot entry-long entry-key off-met key
+          ∙ off-met)
+
+    -- a point that is absent
+    module _ (i : ℕ) (e : search g img key ≡ empty i) (left : field img pointsField < g .N) where
+      il₂ : i < g .N
+      il₂ = search-empty g img key some-slot i e .0
+
+      abbrev new : Bytes
+      new = putSlot g (takeSpace g img t) i entry
+
+      abbrev count : ℕ
+      count = field (takeSpace g img t) pointsField + 1
+
+      new-opened : Opened new
+      new-opened = entered-opened img (kept-refl img) o refl short fits i il₂
+
+      new-kept : Kept img new
+      new-kept =
+          kept-trans (wide-kept img (kept-refl img) o refl short fits)
+          (entered-kept img (kept-refl img) o refl short fits i il₂)
+
+      counted : count ≤ field new slotsField
+      unfolding layoutOf
+      counted =
+          omega (
+            arith,
+            left,
+            space img (kept-refl img) o refl short fits .points,
+            kept-slots (new-kept .fixed),
+          )
+
+      new-room : Room g (length new)
+      new-room = rw (new-kept .fixed .size) (opened-room img o)
+
+      new-met : search g new key ≡ met i
+      new-met =
+          search-entered g (takeSpace g img t) key i entry (wide-room img (kept-refl img) o refl short fits) some-slot
+          entry-long entry-key not-zero
+          (search-frame g img (takeSpace g img t) key some-slot (space img (kept-refl img) o refl short fits .slots) ∙ e)
+
+      behind-table : tableStart ≤ x
+      behind-table = omega (arith, area-above img o, o .free-low)
+
+      insert-shown : Shows (inserted g img i key (some t))
+      unfolding inserted enter
+      insert-shown =
+          placed-shown img (kept-refl img) o refl short fits i il₂ (setField new pointsField count)
+          (points-kept new new-opened count counted)
+          (points-opened new new-opened count counted)
+          (λ j l. slot-setField g new new-room pointsField count j (omega arith) l)
+          (points-behind new new-opened count counted x (headSize g + length t) behind-table)
+          (points-free new new-opened count counted)
+          new-met
 
 -- ---- the call
 
 module _ (img key t : Bytes) (bytes : AreBytes img) (some′ : 0 < length t) (z : addNumber img key t 2 ≡ 0) where
-  abbrev g : Layout
-  g = layoutOf img
-
   other : (k : ℕ) → addNumber img key t 2 ≡ k → (k ≡ 0 → ⊥) → ⊥
   other k e w = w (sym e ∙ z)
 
   open₀ : openNumber img ≡ 0
   open₀ = by-eq (openNumber img) 0 (λ e. e) (λ e. absurd (e (sym (add-closed img key e t 2) ∙ z)))
 
-  o : Opened img
-  o = opened-facts img open₀
+  opened₀ : Opened img
+  opened₀ = opened-facts img open₀
 
-  a : nameAllowed (g .K) key ≡ true
-  a =
-      by-bool (nameAllowed (g .K) key) (λ y. y)
+  abbrev lay : Layout
+  lay = layoutOf img
+
+  allowed : nameAllowed (lay .K) key ≡ true
+  allowed =
+      by-bool (nameAllowed (lay .K) key) (λ y. y)
       (λ n. absurd (other 7 (add-7 img key open₀ t 2 n) (λ e. omega arith)))
 
   known : modeKnown 2 ≡ true
@@ -421,58 +399,58 @@ module _ (img key t : Bytes) (bytes : AreBytes img) (some′ : 0 < length t) (z 
   known = refl
 
   -- 12 and 13 are answered yes
-  room : placeNumber g img (some t) ≡ 0
-      → (length t ≤ g .most) × (field img freeField + headSize g + length t ≤ length img)
+  room : placeNumber lay img (some t) ≡ 0
+      → (length t ≤ lay .most) × (field img freeField + headSize lay + length t ≤ length img)
   unfolding lengthAllowed spaceLeft
   room h =
-      let long = leb (length t) (g .most) in
-      let end = leb (field img freeField + headSize g + length t) (length img) in (
+      let long = leb (length t) (lay .most) in
+      let end = leb (field img freeField + headSize lay + length t) (length img) in (
         leb-true _ _ (firstNo-head 12 long _ (λ e. omega arith) h),
         leb-true _ _ (firstNo-head 13 end [] (λ e. omega arith) (firstNo-tail 12 long _ (λ e. omega arith) h)),
       )
 
   -- the image that the call leaves, by how its search ended; the data are not empty, so that no version is written
-  after-is : (p : Probe) → search g img key ≡ p → add img key t 2 .after ≡ addedAt g img p key t 2
+  after-is : (p : Probe) → search lay img key ≡ p → add img key t 2 .after ≡ addedAt lay img p key t 2
   unfolding add added noted
   after-is p e =
       settled-yes (addNumber img key t 2) img _ z
-      ∙ rw (ne-eqb (length t) 0 (λ q. omega (arith, some′))) (ap (λ (q : Probe). addedAt g img q key t 2) e)
+      ∙ rw (ne-eqb (length t) 0 (λ q. omega (arith, some′))) (ap (λ (q : Probe). addedAt lay img q key t 2) e)
 
-  abbrev Shows : Bytes → Type 0
-  Shows img₁ = lookup img₁ key .answer ≡ record { number = 0; amount = length t; text = some t }
+  abbrev Answers : Bytes → Type 0
+  Answers img₁ = lookup img₁ key .answer ≡ record { number = 0; amount = length t; text = some t }
 
-  present : (i : ℕ) → search g img key ≡ met i → Shows (add img key t 2 .after)
+  present : (i : ℕ) → search lay img key ≡ met i → Answers (add img key t 2 .after)
   unfolding addedAt
   present i m =
-      let at : ℕ = offsetOf g (slot g img i) in
-      let s : messageSound g img at ≡ true =
-      by-bool (messageSound g img at) (λ y. y)
-      (λ n. absurd (other 11 (add-11 img key open₀ t 2 a known i m refl n) (λ e. omega arith))) in
-      let number : placeNumber g img (renewedText g img at t 2) ≡ 0 =
-      sym (add-renewed img key open₀ t 2 a known i m refl s) ∙ z in
-      by-bool (not (eqb at 0) && leb (length t) (held g img at))
+      let p : ℕ = offsetOf lay (slot lay img i) in
+      let s : messageSound lay img p ≡ true =
+      by-bool (messageSound lay img p) (λ y. y)
+      (λ n. absurd (other 11 (add-11 img key open₀ t 2 allowed known i m refl n) (λ e. omega arith))) in
+      let number : placeNumber lay img (renewedText lay img p t 2) ≡ 0 =
+      sym (add-renewed img key open₀ t 2 allowed known i m refl s) ∙ z in
+      by-bool (not (eqb p 0) && leb (length t) (held lay img p))
       (λ y.
-      let none′ = replaced-none g img i at key t y in
-      let there = replaced-held g img i at key t none′ in
-      subst Shows (sym (after-is (met i) m ∙ replaced-written g img i at key t none′))
-      (overwrite-shown img key t o bytes a i m s (there .0) (there .1)))
+      let none′ = replaced-none lay img i p key t y in
+      let there = replaced-held lay img i p key t none′ in
+      subst Answers (sym (after-is (met i) m ∙ replaced-written lay img i p key t none′))
+      (overwrite-shown img key t opened₀ allowed bytes i m s (there .0) (there .1)))
       (λ n.
-      let some₁ = replaced-some g img i at key t n in
-      let fits = room (ap (placeNumber g img) (sym some₁) ∙ number) in
-      subst Shows (sym (after-is (met i) m ∙ renewed-moved g img i at key t 2 t some₁))
-      (relocate-shown img key t o a (fits .0) (fits .1) i m s))
+      let some₁ = replaced-some lay img i p key t n in
+      let fits = room (ap (placeNumber lay img) (sym some₁) ∙ number) in
+      subst Answers (sym (after-is (met i) m ∙ renewed-moved lay img i p key t 2 t some₁))
+      (relocate-shown img key t opened₀ allowed (fits .0) (fits .1) i m s))
 
-  absent : (i : ℕ) → search g img key ≡ empty i → Shows (add img key t 2 .after)
+  absent : (i : ℕ) → search lay img key ≡ empty i → Answers (add img key t 2 .after)
   unfolding addedAt freshText
   absent i e =
-      by-bool (ltb (field img pointsField) (g .N))
+      by-bool (ltb (field img pointsField) (lay .N))
       (λ y.
-      let fits = room (sym (add-fresh img key open₀ t 2 a known refl i e y) ∙ z) in
-      subst Shows (sym (after-is (empty i) e))
-      (insert-shown img key t o a (fits .0) (fits .1) i e (ltb-true _ _ y)))
-      (λ n. absurd (other 10 (add-10-full img key open₀ t 2 a known refl i e n) (λ q. omega arith)))
+      let fits = room (sym (add-fresh img key open₀ t 2 allowed known refl i e y) ∙ z) in
+      subst Answers (sym (after-is (empty i) e))
+      (insert-shown img key t opened₀ allowed (fits .0) (fits .1) i e (ltb-true _ _ y)))
+      (λ n. absurd (other 10 (add-10-full img key open₀ t 2 allowed known refl i e n) (λ q. omega arith)))
 
-  pub replaced-shown : Shows (add img key t 2 .after)
+  pub replaced-shown : Answers (add img key t 2 .after)
   replaced-shown =
-      by-search g img key (unfold layoutOf in omega (arith, o .slots-low)) present absent
-      (λ e. absurd (other 10 (add-10-exhausted img key open₀ t 2 a known refl e) (λ q. omega arith)))
+      by-search lay img key (some-slot img key t opened₀ allowed) present absent
+      (λ e. absurd (other 10 (add-10-exhausted img key open₀ t 2 allowed known refl e) (λ q. omega arith)))
