@@ -37,7 +37,7 @@ fn fill(out: &mut [u8], stored: &[u8]) -> Fetched
 }
 
 // Fills the slice with the records that are stored under the key. Answers the number of the first question answered no,
-// and then leaves the slice as it was; else 0, and how many bytes it filled: those behind them stay.
+// and then leaves the slice as it was; else 0, and how many bytes it filled: those after them stay.
 pub fn read_records(image: &[u8], key: &[u8], out: &mut [u8]) -> Fetched
     ensures { λ r. ⌜ Reads (now (image .entry)) (now (key .entry)) (now (out .entry)) (now (out .exit))
         (r .number) (r .bytes) ⌝ }

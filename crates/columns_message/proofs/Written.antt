@@ -1,7 +1,7 @@
 -- A message whose text is as long as is known beforehand, written into lent parts of an image.
---     written-records       a header, and what is stored of the records behind it, are the message
+--     written-records       a header, and what is stored of the records after it, are the message
 --     overwrite-known       a message over an old one, and zeros up to the old end
---     place-known           a message at X, and X and M behind it
+--     place-known           a message at X, and X and M after it
 -- Assumes nothing.
 use mathlib.Core.Path.{_≡_, sym, ap, ap₂, _∙_, subst}
 use Prim.Native.Nat.{ℕ, _+_, _-_, _≤_, _<_}

@@ -53,7 +53,7 @@ pub fn overwrite_records(image: &mut [u8], shape: Shape, o: Offset, records: &[u
     zero(&mut image[end..old]);
 }
 
-// Writes it at X, and X and M behind it.
+// Writes it at X, and X and M after it.
 pub fn place_records(image: &mut [u8], shape: Shape, records: &[u8], width: usize)
     requires { ⌜ Open (now image) shape
         × Fits (now image) shape (1 + length (now records))

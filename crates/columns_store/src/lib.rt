@@ -49,7 +49,8 @@ fn store_found(
 // Stores under the key the width and the columns of the records, in place of the point's message; an absent point is
 // entered. Answers 0; or the number of the first question answered no, and then changes no byte.
 pub fn store_records(image: &mut [u8], key: &[u8], records: &[u8], width: usize) -> u32
-    ensures { λ r. ⌜ Stores (now (image .entry)) (now (key .entry)) (now (records .entry)) width (now (image .exit)) r ⌝ }
+    ensures { λ r. ⌜ Stores (now (image .entry)) (now (key .entry)) (now (records .entry)) width
+        (now (image .exit)) r ⌝ }
 {
     let sought = seek(image, key, true);
     match sought {

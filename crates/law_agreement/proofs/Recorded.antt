@@ -1,5 +1,5 @@
--- Document 02, Job 10: storing and reading records by column keep the relation of file and book, with equal answers: the
--- number, the count and the records.
+-- Document 02, Job 10: storing and reading records by column keep the relation of file and book, with equal answers:
+-- the number, the count and the records.
 -- Assumes nothing.
 use mathlib.Core.Path.{_≡_, refl, sym, ap, ap₂, _∙_}
 use Prim.Native.Nat.{ℕ}

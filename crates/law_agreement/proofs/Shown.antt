@@ -43,49 +43,49 @@ use Rattle.law_agreement.proofs.Space.{Written, written, written-lies}
 -- of any table: what stands on the way to the empty slot is taken by other keys
 module _ (g : Layout) (img key : Bytes) (i : ℕ) (s : Bytes) (room : Room g (length img)) (pos : 0 < g .N)
     (fits : length s ≡ slotSize g) (k : keyOf g s ≡ key) (z : allZero key ≡ false) (e : search g img key ≡ empty i)
-    where
-  abbrev put : Bytes
-  put = putSlot g img i s
+  where
+    abbrev put : Bytes
+    put = putSlot g img i s
 
-  abbrev far : ℕ → ℕ
-  far j = dist (g .N) (home g key) j
+    abbrev far : ℕ → ℕ
+    far j = dist (g .N) (home g key) j
 
-  here-lt : i < g .N
-  here-lt = search-empty g img key pos i e .0
+    here-lt : i < g .N
+    here-lt = search-empty g img key pos i e .0
 
-  key-here : keyAt g put i ≡ key
-  key-here = ap (keyOf g) (slot-putSlot-same g img room i s here-lt fits) ∙ k
+    key-here : keyAt g put i ≡ key
+    key-here = ap (keyOf g) (slot-putSlot-same g img room i s here-lt fits) ∙ k
 
-  other-slot : (j : ℕ) → (j ≡ i → ⊥) → slot g put j ≡ slot g img j
-  other-slot j n = slot-putSlot-other g img room i s j here-lt fits n
+    other-slot : (j : ℕ) → (j ≡ i → ⊥) → slot g put j ≡ slot g img j
+    other-slot j n = slot-putSlot-other g img room i s j here-lt fits n
 
-  -- another slot stands nearer to home or farther from it
-  by-far {ℓ} : {A : Type ℓ} (j : ℕ) → j < g .N → (j ≡ i → ⊥) → (far j < far i → A) → (far i < far j → A) → A
-  by-far j l n near more =
-      by-le (far i) (far j)
-      (λ le. by-eq (far i) (far j)
-      (λ q. absurd (n (sym (dist-same (g .N) (home g key) i j (home-lt g key pos) here-lt l q))))
-      (λ q. more (omega arith)))
-      near
+    -- another slot stands nearer to home or farther from it
+    by-far {ℓ} : {A : Type ℓ} (j : ℕ) → j < g .N → (j ≡ i → ⊥) → (far j < far i → A) → (far i < far j → A) → A
+    by-far j l n near more =
+        by-le (far i) (far j)
+        (λ le. by-eq (far i) (far j)
+        (λ q. absurd (n (sym (dist-same (g .N) (home g key) i j (home-lt g key pos) here-lt l q))))
+        (λ q. more (omega arith)))
+        near
 
-  pub search-entered : search g put key ≡ met i
-  search-entered =
-      by-search g put key pos
-      (λ j f. by-eq j i
-      (λ q. f ∙ ap met q)
-      (λ n. absurd (by-far j (search-met g put key pos j f .0) n
-      (λ near.
-      search-empty g img key pos i e .2 j (search-met g put key pos j f .0) near .1
-      (sym (ap (keyOf g) (other-slot j n)) ∙ search-met g put key pos j f .1))
-      (λ more. search-met g put key pos j f .2 i here-lt more .1 key-here))))
-      (λ j f. absurd (by-eq j i
-      (λ q. search-empty g put key pos j f .3 (ap (keyAt g put) q ∙ key-here))
-      (λ n. by-far j (search-empty g put key pos j f .0) n
-      (λ near.
-      not-both _ (sym (ap (vacant g) (other-slot j n)) ∙ search-empty g put key pos j f .1)
-      (search-empty g img key pos i e .2 j (search-empty g put key pos j f .0) near .0))
-      (λ more. search-empty g put key pos j f .2 i here-lt more .1 key-here))))
-      (λ f. absurd (search-exhausted g put key pos f i here-lt .1 key-here))
+    pub search-entered : search g put key ≡ met i
+    search-entered =
+        by-search g put key pos
+        (λ j f. by-eq j i
+        (λ q. f ∙ ap met q)
+        (λ n. absurd (by-far j (search-met g put key pos j f .0) n
+        (λ near.
+        search-empty g img key pos i e .2 j (search-met g put key pos j f .0) near .1
+        (sym (ap (keyOf g) (other-slot j n)) ∙ search-met g put key pos j f .1))
+        (λ more. search-met g put key pos j f .2 i here-lt more .1 key-here))))
+        (λ j f. absurd (by-eq j i
+        (λ q. search-empty g put key pos j f .3 (ap (keyAt g put) q ∙ key-here))
+        (λ n. by-far j (search-empty g put key pos j f .0) n
+        (λ near.
+        not-both _ (sym (ap (vacant g) (other-slot j n)) ∙ search-empty g put key pos j f .1)
+        (search-empty g img key pos i e .2 j (search-empty g put key pos j f .0) near .0))
+        (λ more. search-empty g put key pos j f .2 i here-lt more .1 key-here))))
+        (λ f. absurd (search-exhausted g put key pos f i here-lt .1 key-here))
 
 -- ---- the image, and the key that is allowed there
 
@@ -308,7 +308,8 @@ module _ (img key t : Bytes) (o : Opened img) (a : nameAllowed (layoutOf img .K)
 
       off-met : search g (takeSpace g off t) key ≡ met i
       off-met =
-          search-frame g off (takeSpace g off t) key some-slot (space off off-kept off-opened off-free short fits .slots)
+          search-frame g off (takeSpace g off t) key some-slot
+          (space off off-kept off-opened off-free short fits .slots)
           ∙ search-frame g img off key some-slot (retire-slot img o (offset i) s)
           ∙ m
 
@@ -358,10 +359,11 @@ module _ (img key t : Bytes) (o : Opened img) (a : nameAllowed (layoutOf img .K)
       new-met =
           search-entered g (takeSpace g img t) key i entry (wide-room img (kept-refl img) o refl short fits) some-slot
           entry-long entry-key not-zero
-          (search-frame g img (takeSpace g img t) key some-slot (space img (kept-refl img) o refl short fits .slots) ∙ e)
+          (search-frame g img (takeSpace g img t) key some-slot (space img (kept-refl img) o refl short fits .slots)
+          ∙ e)
 
-      behind-table : tableStart ≤ x
-      behind-table = omega (arith, area-above img o, o .free-low)
+      above-table : tableStart ≤ x
+      above-table = omega (arith, area-above img o, o .free-low)
 
       insert-shown : Shows (inserted g img i key (some t))
       unfolding inserted enter
@@ -370,7 +372,7 @@ module _ (img key t : Bytes) (o : Opened img) (a : nameAllowed (layoutOf img .K)
           (points-kept new new-opened count counted)
           (points-opened new new-opened count counted)
           (λ j l. slot-setField g new new-room pointsField count j (omega arith) l)
-          (points-behind new new-opened count counted x (headSize g + length t) behind-table)
+          (points-behind new new-opened count counted x (headSize g + length t) above-table)
           (points-free new new-opened count counted)
           new-met
 

@@ -48,17 +48,17 @@ module _ (img key recs : Bytes) (W : ℕ) where
       (λ c. firstNo-refused img _ c ∙ sym (seek-closed img key true c))
 
   module _ (z : seekNumber img key true ≡ 0) where
-    behind : storeNumber img key recs W
+    after-seven : storeNumber img key recs W
         ≡ firstNo (ask 19 whole ∷ pointAsks g img (search g img key) (columns W recs) 2)
     unfolding storeNumber storeAsks
-    behind = firstNo-opened img _ (seek-opened img key true z) ∙ firstNo-yes 7 _ _ (seek-allowed img key true z)
+    after-seven = firstNo-opened img _ (seek-opened img key true z) ∙ firstNo-yes 7 _ _ (seek-allowed img key true z)
 
     pub store-19 : whole ≡ false → storeNumber img key recs W ≡ 19
-    store-19 h = behind ∙ firstNo-no 19 _ _ h
+    store-19 h = after-seven ∙ firstNo-no 19 _ _ h
 
     pub store-on : whole ≡ true
         → storeNumber img key recs W ≡ firstNo (pointAsks g img (search g img key) (columns W recs) 2)
-    store-on h = behind ∙ firstNo-yes 19 _ _ h
+    store-on h = after-seven ∙ firstNo-yes 19 _ _ h
 
   -- question 8 of mode 2 is answered yes
   store-add-number : whole ≡ true → storeNumber img key recs W ≡ addNumber img key (columns W recs) 2
@@ -80,7 +80,7 @@ module _ (img key recs : Bytes) (W : ℕ) where
 
 -- ---- reading
 
--- questions put behind others come to be asked where those have no no
+-- questions put after others are asked where those have no no
 firstNo-before : (qs more : List Question) → (firstNo qs ≡ 0 → ⊥) → firstNo (qs ++ more) ≡ firstNo qs
 unfolding firstNo
 firstNo-before [] more z = absurd (z refl)

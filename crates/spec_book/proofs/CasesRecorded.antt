@@ -1,5 +1,5 @@
--- Document 02, Job 10, of the book: records by column in a list of calls, by computation. The file's answers to the same
--- list stand in crates/spec_cases/proofs/CasesMore.antt.
+-- Document 02, Job 10, of the book: records by column in a list of calls, by computation. The file's answers to the
+-- same list stand in crates/spec_cases/proofs/CasesMore.antt.
 -- Assumes nothing.
 use mathlib.Core.Path.{_≡_, refl}
 use Prim.Native.Nat.{ℕ}

@@ -146,8 +146,8 @@ lookupFound b (some e) =
 unfoldable pub bookLookup : Book → Bytes → Outcome Book
 bookLookup b name = guarded b (ask 7 (nameAllowed (b .terms .K) name) ∷ []) (lookupFound b (find name (b .entries)))
 
--- Document 02, Job 10: "The book compares stored bytes and puts 19 as the file does, on reading by its text." Storing is
--- its add, in mode 2, of what is stored.
+-- Document 02, Job 10: "The book compares stored bytes and puts 19 as the file does, on reading by its text." Storing
+-- is its add, in mode 2, of what is stored.
 unfoldable pub bookStore : Book → Bytes → Bytes → ℕ → Outcome Book
 bookStore b name recs W =
     guarded b (ask 7 (nameAllowed (b .terms .K) name) ∷ ask 19 (wholeRecords W (length recs)) ∷ [])

@@ -83,7 +83,7 @@ unfolding record-definitions
 store-full = refl
 
 -- 12 and 13 look at the width's byte too: 3 bytes of records are 4 stored ones, above the 3 of this layout; 2 are 3,
--- which end 1 byte behind the image. Where 1 stands already, no record finds room in its place.
+-- which end 1 byte after the image. Where 1 stands already, no record finds room in its place.
 unfoldable pub storePlaced : Bytes → ℕ
 unfolding record-definitions short
 storePlaced recs = firstNo (storeAsks shortLayout (short (97 ∷ 0 ∷ 0 ∷ 1 ∷ 80 ∷ [])) (met 0) one recs 1)
@@ -108,7 +108,7 @@ unfoldable pub twoFile : Bytes
 unfolding holding
 twoFile = holding ((97 ∷ 0 ∷ 0 ∷ 7 ∷ []) ++ twoStored)
 
--- the records and their byte count, with room for them or more; the bytes behind the answer stay
+-- the records and their byte count, with room for them or more; the bytes after the answer stay
 pub read-two : (readRecords twoFile one 6 .answer ≡ reads two) × (readRecords twoFile one 8 .answer ≡ reads two)
     × (filledRecords twoFile one (9 ∷ 9 ∷ 9 ∷ 9 ∷ 9 ∷ 9 ∷ 9 ∷ 9 ∷ []) ≡ two ++ (9 ∷ 9 ∷ []))
 unfolding twoFile

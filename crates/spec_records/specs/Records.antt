@@ -21,8 +21,9 @@ use Rattle.spec_columns.specs.Columns.{wholeRecords, wholeColumns, columns, rec
 
 -- ---- storing
 
--- "A width out of range, record bytes not a multiple of W, .. is answered 19, after 7 when storing"; behind it what add
--- asks in mode 2 of the bytes that are stored: "stores, as mode 2 does". 8 does not come, since there is no mode.
+-- "A width out of range, record bytes not a multiple of W, .. is answered 19, after 7 when storing"; after it come the
+-- questions that add puts in mode 2 of the bytes that are stored: "stores, as mode 2 does". There is no 8, since there
+-- is no mode.
 unfoldable pub storeAsks : Layout → Bytes → Probe → Bytes → Bytes → ℕ → List Question
 storeAsks g img s key recs W =
     ask 7 (nameAllowed (g .K) key) ∷ ask 19 (wholeRecords W (length recs)) ∷ pointAsks g img s (columns W recs) 2
@@ -32,8 +33,8 @@ storeNumber img key recs W =
     let g : Layout = layoutOf img in
     firstNo (opened img (storeAsks g img (search g img key) key recs W))
 
--- "A storing form takes records and W from 1 to 64, and stores, as mode 2 does, one byte W followed by the first byte of
--- every record, then the second bytes, and so on."
+-- "A storing form takes records and W from 1 to 64, and stores, as mode 2 does, one byte W followed by the first byte
+-- of every record, then the second bytes, and so on."
 unfoldable pub storeRecords : Bytes → Bytes → Bytes → ℕ → Outcome Bytes
 storeRecords img key recs W =
     let n : ℕ = storeNumber img key recs W in
@@ -45,8 +46,8 @@ storeRecords img key recs W =
 unfoldable pub storedBytes : Bytes → Bytes → Bytes
 storedBytes img key = bytesOf (lookupText img key)
 
--- "A width out of range, record bytes not a multiple of W, or a slice too short is answered 19", of what is stored and a
--- slice of so many bytes
+-- "A width out of range, record bytes not a multiple of W, or a slice too short is answered 19", of what is stored and
+-- a slice of so many bytes
 unfoldable pub readable : Bytes → ℕ → Bool
 readable stored room = wholeColumns stored && leb (length stored - 1) room
 
@@ -59,8 +60,8 @@ readNumber img key room =
     let g : Layout = layoutOf img in
     firstNo (opened img (readAsks g img (search g img key) key room))
 
--- "fills a lent slice with the records and answers their byte count"; "A refused reading .. answers 0 beside the number."
--- The file's answer and the book's: by the number, and by what is stored.
+-- "fills a lent slice with the records and answers their byte count"; "A refused reading .. answers 0 beside the
+-- number." The file's answer and the book's: by the number, and by what is stored.
 unfoldable pub recordsAnswer : ℕ → Bytes → Answer
 recordsAnswer n stored =
     cond (eqb n 0)
@@ -71,8 +72,8 @@ unfoldable pub readRecords : Bytes → Bytes → ℕ → Outcome Bytes
 readRecords img key room =
     record { after = img; answer = recordsAnswer (readNumber img key room) (storedBytes img key) }
 
--- the lent slice: the records from its start on. 01: "a call that fills a slice leaves the bytes behind its answer", and
--- "A refused call, also of a later job, changes no byte of any lent slice".
+-- the lent slice: the records from its start on. 01: "a call that fills a slice leaves the bytes behind its answer",
+-- and "A refused call, also of a later job, changes no byte of any lent slice".
 unfoldable pub filledRecords : Bytes → Bytes → Bytes → Bytes
 filledRecords img key out =
     settled (readNumber img key (length out)) out (store out 0 (records (storedBytes img key)))

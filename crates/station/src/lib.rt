@@ -304,15 +304,22 @@ pub extern "C" fn bhtf_store_columns(
     records: &[u8],
     width: u32,
 ) -> u32
-    ensures { λ r. ⌜ Stores (now (image .entry)) (now (key .entry)) (now (records .entry)) width (now (image .exit)) r ⌝ }
+    ensures { λ r. ⌜ Stores (now (image .entry)) (now (key .entry)) (now (records .entry)) width
+        (now (image .exit)) r ⌝ }
 {
     columns_store::store_records(image, key, records, width as usize)
 }
 
 // Fills the slice with the records that are stored under the key; `bytes` is how many bytes it filled, 0 when refused.
 #[no_mangle]
-pub extern "C" fn bhtf_read_columns(image: &[u8], key: &[u8], out: &mut [u8], bytes: &mut u32) -> u32
-    ensures { λ r. ⌜ Reads (now (image .entry)) (now (key .entry)) (now (out .entry)) (now (out .exit)) r (now (bytes .exit))
+pub extern "C" fn bhtf_read_columns(
+    image: &[u8],
+    key: &[u8],
+    out: &mut [u8],
+    bytes: &mut u32,
+) -> u32
+    ensures { λ r. ⌜ Reads (now (image .entry)) (now (key .entry)) (now (out .entry)) (now (out .exit))
+        r (now (bytes .exit))
         × (now (image .exit) ≡ now (image .entry)) ⌝ }
 {
     let fetched = columns_fetch::read_records(image, key, out);

@@ -83,7 +83,8 @@ returns-2 c =
     let found = L .locate .ensures in
     let shown =
     lookup-answer img key _ _ _ (found .0) (P .at .ensures ∙ found .1)
-    (part-lent img (P .at .result) (L .locate .result .length) ∙ ap₂ (part img) (P .at .ensures ∙ found .1) (found .2)) in
+    (part-lent img (P .at .result) (L .locate .result .length)
+    ∙ ap₂ (part img) (P .at .ensures ∙ found .1) (found .2)) in
     reads-filled img key (A .out .now) (sym (found .0) ∙ E .if1 .left) _ _ _ _ (shown .2) (F .fill .ensures)
 
 pub read-records-spec : {M : Type 1} → statement M

@@ -1,4 +1,4 @@
--- The message, and zeros behind it up to the old end. Assumes nothing.
+-- The message, and zeros after it up to the old end. Assumes nothing.
 use Prim.Native.Nat.{ℕ, _+_, _≤_, _<_}
 use native.Mathlib.Omega.{arith}
 use mathlib.Core.Path.{_≡_, _∙_}

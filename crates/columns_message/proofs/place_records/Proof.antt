@@ -1,4 +1,4 @@
--- The message is written at X, and X and M behind it. Assumes nothing.
+-- The message is written at X, and X and M after it. Assumes nothing.
 use Prim.Native.Nat.{ℕ, _+_, _-_, _≤_, _<_, _^_}
 use native.Mathlib.Omega.{arith}
 use mathlib.Core.Path.{_≡_, ap, _∙_}

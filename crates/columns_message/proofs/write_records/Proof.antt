@@ -1,4 +1,4 @@
--- Letter, length, and the columns behind them are the message. Assumes nothing.
+-- Letter, length, and the columns after them are the message. Assumes nothing.
 use native.Mathlib.Omega.{arith}
 use mathlib.Core.Path.{ap, ap₂, _∙_}
 use lib.ListN.{length}

@@ -1,4 +1,4 @@
--- A refusal leaves the image, and so does 19, which comes behind 7; else the search's end tells what is done.
+-- A refusal leaves the image, and so does 19, which comes after 7; else the search's end tells what is done.
 -- Assumes nothing.
 use mathlib.Core.Path.{_≡_, sym, subst}
 use mathlib.Core.Bool.{true}
