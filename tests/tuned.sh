@@ -66,8 +66,7 @@ test_that "found: messages that touch move as one too many" \
 test_that "found: a digit of the places is not sorted by" \
     finds 'shift < 32; shift += 11' 'shift < 11; shift += 11'
 test_that "found: a column of each group left out" \
-    finds 'for (uint32_t c = 0; c < wanted; c++)' \
-    'for (uint32_t c = 0; c + 1 < wanted; c++)'
+    finds 'if (c < wanted)' 'if (c + 1 < wanted)'
 test_that "found: narrow records written beyond the last one" \
     finds 'size_t spare = width < GROUP ? GROUP : 0;' \
     'size_t spare = width < 2 ? GROUP : 0;'
