@@ -10,10 +10,11 @@
 #     --no-counts            no instructions and branches, which need valgrind
 #     --large                instead, every call at 1,048,576 slots and some
 #                            500 MB of messages beside the two C programs, in
-#                            3 GiB of memory, and compaction there and at
-#                            65,536 slots; writes bench/large.md,
-#                            bench/compact.md, bench/listed.md and those sections of
-#                            docs/PERFORMANCE.md
+#                            3 GiB of memory, compaction there and at
+#                            65,536 slots, and readings by column; writes
+#                            bench/large.md, bench/compact.md,
+#                            bench/columns.md, bench/listed.md and those
+#                            sections of docs/PERFORMANCE.md
 #     --self                 plain C in the library's place, to test the
 #                            benchmark; writes to target/bench only
 #     LIB=path               of the library (default: rt staticlib station)
@@ -23,7 +24,7 @@
 set -u
 
 usage() {
-  sed -n '2,22s/^# \{0,1\}//p' "$0"
+  sed -n '2,24s/^# \{0,1\}//p' "$0"
   exit 2
 }
 
@@ -82,20 +83,36 @@ put_section() {
     !old' docs/PERFORMANCE.md >"$bin/page.md" && cp "$bin/page.md" docs/PERFORMANCE.md
 }
 
+# once NAME: a second table of some sections, instructions of one call
+once() {
+  local call size
+  [ "$counts" = 1 ] || return 0
+  case $1 in
+  columns) set -- columns "W | records" store_columns,read_columns 1,4,12,16,64 1000 ;;
+  *) return 0 ;;
+  esac
+  printf '\nInstructions of one call, counted by callgrind inside it:\n\n| call | %s | library / C | plain | tuned | library |\n' "$2"
+  echo '|:--|--:|--:|--:|--:|--:|--:|'
+  for call in ${3//,/ }; do
+    for size in ${4//,/ }; do bench/once.sh "$1" "$call" "$size" "$5" || return 1; done
+  done
+}
+
 # measure NAME ROUNDS: runs a program of the largest size; its lines are the table of a section.
 measure() {
   "${pin[@]}" "$bin/$1" "$2" >"$bin/$1.txt" || { cat "$bin/$1.txt"; exit 1; }
   cat "$bin/$1.txt"
   [ "$self" = 1 ] && return
-  { cat "bench/$1-head.md"; sed '$d' "$bin/$1.txt"; } >"bench/$1.md"
+  { cat "bench/$1-head.md"; sed '$d' "$bin/$1.txt"; once "$1"; } >"bench/$1.md"
   put_section "bench/$1.md"
 }
 
-# Every call at the largest size, compaction, and the listed forms.
+# Every call at the largest size, compaction, columns, and the listed forms.
 run_large() {
-  .ci/install gcc make util-linux && find_library && make -s -C bench LIB="$LIB" "../$bin/large" "../$bin/compact" "../$bin/listed" || exit 2
-  measure large "$rounds"
-  measure compact "$rounds"
+  local program programs=(large compact columns)
+  .ci/install gcc make util-linux $([ "$counts" = 1 ] && echo valgrind) && find_library &&
+    make -s -C bench LIB="$LIB" "${programs[@]/#/../$bin/}" "../$bin/listed" || exit 2
+  for program in "${programs[@]}"; do measure "$program" "$rounds"; done
   [ "$self" = 1 ] || measure listed "$rounds"
   exit
 }
@@ -250,6 +267,7 @@ compared() {
   sed '$d' "$out"
 }
 compared compact "$([ "$quick" = 1 ] && echo 1 || echo 7)" 65536
+compared columns "$([ "$quick" = 1 ] && echo 1 || echo 7)" "$([ "$quick" = 1 ] && echo 1000 || echo 1000000)"
 [ "$self" = 1 ] || compared listed "$([ "$quick" = 1 ] && echo 1 || echo 15)"
 
 # How many slots lookups read, by load: counted, so that one run is enough.
@@ -281,7 +299,7 @@ if [ "$quick" = 1 ] || [ "$self" = 1 ] || [ "$failed" -gt 0 ]; then pages=$bin; 
 mkdir -p "$pages"
 cp "$results" "$bin/results"
 slots_read page >"$work/slots.md" || fail "the slots read"
-awk -v rounds="$rounds" -v head=bench/head.md -v large=bench/large.md -v compact=bench/compact.md -v listed=bench/listed.md -v disk=bench/files.md -v tried=bench/tried.md -v slots="$work/slots.md" -v command="$given" -v seed="$seed" -v files="$files_say" \
+awk -v rounds="$rounds" -v head=bench/head.md -v large=bench/large.md -v compact=bench/compact.md -v columns=bench/columns.md -v listed=bench/listed.md -v disk=bench/files.md -v tried=bench/tried.md -v slots="$work/slots.md" -v command="$given" -v seed="$seed" -v files="$files_say" \
   -v machine="Machine: $(nproc) cores, $(uname -m), gcc $(gcc -dumpfullversion)" \
   -v engines="Engines: gdbm $(version libgdbm-dev), tdb $(version libtdb-dev), LMDB $(version liblmdb-dev), Kyoto Cabinet $(version libkyotocabinet-dev)" \
   -f bench/table.awk "$results" >"$pages/PERFORMANCE.md" || fail "the page"

@@ -5,6 +5,8 @@ AS_LIBRARY = -Dplain_create=bhtf_create -Dplain_add=bhtf_add \
 	-Dplain_check=bhtf_check -Dplain_add_slots=bhtf_add_slots \
 	-Dplain_delete_slots=bhtf_delete_slots \
 	-Dplain_lookup_slots=bhtf_lookup_slots -Dplain_compact=bhtf_compact \
+	-Dplain_store_columns=bhtf_store_columns \
+	-Dplain_read_columns=bhtf_read_columns \
 	-Dplain_add_listed=bhtf_add_listed \
 	-Dplain_delete_listed=bhtf_delete_listed \
 	-Dplain_compact_listed=bhtf_compact_listed \

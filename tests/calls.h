@@ -38,6 +38,15 @@ struct calls {
                              uint32_t *slots_read);
     uint32_t (*compact)(uint8_t *image, size_t image_len);
 
+    /* Readings by column. */
+    uint32_t (*store_columns)(uint8_t *image, size_t image_len,
+                              const uint8_t *key, size_t key_len,
+                              const uint8_t *records, size_t records_len,
+                              uint32_t width);
+    uint32_t (*read_columns)(const uint8_t *image, size_t image_len,
+                             const uint8_t *key, size_t key_len, uint8_t *out,
+                             size_t out_len, uint32_t *bytes);
+
     /* Those that write a file, with the list of what they changed. */
     uint32_t (*add_listed)(uint8_t *image, size_t image_len,
                            const uint8_t *key, size_t key_len,
@@ -74,8 +83,9 @@ struct calls {
     {                                                                       \
         p##_create, p##_add, p##_delete, p##_lookup, p##_count, p##_walk,   \
             p##_check, p##_add_slots, p##_delete_slots, p##_lookup_slots,   \
-            p##_compact, p##_add_listed, p##_delete_listed,                 \
-            p##_compact_listed, p##_add_journaled, p##_delete_journaled,    \
+            p##_compact, p##_store_columns, p##_read_columns,               \
+            p##_add_listed, p##_delete_listed, p##_compact_listed,          \
+            p##_add_journaled, p##_delete_journaled,                        \
             p##_compact_journaled, p##_recover,                             \
     }
 

@@ -604,6 +604,100 @@ fault "shared bytes behind 2 MiB are passed over" \
     'if (m.offset != 0)' \
     'if (m.offset != 0 && m.offset < v->data + 2097152)'
 
+# Readings by column.
+fault "a width of 0 is taken" \
+    'return width >= 1 && width <= WIDTH_MAX && size % width == 0;' \
+    'return width <= WIDTH_MAX && (width == 0 || size % width == 0);'
+fault "a width of 65 is taken" \
+    'width <= WIDTH_MAX && size % width == 0;' \
+    'width <= WIDTH_MAX + 1 && size % width == 0;'
+fault "a width of 64 is refused" \
+    'width <= WIDTH_MAX && size % width == 0;' \
+    'width < WIDTH_MAX && size % width == 0;'
+fault "a width of 257 is 1" \
+    'if (!columns_fit(width, records_len))' \
+    'width = (uint8_t)width; if (!columns_fit(width, records_len))'
+fault "record bytes that are no multiple are cut" \
+    'if (!columns_fit(width, records_len))' \
+    'if (width - 1 < WIDTH_MAX) records_len -= records_len % width; if (!columns_fit(width, records_len))'
+fault "no record is refused" \
+    'if (!columns_fit(width, records_len))' \
+    'if (records_len == 0 || !columns_fit(width, records_len))'
+fault "the last record is dropped" \
+    'if (!columns_fit(width, records_len))' \
+    'if (columns_fit(width, records_len) && records_len > 0) records_len -= width; if (!columns_fit(width, records_len))'
+fault "the records' length cut to 32 bits" \
+    'if (!columns_fit(width, records_len))' \
+    'records_len = (uint32_t)records_len; if (!columns_fit(width, records_len))'
+fault "rows are stored for columns" \
+    'stored[column_place(c, i, count)] = records[i * width + c];' \
+    'stored[1 + i * width + c] = records[i * width + c];'
+fault "rows are read for columns" \
+    'records[i * width + c] = stored[column_place(c, i, count)];' \
+    'records[i * width + c] = stored[1 + i * width + c];'
+fault "columns stand the other way round, stored and read alike" \
+    'return 1 + c * records + i;' 'return 1 + c * records + records - 1 - i;'
+fault "records are appended" \
+    '1 + records_len, MODE_REPLACE);' '1 + records_len, MODE_APPEND);'
+fault "records are stored for a new name only" \
+    '1 + records_len, MODE_REPLACE);' '1 + records_len, MODE_NEW);'
+fault "no record is an empty note" \
+    '1 + records_len, MODE_REPLACE);' \
+    'records_len == 0 ? 0 : 1 + records_len, MODE_REPLACE);'
+fault "12 looks at the record bytes only" \
+    '1 + records_len, MODE_REPLACE);' \
+    '1 + records_len - (records_len == MESSAGE_MAX), MODE_REPLACE);'
+fault "columns set the version" \
+    'free(stored);' \
+    'free(stored); if (answer == ACCEPTED) image[AT_LAST_VERSION] = NOTES_VERSION;'
+fault "19 before 1 when storing" \
+    'uint8_t *stored = NULL;' \
+    'uint8_t *stored = NULL; if (!columns_fit(width, records_len)) return 19;'
+fault "19 before 7 when storing" \
+    'if (answer == ACCEPTED && !key_fits(&v, key, key_len))' \
+    'if (answer == ACCEPTED && !columns_fit(width, records_len)) return 19; if (answer == ACCEPTED && !key_fits(&v, key, key_len))'
+fault "19 after 10 when storing" \
+    'if (!columns_fit(width, records_len))' \
+    'if (search(&v, key).ending != MET && v.count >= v.slots) return 10; if (!columns_fit(width, records_len))'
+fault "19 after 11 when storing" \
+    'if (!columns_fit(width, records_len))' \
+    'struct found f = search(&v, key); struct message m; if (f.ending == MET && !read_message(&v, message_in(&v, f.slot), &m)) return 11; if (!columns_fit(width, records_len))'
+fault "no message is read as no record" \
+    'width = length == 0 ? 0 : image[offset];' \
+    'width = length == 0 ? 1 : image[offset];'
+fault "a width above 64 is read" \
+    'if (!columns_fit(width, size) || out_len < size)' \
+    'if (width == 0 || size % width != 0 || out_len < size)'
+fault "columns that are not as long are read" \
+    'if (!columns_fit(width, size) || out_len < size)' \
+    'if (!columns_fit(width, 0) || out_len < size)'
+fault "a slice one byte too short is taken" \
+    '|| out_len < size)' '|| out_len + 1 < size)'
+fault "a slice that the records fill is refused" \
+    '|| out_len < size)' '|| out_len <= size)'
+fault "the slice's length cut to 32 bits" \
+    '|| out_len < size)' '|| (uint32_t)out_len < size)'
+fault "19 before 11 when reading" \
+    '*bytes = 0;' '*bytes = 0; if (answer == 11) return 19;'
+fault "19 before 14 when reading" \
+    '*bytes = 0;' '*bytes = 0; if (answer == 14 && out_len == 0) return 19;'
+fault "a refused reading answers bytes" \
+    '*bytes = 0;' '*bytes = length == 0 ? 0 : length - 1;'
+fault "a refused reading fills what fits" \
+    'if (!columns_fit(width, size) || out_len < size)' \
+    'if (columns_fit(width, size) && out_len < size && out_len > 0) out[0] = image[offset + 1]; if (!columns_fit(width, size) || out_len < size)'
+fault "the bytes behind the records are zeroed" \
+    '*bytes = size;' '*bytes = size; memset(out + size, 0, (uint32_t)out_len - size > 9 ? 9 : 0);'
+misbook "the book: 19 not put for the width" \
+    'return 1 <= width && width <= 64 && size % width == 0;' \
+    'return 1 <= width && size % width == 0;'
+misbook "the book: 19 not put for the lent slice" \
+    '|| size > room)' ')'
+misbook "the book: rows for columns" \
+    'records[k % count * width + k / count];' 'records[k];'
+misbook "the book: the width is not among the stored bytes" \
+    'b->scratch[0] = (uint8_t)width;' 'b->scratch[0] = 0;'
+
 # The list of what changed.
 fault "runs with a byte between them are one pair" \
     'to = write_pair(to, at, end - at);' \

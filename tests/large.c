@@ -1,7 +1,7 @@
 /* Images and tables at the limits: 1 GiB, 1,048,576 slots, and messages of
  * 16,777,215 bytes, which only images beyond the old limit can hold; their
- * compaction; what changed in the last bytes, listed and by way of a journal;
- * two points on one message among many.
+ * compaction; as many readings by column as fit one; what changed in the last
+ * bytes, listed and by way of a journal; two points on one message among many.
  * Ends with "N passed, M failed". Takes some 2.2 GiB of memory. */
 #define _DEFAULT_SOURCE
 
@@ -213,6 +213,70 @@ static void test_longest_message(void)
     expect("  the old bytes",
            are_zero(image + data + space + HEAD, MESSAGE_MAX), 1);
     expect("  those behind them", image[data + 2 * space], 'd');
+    expect_sound("sound", MIB64);
+    munmap(before, MIB64);
+}
+
+/* ---- as many readings by column as a message holds ---- */
+
+static uint32_t store(const char *name, uint32_t size, uint32_t width)
+{
+    return subject.store_columns(image, MIB64, (const uint8_t *)name, 4, texts,
+                                 size, width);
+}
+
+/* Is what is stored from an offset on the columns, and what is read the
+ * records? */
+static void expect_columns(const char *what, const char *name, uint32_t at,
+                           uint32_t size, uint32_t width)
+{
+    uint32_t count = size / width, wrong = image[at + HEAD] != width;
+    uint8_t *out = map(size + 1);
+    uint32_t bytes = 0;
+    const uint8_t *stored = image + at + HEAD + 1;
+
+    for (uint32_t i = 0; i < size; i++)
+        wrong += stored[i % width * count + i / width] != texts[i];
+    expect(what, wrong, 0);
+    expect("  a slice a byte too short",
+           subject.read_columns(image, MIB64, (const uint8_t *)name, 4, out,
+                                size - 1, &bytes), 19);
+    out[size] = 7;
+    expect("  read",
+           subject.read_columns(image, MIB64, (const uint8_t *)name, 4, out,
+                                size + 1, &bytes), 0);
+    expect("  bytes", bytes, size);
+    expect("  records", memcmp(out, texts, size) == 0, 1);
+    expect("  the byte behind them", out[size], 7);
+    munmap(out, size + 1);
+}
+
+/* 16,777,214 is 47 x 356,962, 16,777,152 is 64 x 262,143. */
+static void test_longest_columns(void)
+{
+    const uint32_t space = HEAD + MESSAGE_MAX, most = MESSAGE_MAX - 1;
+
+    before = map(MIB64);
+    created("64 MiB for columns", MIB64, 4, 16, PAGE);
+    keep();
+    refused("16,777,215 records of a byte", store("AAAA", MESSAGE_MAX, 1), 12);
+    refused("16,777,216 bytes of width 64",
+            store("AAAA", MESSAGE_MAX + 1, 64), 12);
+    expect("16,777,214 bytes of width 47", store("AAAA", most, 47), 0);
+    expect("  its header", field(PAGE), 'a' * 16777216u + MESSAGE_MAX);
+    expect_space("  X", space);
+    expect_columns("  its columns", "AAAA", PAGE, most, 47);
+    expect("of width 64 in its place", store("AAAA", 16777152, 64), 0);
+    expect_space("  X", space);
+    expect_columns("  its columns", "AAAA", PAGE, 16777152, 64);
+    expect("  the rest of the old bytes",
+           are_zero(image + PAGE + HEAD + 16777153, 62), 1);
+    expect("of width 2", store("BBBB", most, 2), 0);
+    expect_columns("  its columns", "BBBB", PAGE + space, most, 2);
+    expect("of width 1", store("CCCC", most, 1), 0);
+    expect_columns("  its columns", "CCCC", PAGE + 2 * space, most, 1);
+    keep();
+    refused("no space for another", store("DDDD", most, 1), 13);
     expect_sound("sound", MIB64);
     munmap(before, MIB64);
 }
@@ -539,6 +603,7 @@ int main(void)
         texts[i] = (uint8_t)(i * 2654435761u >> 24);
     test_questions();
     test_longest_message();
+    test_longest_columns();
     test_full_image();
     test_full_table();
     test_many_messages();

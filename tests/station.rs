@@ -4,8 +4,8 @@
 //! Compared after every call: the number, C, the message's bytes, and the slots read, which are counted here on the image before the
 //! call and may not be more than its points and one; the list of what changed, byte for byte, and that a copy of the file before the
 //! call is the file after it once the listed stretches are copied; the journal, byte for byte, and that recovery makes the file after
-//! the call of the one before; after every list: that the file finds the book's points with the book's texts, that the walk shows
-//! each of them once, and that the check calls the file sound.
+//! the call of the one before; the records that are read by column, and the lent slice behind them; after every list: that the file
+//! finds the book's points with the book's texts, that the walk shows each of them once, and that the check calls the file sound.
 //! Status 0 if every list agreed.
 use std::collections::{BTreeMap, BTreeSet};
 
@@ -38,6 +38,24 @@ extern "C" {
         slots_read: *mut u32,
     ) -> u32;
     fn bhtf_compact(image: *mut u8, len: usize) -> u32;
+    fn bhtf_store_columns(
+        image: *mut u8,
+        len: usize,
+        key: *const u8,
+        key_len: usize,
+        records: *const u8,
+        records_len: usize,
+        width: u32,
+    ) -> u32;
+    fn bhtf_read_columns(
+        image: *const u8,
+        len: usize,
+        key: *const u8,
+        key_len: usize,
+        out: *mut u8,
+        out_len: usize,
+        bytes: *mut u32,
+    ) -> u32;
     fn bhtf_add_listed(
         image: *mut u8,
         len: usize,
@@ -170,6 +188,19 @@ impl File {
 
     fn compact(&mut self) -> u32 {
         unsafe { bhtf_compact(self.0.as_mut_ptr(), self.0.len()) }
+    }
+
+    fn store_columns(&mut self, key: &[u8], records: &[u8], width: u32) -> u32 {
+        let (image, len) = (self.0.as_mut_ptr(), self.0.len());
+        unsafe { bhtf_store_columns(image, len, key.as_ptr(), key.len(), records.as_ptr(), records.len(), width) }
+    }
+
+    /// Fills the slice; number and bytes.
+    fn read_columns(&self, key: &[u8], out: &mut [u8]) -> (u32, u32) {
+        let (image, len, mut bytes) = (self.0.as_ptr(), self.0.len(), !0);
+        let (out, out_len) = (out.as_mut_ptr(), out.len());
+        let number = unsafe { bhtf_read_columns(image, len, key.as_ptr(), key.len(), out, out_len, &mut bytes) };
+        (number, bytes)
     }
 
     // The calls that write, with the list of what changed.
@@ -437,6 +468,35 @@ impl Book {
                 text.extend_from_slice(data);
                 self.place(key, text)
             }
+        }
+    }
+
+    /// As mode 2 stores the width and then column after column.
+    fn store_columns(&mut self, key: &[u8], records: &[u8], width: u32) -> u32 {
+        if !self.named(key) {
+            return 7;
+        }
+        if !(1..=64).contains(&width) || records.len() % width as usize != 0 {
+            return 19;
+        }
+        let mut text = vec![width as u8];
+        (0..width as usize).for_each(|column| text.extend(records.chunks(width as usize).map(|record| record[column])));
+        self.add(key, &text, 2)
+    }
+
+    /// The records by the text, if they fit so many bytes.
+    fn read_columns(&self, key: &[u8], room: usize) -> (u32, Vec<u8>) {
+        let (number, text) = self.lookup(key);
+        if number != 0 {
+            return (number, Vec::new());
+        }
+        match text.unwrap_or_default().split_first() {
+            Some((&width, rest)) if (1..=64).contains(&width) && rest.len() % width as usize == 0 && rest.len() <= room => {
+                let count = rest.len() / width as usize;
+                let record = |i| (0..width as usize).map(move |column| rest[column * count + i]);
+                (0, (0..count).flat_map(record).collect())
+            }
+            _ => (19, Vec::new()),
         }
     }
 
@@ -771,6 +831,28 @@ fn recovers(mut file: File, after: &[u8], journal: &[u8]) -> bool {
     (0..2).all(|_| file.recover(&mut marked) == 0 && file.0 == after && marked == journal)
 }
 
+/// Readings stored by column, on file and book.
+fn store_columns(chance: &mut Chance, file: &mut File, book: &mut Book, key: &[u8]) -> (Answer, Answer) {
+    let width = [chance.below(6), 12, 64, 65, 257, 1 + chance.below(64)][chance.below(6)];
+    let size = [width * chance.below(5), chance.below(80), 0][chance.below(3)];
+    let records = chance.bytes(size);
+    let want = book.store_columns(key, &records, width as u32);
+    ((file.store_columns(key, &records, width as u32), None, None), (want, None, None))
+}
+
+/// Readings read into a slice, on file and book: the bytes answered, and the whole slice.
+fn read_columns(chance: &mut Chance, file: &File, book: &Book, key: &[u8]) -> (Answer, Answer) {
+    let needed = book.read_columns(key, usize::MAX).1.len();
+    let room = [needed, needed + chance.below(9), chance.below(needed + 1)][chance.below(3)];
+    let mut out = chance.bytes(room);
+    let mut wanted = out.clone();
+    let (want, records) = book.read_columns(key, room);
+    wanted[..records.len()].copy_from_slice(&records);
+    let (got, bytes) = file.read_columns(key, &mut out);
+    let answered = |bytes: u32, slice: &[u8]| Some([&bytes.to_be_bytes(), slice].concat());
+    ((got, answered(bytes, &out), None), (want, answered(records.len() as u32, &wanted), None))
+}
+
 /// One call on the file and on the book: its name and both answers.
 fn call(
     chance: &mut Chance,
@@ -785,7 +867,7 @@ fn call(
     // none where the call is refused before its search
     let searches = if book.named(key) { slots_read(&file.0, key) as u32 } else { 0 };
     let read = |n| counted.then_some(if n == 8 { 0 } else { searches });
-    match chance.below(21) {
+    match chance.below(24) {
         0..=9 => {
             let size = [0, 1, 5, 40, book.room][chance.below(5)];
             let length = chance.below(size + 1);
@@ -843,6 +925,14 @@ fn call(
             ("compact with a journal", got, want)
         }
         18 => ("compact", number(file.compact()), number(book.compact())),
+        19 | 20 => {
+            let (got, want) = store_columns(chance, file, book, key);
+            ("store columns", got, want)
+        }
+        21 => {
+            let (got, want) = read_columns(chance, file, book, key);
+            ("read columns", got, want)
+        }
         _ => {
             let (number, points) = file.count();
             let want = book.points.len() as u32;

@@ -33,6 +33,13 @@ uint32_t bhtf_lookup_slots(const uint8_t *image, size_t image_len,
                            uint32_t *offset, uint32_t *length,
                            uint32_t *slots_read);
 uint32_t bhtf_compact(uint8_t *image, size_t image_len);
+uint32_t bhtf_store_columns(uint8_t *image, size_t image_len,
+                            const uint8_t *key, size_t key_len,
+                            const uint8_t *records, size_t records_len,
+                            uint32_t width);
+uint32_t bhtf_read_columns(const uint8_t *image, size_t image_len,
+                           const uint8_t *key, size_t key_len, uint8_t *out,
+                           size_t out_len, uint32_t *bytes);
 uint32_t bhtf_add_listed(uint8_t *image, size_t image_len, const uint8_t *key,
                          size_t key_len, const uint8_t *data, size_t data_len,
                          uint32_t mode, uint8_t *work, size_t work_len,

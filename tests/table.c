@@ -1,6 +1,6 @@
-/* 01's proved table, 02's empty notes, compaction, lists of changes, journal
- * and recovery, and the generator, run on the code under test. Ends with
- * "N passed, 0 failed".
+/* 01's proved table, 02's empty notes, compaction, readings by column, lists of
+ * changes, journal and recovery, and the generator, run on the code under test.
+ * Ends with "N passed, 0 failed".
  *
  * The hash is not an export; it is seen through home slots: on an empty table
  * an added key lands in slot hash mod N. 65536, 65535 and 65533 have no
@@ -383,6 +383,156 @@ static void unsound(void)
     expect("question 1", compact(), 1);
 }
 
+/* ---- readings by column ---- */
+
+static uint8_t out[16];
+
+static uint32_t store(uint8_t name, const char *records, size_t size,
+                      uint32_t width)
+{
+    return subject.store_columns(image, length, &name, 1,
+                                 (const uint8_t *)records, size, width);
+}
+
+/* Into a slice of so many bytes 0xEE. */
+static uint32_t read_back(uint8_t name, size_t out_len, uint32_t *bytes)
+{
+    memset(out, 0xEE, sizeof out);
+    *bytes = 77;
+    return subject.read_columns(image, length, &name, 1, out, out_len, bytes);
+}
+
+/* The slice is filled with these bytes alone. */
+static void expect_read(const char *what, uint8_t name, size_t out_len,
+                        const char *records, uint32_t size)
+{
+    uint32_t bytes, wrong = 0;
+
+    expect(what, read_back(name, out_len, &bytes), 0);
+    expect("  bytes", bytes, size);
+    for (uint32_t i = 0; i < sizeof out; i++)
+        wrong += out[i] != (i < size ? (uint8_t)records[i] : 0xEE);
+    expect("  bytes of the slice that are wrong", wrong, 0);
+}
+
+/* A refused reading answers 0, and the slice is as it was. */
+static void expect_unread(const char *what, uint8_t name, size_t out_len,
+                          uint32_t number)
+{
+    uint32_t bytes, wrong = 0;
+
+    expect(what, read_back(name, out_len, &bytes), number);
+    expect("  no bytes", bytes, 0);
+    for (uint32_t i = 0; i < sizeof out; i++)
+        wrong += out[i] != 0xEE;
+    expect("  bytes of the slice that changed", wrong, 0);
+}
+
+/* Six bytes by each width that divides them: in one place, all seven long. */
+static void columns(void)
+{
+    static const struct by_width {
+        uint32_t width;
+        const char *stored;
+    } by_width[] = {
+        { 2, "\2acebdf" }, { 3, "\3adbecf" }, { 6, "\6abcdef" },
+        { 1, "\1abcdef" },
+    };
+
+    create(8192, 1, 4, 0);
+    for (int i = 0; i < 4; i++) {
+        expect("store", store(1, "abcdef", 6, by_width[i].width), 0);
+        expect("C", get32(AT_COUNT), 1);
+        expect("X", get32(AT_NEXT), 4107);
+        expect("header", get32(4096), 0x61000007u);
+        expect("stored bytes",
+               memcmp(image + 4100, by_width[i].stored, 7) != 0, 0);
+        expect_read("read", 1, 6, "abcdef", 6);
+        expect_read("into a longer slice", 1, 8, "abcdef", 6);
+        expect_unread("into a shorter one", 1, 5, 19);
+        expect_unread("into none", 1, 0, 19);
+    }
+}
+
+/* The message is the width alone; the rest of the old one is zeroed. */
+static void no_record(void)
+{
+    create(8192, 1, 4, 0);
+    store(1, "abcdef", 6, 2);
+    expect("store", store(1, NULL, 0, 64), 0);
+    expect("header", get32(4096), 0x61000001u);
+    expect("the width", image[4100], 64);
+    expect("the rest", get32(4101) | get32(4103), 0);
+    expect("X", get32(AT_NEXT), 4107);
+    expect_read("read", 1, 0, "", 0);
+    expect_read("into a slice", 1, 3, "", 0);
+    expect("version", get32(4), 0x76010002u);
+    image[7] = 0;
+    expect("stored again", store(1, NULL, 0, 1), 0);
+    expect("version 1.0.0 stays", get32(4), 0x76010000u);
+}
+
+/* What is no column: 19 by the stored bytes. */
+static void no_columns(void)
+{
+    create(8192, 1, 4, 0);
+    add(1, "\2abc", 4, 1);
+    expect_unread("three bytes of width 2", 1, 16, 19);
+    add(1, "\3abc", 4, 2);
+    expect_read("one record of width 3", 1, 16, "abc", 3);
+    add(1, "\100", 1, 2);
+    expect_read("width 64", 1, 16, "", 0);
+    add(1, "\101", 1, 2);
+    expect_unread("width 65", 1, 16, 19);
+    add(1, "\377", 1, 2);
+    expect_unread("width 255", 1, 16, 19);
+    add(1, "\0", 1, 2);
+    expect_unread("width 0", 1, 16, 19);
+    add(1, NULL, 0, 2);
+    expect_unread("an empty note", 1, 16, 19);
+    add(1, "\1a", 2, 2);
+    add(1, NULL, 0, 4);
+    expect_unread("withdrawn", 1, 16, 19);
+    add(2, NULL, 0, 3);
+    expect_unread("no message", 2, 16, 19);
+}
+
+/* When storing 1, 5, 6, 7, 19, then 10, 11 and 13; when reading 7, 14, 11, then
+ * 19. */
+static void columns_refused(void)
+{
+    static const uint32_t widths[] = { 0, 65, 256, 257, 0x80000001u };
+    static const char bytes[5000];
+
+    create(8192, 1, 4, 0);
+    for (int i = 0; i < 5; i++)
+        expect("width out of range", store(1, NULL, 0, widths[i]), 19);
+    expect("six bytes of width 4", store(1, "abcdef", 6, 4), 19);
+    expect("C", get32(AT_COUNT), 0);
+    expect("7 before 19", store(0, "abc", 3, 2), 7);
+    expect("4092 bytes", store(1, bytes, 4092, 1), 13);
+    expect("4091 bytes", store(1, bytes, 4091, 1), 0);
+    expect("X", get32(AT_NEXT), 8192);
+    expect_unread("zeros", 0, 0, 7);
+    expect_unread("absent", 2, 0, 14);
+    image[4096] = 'x';
+    expect_unread("11 before 19", 1, 0, 11);
+    expect("19 before 11", store(1, "abc", 3, 2), 19);
+    expect("11", store(1, "abc", 3, 3), 11);
+    put32(AT_COUNT, 4);
+    expect("19 before 10", store(2, "abc", 3, 2), 19);
+    expect("10 before 13", store(2, "abc", 3, 3), 10);
+    put32(AT_COUNT, 5);
+    expect("6 before 19", store(1, "abc", 3, 2), 6);
+    expect_unread("6", 1, 0, 6);
+    image[0]++;
+    expect("5 before 19", store(1, "abc", 3, 2), 5);
+    expect_unread("5", 1, 0, 5);
+    length--;
+    expect("1 before 19", store(1, "abc", 3, 2), 1);
+    expect_unread("1", 1, 0, 1);
+}
+
 /* ---- the list of what changed ---- */
 
 #define PAIRS 8
@@ -742,6 +892,10 @@ int main(void)
     packing();
     nothing_dead();
     unsound();
+    columns();
+    no_record();
+    no_columns();
+    columns_refused();
     changes_listed();
     list_too_short();
     slices_too_short();

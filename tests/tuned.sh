@@ -65,6 +65,19 @@ test_that "found: messages that touch move as one too many" \
     'i < count && moves[i].from <= end + 1; i++'
 test_that "found: a digit of the places is not sorted by" \
     finds 'shift < 32; shift += 11' 'shift < 11; shift += 11'
+test_that "found: a column of each group left out" \
+    finds 'if (c < wanted)' 'if (c + 1 < wanted)'
+test_that "found: narrow records written beyond the last one" \
+    finds 'size_t spare = width < GROUP ? GROUP : 0;' \
+    'size_t spare = width < 2 ? GROUP : 0;'
+test_that "found: columns in place leave the rest of the old bytes" \
+    finds 'memset(to + MESSAGE_HEADER + 1 + size, 0, old.length - 1 - size);' \
+    ''
+test_that "found: columns in place one byte too long" \
+    finds 'if (records_len < old.length) {' \
+    'if (records_len <= old.length && old.length > 0) {'
+test_that "found: a slice one byte too short for the records" \
+    finds '|| out_len < size)' '|| out_len + 1 < size)'
 test_that "found: a run that begins inside a word" \
     finds 'while (at < length && old[at] == new[at])' \
     'while (at < length && at % 8 == 0 && old[at] == new[at])'

@@ -55,6 +55,11 @@
 #define OPTION_GSI OPTION(40)
 #define OPTION_LANDXML OPTION(41)
 #define OPTION_DXF OPTION(42)
+#define OPTION_WIDTH OPTION(43)
+#define OPTION_FIELDS OPTION(44)
+#define OPTION_LITTLE OPTION(45)
+#define OPTION_COLUMN OPTION(46)
+#define OPTION_CSV OPTION(49)
 #define OPTION_TOLERANCE OPTION(50)
 #define OPTION_FINISH OPTION(56)
 #define OPTION_SET_ASIDE OPTION(57)
@@ -73,6 +78,9 @@ struct options {
     uint64_t size;
     uint64_t skip;
     uint64_t wait;
+    uint64_t width;
+    uint64_t column;
+    const char *fields;
     const char *easting;
     const char *northing;
     const char *height;
@@ -126,6 +134,8 @@ int run_delete(const struct options *o);
 int run_get(const struct options *o);
 int run_count(const struct options *o);
 int run_list(const struct options *o);
+int run_store_records(const struct options *o);
+int run_read_records(const struct options *o);
 int run_check(const struct options *o);
 int run_compact(const struct options *o);
 int run_book(const struct options *o);

@@ -180,6 +180,29 @@ static const struct command commands[] = {
       "                     if there is no text\n"
       "      --json         the same, an object a line\n"
       WAITING PATTERNS },
+    { "store-records", OPTION_WIDTH | OPTION_FIELDS | OPTION_LITTLE |
+                       OPTION_CSV | OPTION_DELTA | OPTION_LOG |
+                       OPTION_NO_SYNC, 2, 3, run_store_records,
+      "bhtf store-records FILE NAME --width W [RECORDS]\n"
+      "bhtf store-records FILE NAME --csv --fields u16,i32,f32,.. [RECORDS]\n"
+      "Stores readings, records of W bytes each, as a point's text, in place of\n"
+      "the one that it has. RECORDS is a file, or standard input. They are kept\n"
+      "by column: the first bytes of all records, then the second ones ..\n"
+      "      --width W      bytes of a record, from 1 to 64\n"
+      "      --csv          lines of numbers, one for each of\n"
+      "      --fields F     u8 u16 u32 u64 i8 i16 i32 i64 f32 f64, with commas\n"
+      "      --little       numbers have their least significant byte first\n"
+      DELTA LOG NO_SYNC QUIET WAITING NAMES },
+    { "read-records", OPTION_FIELDS | OPTION_LITTLE | OPTION_COLUMN |
+                      OPTION_CSV, 2, 2, run_read_records,
+      "bhtf read-records FILE NAME [--csv --fields u16,i32,f32,..] [--column "
+      "N]\n"
+      "Prints the records that store-records stored, byte for byte, or\n"
+      "      --csv          as lines of numbers, one for each of\n"
+      "      --fields F     u8 u16 u32 u64 i8 i16 i32 i64 f32 f64, with commas\n"
+      "      --little       numbers have their least significant byte first\n"
+      "      --column N     one column alone, of bytes or of the fields; the\n"
+      "                     others are not read\n" WAITING NAMES },
     { "check", 0, 1, 1, run_check,
       "bhtf check FILE\n"
       "Says whether the file is sound: status 0 if so, 1 if not. If so it says "

@@ -41,6 +41,7 @@ extern "C" {
 #define BHTF_MESSAGE_MAX 16777215u  /* bytes in the longest message */
 #define BHTF_MESSAGE_HEADER 4u      /* bytes that a message takes besides */
 #define BHTF_PAIR 8u                /* bytes that a pair takes in a list */
+#define BHTF_WIDTH_MAX 64u          /* bytes in the widest record */
 #define BHTF_MARKED 0xA5u           /* the mark of a journal that is to be
                                        written to its image */
 
@@ -78,6 +79,9 @@ extern "C" {
                                   its mark is not 0; asked last */
 #define BHTF_UNRECOVERABLE 18u /* recover: the journal is empty, or marked and
                                   its content or a pair does not fit */
+#define BHTF_BAD_RECORDS 19u   /* records: width not from 1 to
+                                  BHTF_WIDTH_MAX, bytes not a multiple of it,
+                                  or slice too short */
 
 /* ---- verdicts of bhtf_check ---- */
 
@@ -318,6 +322,35 @@ uint32_t bhtf_compact_journaled(uint8_t *image, size_t image_len,
  * and the time to copy the stretches. */
 uint32_t bhtf_recover(uint8_t *image, size_t image_len, uint8_t *journal,
                       size_t journal_len);
+
+/* ---- readings by column ----
+ *
+ * Records of width bytes each, stored so that an office tool finds each column
+ * in one piece: the message is one byte, the width, then the first byte of
+ * every record, then the second bytes, and so on. Of n records, byte j of
+ * record r stands at 1 + j * n + r of the message and at r * width + j of the
+ * records. bhtf_lookup shows the message as it is stored. */
+
+/* Stores records under a key, in place of its message, as BHTF_REPLACE does; an
+ * absent key is entered. records_len is a multiple of width, which is from 1 to
+ * BHTF_WIDTH_MAX; no record at all is allowed, and stores the width alone. The
+ * columns are laid straight into the image, and no working slice is needed: a
+ * message of 1 + records_len bytes, for which 12 and 13 are asked.
+ * Refused with 1, 5, 6 and 7, then 19, then 10 to 13. */
+uint32_t bhtf_store_columns(uint8_t *image, size_t image_len,
+                            const uint8_t *key, size_t key_len,
+                            const uint8_t *records, size_t records_len,
+                            uint32_t width);
+
+/* Reads a key's records back: fills out from its start, and leaves the bytes
+ * after them. *bytes is how many bytes they have: one less than the message.
+ * Refused with 1, 5, 6, 7, 14 and 11, then with 19: the key has no message, or
+ * one that is no columns of whole records, or they are longer than out_len.
+ * When refused out is as it was, and *bytes 0. out does not overlap the image.
+ * What out_len must be, bhtf_lookup tells beforehand: *length - 1. */
+uint32_t bhtf_read_columns(const uint8_t *image, size_t image_len,
+                           const uint8_t *key, size_t key_len, uint8_t *out,
+                           size_t out_len, uint32_t *bytes);
 
 /* What an answer means, in one sentence. Never NULL; not to be freed. */
 const char *bhtf_message(uint32_t number);

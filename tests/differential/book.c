@@ -34,6 +34,20 @@ static void compare_walk(const struct answer *a)
         fail("the walk shows a key that is not in the book");
 }
 
+/* The book's records, by its text and the lent slice's length. */
+static void compare_read(const struct call *c, const struct answer *a)
+{
+    const uint8_t *records;
+    uint32_t bytes;
+    uint32_t number = book_read_columns(&list.book, c->key, c->key_len,
+                                        c->list_len, &records, &bytes);
+
+    same_as_book("answer", a->number, number);
+    same_as_book("bytes of records", a->bytes, bytes);
+    if (bytes > 0 && memcmp(filled.library, records, bytes) != 0)
+        fail("the records are not the book's");
+}
+
 static int asks_16(const struct call *c)
 {
     if (c->form == LISTED)
@@ -71,6 +85,14 @@ void compare_book(const struct call *c, const struct answer *a)
     case COMPACT:
         same_as_book("answer", a->number, 0);
         book_compact(b);
+        break;
+    case STORE:
+        same_as_book("answer", a->number,
+                     book_store_columns(b, c->key, c->key_len, c->data,
+                                        c->data_len, c->width));
+        break;
+    case READ:
+        compare_read(c, a);
         break;
     case LOOKUP:
         compare_lookup(c, a);

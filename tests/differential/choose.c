@@ -150,10 +150,8 @@ static size_t choose_length(uint32_t name)
     return 1 + below(style < 56 ? 200 : 24);
 }
 
-void choose_data(uint32_t name)
+void lend_data(size_t size)
 {
-    size_t size = choose_length(name);
-
     if (size > MIB16 && data_size == POOL)
         size = MIB16;
     list.now.data_len = size;
@@ -162,6 +160,11 @@ void choose_data(uint32_t name)
         list.now.data = data_start + data_size - size;
     if (size == 0 && one_in(2))
         list.now.data = NULL;
+}
+
+void choose_data(uint32_t name)
+{
+    lend_data(choose_length(name));
 }
 
 uint32_t choose_mode(void)
@@ -199,8 +202,10 @@ uint32_t choose_slots(void)
         return 1 + below(8);
     if (style < 500)
         return 9 + below(32);
-    if (style < 511)
+    if (style < 510)
         return PICK(edges);
+    if (style == 510)
+        return 0;
     return one_in(4) && !run.old_limits ? PICK(largest) : PICK(large);
 }
 

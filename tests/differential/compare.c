@@ -79,7 +79,7 @@ static void perform_journaled(const struct calls *f, uint8_t *s,
 static struct answer perform(const struct calls *f, uint8_t *image,
                              const struct call *c)
 {
-    struct answer a = { 0, UNSET, UNSET, UNSET, UNSET };
+    struct answer a = { 0, UNSET, UNSET, UNSET, UNSET, UNSET };
     uint8_t *s = slice(image, c->image_len);
     size_t n = c->image_len;
 
@@ -118,6 +118,16 @@ static struct answer perform(const struct calls *f, uint8_t *image,
     case WALK:
         a.number = f->walk(s, n, c->from, &a.first, &a.second);
         break;
+    case STORE:
+        a.number = f->store_columns(s, n, c->key, c->key_len, c->data,
+                                    c->data_len, c->width);
+        break;
+    case READ:
+        a.number = f->read_columns(s, n, c->key, c->key_len,
+                                   f == &plain ? filled.plain
+                                               : filled.library,
+                                   c->list_len, &a.bytes);
+        break;
     case RECOVER:
         a.number = f->recover(s, n,
                               f == &plain ? journal.plain : journal.library,
@@ -133,6 +143,11 @@ static struct answer perform(const struct calls *f, uint8_t *image,
 struct answer perform_plain(uint8_t *image, const struct call *c)
 {
     return perform(&plain, image, c);
+}
+
+struct answer perform_library(uint8_t *image, const struct call *c)
+{
+    return perform(&subject, image, c);
 }
 
 static void same(const char *what, uint32_t library, uint32_t reference)
@@ -171,6 +186,8 @@ static void compare_answers(const struct call *c, const struct answer *a,
     }
     if (c->kind == COUNT)
         same("count", a->first, b->first);
+    if (c->kind == READ)
+        same("bytes of records", a->bytes, b->bytes);
     if (c->kind == WALK) {
         same("key offset", a->second, b->second);
         if (run.strict || b->second != 0)
@@ -200,7 +217,7 @@ static void same_bytes(const char *what, const uint8_t *a, const char *one,
 
 static int writes(enum kind kind)
 {
-    return kind <= COMPACT || kind == RECOVER;
+    return kind <= COMPACT || kind == STORE || kind == RECOVER;
 }
 
 static void compare_bytes(const struct call *c, uint32_t number)
@@ -220,13 +237,13 @@ static void keep_old_limits(void)
         poke32(16, OLD_SLOTS);
 }
 
-/* What 02 brought or gave another meaning: compaction, mode 4, and empty data
- * in modes 1 and 2. */
+/* What 02 brought or gave another meaning: compaction, the calls behind the
+ * check, mode 4, and empty data in modes 1 and 2. */
 static void keep_old_calls(void)
 {
     struct call *c = &list.now;
 
-    if (c->kind == COMPACT)
+    if (c->kind == COMPACT || c->kind > CHECK)
         c->kind = CHECK;
     if (c->mode == 4 || (c->data_len == 0 && (c->mode == 1 || c->mode == 2)))
         c->mode = 3;
@@ -239,6 +256,8 @@ static void lend_slices(void)
         lend_listed();
     if (list.now.form == JOURNALED)
         lend_journaled();
+    if (list.now.kind == READ)
+        lend_filled();
     if (list.now.kind == RECOVER && !list.now.again)
         lend_journal();
 }
@@ -249,6 +268,12 @@ static void compare_slices(const struct call *c, const struct answer *a)
         compare_listed(c, a);
     if (c->form == JOURNALED)
         compare_journaled(c, a);
+    if (c->kind == STORE && a->number == 0)
+        compare_stored(c);
+    if (c->kind == READ)
+        compare_filled(c, a);
+    if (c->kind == READ)
+        store_again(c, a);
     if (c->kind == RECOVER)
         compare_recovered(c, a);
 }

@@ -37,6 +37,7 @@ static void flip(uint32_t offset)
 static void damage_message(void)
 {
     uint32_t letters[] = { 'a', 'd', 'a', 'd', 0, 'b', 'e', 255 };
+    uint32_t widths[] = { 0, 1, 2, 3, 63, 64, 65, 128, 255 };
     uint32_t at = field(48);
     uint32_t space = field(52) - at - 4;
 
@@ -44,7 +45,9 @@ static void damage_message(void)
         at = messages.at[below(messages.count)];
     if (at > lent.length - 4)
         return;
-    if (one_in(3))
+    if (one_in(4))
+        poke(at + 4, (uint8_t)PICK(widths));
+    else if (one_in(3))
         poke(at, (uint8_t)PICK(letters));
     else if (one_in(2))
         poke32(at, (field(at) & 0xFF000000u) | make_length(space % 200));

@@ -85,6 +85,8 @@ static void make_messages(void)
 
         poke32(at, letter << 24 | length);
         messages.at[messages.count++] = at;
+        if (one_in(3))
+            poke(at + 4, (uint8_t)(1 + below(4))); /* a width */
         if (length > end - at - 4)
             length = below(8);
         at += 4 + length + (one_in(6) ? below(8) : 0);

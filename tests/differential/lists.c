@@ -118,6 +118,7 @@ static void step_shorter(void)
     choose_key();
     choose_data(NAMES);
     list.now.mode = choose_mode();
+    list.now.width = below(66);
     list.now.image_len = PAGE * (1 + below(pages));
     run_call();
 }

@@ -15,6 +15,7 @@ struct lent lent;
 struct slice work;
 struct slice listing;
 struct slice journal;
+struct slice filled;
 uint8_t *data_start;
 size_t data_size;
 uint8_t *key_end;
@@ -91,6 +92,7 @@ void map_all(void)
     map_slice(&work);
     map_slice(&listing);
     map_slice(&journal);
+    map_slice(&filled);
 }
 
 static uint32_t choose_shift(void)

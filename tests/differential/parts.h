@@ -18,12 +18,12 @@
 
 #define PAIR 8u /* bytes: offset and length of a stretch */
 
-/* Those up to compaction, and recovery, write the image. Those before recovery
- * are calls on a file. */
-enum kind { CREATE, ADD, DELETE, COMPACT, LOOKUP, COUNT, WALK, CHECK, RECOVER,
-            KINDS };
+/* Those up to compaction, storing columns and recovery write the image. Those
+ * before recovery are calls on a file, those up to the check document 01's. */
+enum kind { CREATE, ADD, DELETE, COMPACT, LOOKUP, COUNT, WALK, CHECK, STORE,
+            READ, RECOVER, KINDS };
 
-#define NUMBERS 19 /* answers from 0 to 18 */
+#define NUMBERS 20 /* answers from 0 to 19 */
 
 extern const char *const kind_name[KINDS];
 
@@ -39,13 +39,14 @@ struct call {
     const uint8_t *data;
     size_t data_len;
     uint32_t mode;
+    uint32_t width;    /* of records */
     uint32_t key_size; /* create */
     uint32_t slots;
     uint32_t seed;
     uint32_t from; /* walk */
     enum form form;
     size_t work_len; /* of a listed or journaled call */
-    size_t list_len;
+    size_t list_len; /* of the slice that is filled, too */
     size_t journal_len;
     uint8_t mark; /* of the journal, before the call */
     int again;    /* with the slices as the last call left them */
@@ -58,6 +59,7 @@ struct answer {
     uint32_t second;
     uint32_t read;  /* slots, of a counted call */
     uint32_t pairs; /* of a listed call */
+    uint32_t bytes; /* of the records read */
 };
 
 /* ---- the state of a run (differential.c) ---- */
@@ -135,6 +137,7 @@ struct slice {
 extern struct slice work;
 extern struct slice listing; /* of changes */
 extern struct slice journal;
+extern struct slice filled; /* by a call that reads */
 
 extern uint8_t *data_start;
 extern size_t data_size;
@@ -195,6 +198,7 @@ struct answer run_call(void);
 
 /* A call on one side. */
 struct answer perform_plain(uint8_t *image, const struct call *c);
+struct answer perform_library(uint8_t *image, const struct call *c);
 
 void same_as_book(const char *what, uint32_t library, uint32_t book);
 void compare_book(const struct call *c, const struct answer *a);
@@ -210,7 +214,8 @@ uint8_t *lend_key(size_t size);
 /* Gives the call a key; answers which name it is, or NAMES for another. */
 uint32_t choose_key(void);
 
-/* Data from the pool, or ending at the wall. */
+/* The call's data: so many bytes from the pool, or ending at the wall. */
+void lend_data(size_t size);
 void choose_data(uint32_t name);
 
 uint32_t choose_mode(void);
@@ -326,6 +331,19 @@ void lend_listed(void);
 /* After the call: the list by its definition. Copies the listed stretches into
  * the image before. */
 void compare_listed(const struct call *c, const struct answer *a);
+
+/* ---- readings by column (columns.c) ---- */
+
+/* Storing or reading; often what was stored is read at once. */
+void step_columns(void);
+
+/* Lends list.now a slice for records, as long as it may be or not. */
+void lend_filled(void);
+
+/* After an accepted storing, and after a reading. */
+void compare_stored(const struct call *c);
+void compare_filled(const struct call *c, const struct answer *a);
+void store_again(const struct call *c, const struct answer *a);
 
 /* ---- journal and recovery (journal.c) ---- */
 

@@ -10,7 +10,7 @@
 
 const char *const kind_name[KINDS] = {
     "create", "add", "delete", "compact", "lookup", "count", "walk", "check",
-    "recover",
+    "store", "read", "recover",
 };
 
 static void print_key(const struct call *c)
@@ -25,8 +25,13 @@ static void print_call(const struct call *c)
     printf("%s: image of %zu bytes", kind_name[c->kind], c->image_len);
     if (c->kind == CREATE)
         printf(", K %u, N %u, seed %u", c->key_size, c->slots, c->seed);
-    if (c->kind == ADD || c->kind == DELETE || c->kind == LOOKUP)
+    if (c->kind == ADD || c->kind == DELETE || c->kind == LOOKUP ||
+        c->kind == STORE || c->kind == READ)
         print_key(c);
+    if (c->kind == STORE)
+        printf(", records of %zu bytes, width %u", c->data_len, c->width);
+    if (c->kind == READ)
+        printf(", slice of %zu bytes", c->list_len);
     if (c->kind == ADD)
         printf(", data of %zu bytes, mode %u", c->data_len, c->mode);
     if (c->kind == WALK)

@@ -52,6 +52,7 @@ void step_wrong_length(void)
     choose_key();
     choose_data(NAMES);
     list.now.mode = choose_mode();
+    list.now.width = below(66);
     list.now.key_size = one_in(2) ? list.key_size : 33 * below(2);
     list.now.slots = one_in(2) ? list.slots : SLOTS_MAX + 1;
     list.now.image_len = wrong_image_length();
@@ -64,6 +65,7 @@ void step_longest(void)
     choose_key();
     choose_data(NAMES);
     list.now.mode = choose_mode();
+    list.now.width = below(66);
     list.now.image_len = GIB;
     run_call();
 }
@@ -138,6 +140,8 @@ void step(const uint8_t *weights)
 
     if (!run.old_calls && one_in(32))
         step_recover();
+    else if (!run.old_calls && one_in(10))
+        step_columns();
     else if (style < weights[ADD])
         step_add();
     else if (style < weights[DELETE])

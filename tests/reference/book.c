@@ -31,6 +31,7 @@ void book_close(struct book *b)
     for (uint32_t i = 0; i < b->count; i++)
         free(b->entries[i].text);
     free(b->entries);
+    free(b->scratch);
     memset(b, 0, sizeof *b);
 }
 
@@ -229,6 +230,62 @@ uint32_t book_lookup(const struct book *b, const uint8_t *key,
 uint32_t book_count(const struct book *b)
 {
     return b->count;
+}
+
+/* ---- readings by column ---- */
+
+/* Question 19, but for the lent slice. */
+static int has_columns(uint32_t width, size_t size)
+{
+    return 1 <= width && width <= 64 && size % width == 0;
+}
+
+/* Column after column; what is too long for a message is not made. */
+uint32_t book_store_columns(struct book *b, const uint8_t *key, size_t key_len,
+                            const uint8_t *records, size_t records_len,
+                            uint32_t width)
+{
+    size_t count;
+
+    if (!name_fits(b, key, key_len))
+        return 7;
+    if (!has_columns(width, records_len))
+        return 19;
+    if (records_len > LONGEST)
+        return book_add(b, key, key_len, NULL, records_len, 2);
+    count = records_len / width;
+    b->scratch = must(realloc(b->scratch, 1 + records_len));
+    b->scratch[0] = (uint8_t)width;
+    for (size_t k = 0; k < records_len; k++)
+        b->scratch[1 + k] = records[k % count * width + k / count];
+    return book_add(b, key, key_len, b->scratch, 1 + records_len, 2);
+}
+
+uint32_t book_read_columns(struct book *b, const uint8_t *key, size_t key_len,
+                           size_t room, const uint8_t **records,
+                           uint32_t *bytes)
+{
+    const struct entry *e;
+    uint32_t answer = book_lookup(b, key, key_len, &e);
+    uint32_t width, size, count;
+
+    *records = NULL;
+    *bytes = 0;
+    if (answer != 0)
+        return answer;
+    if (e->length == 0)
+        return 19;
+    width = e->text[0];
+    size = e->length - 1;
+    if (!has_columns(width, size) || size > room)
+        return 19;
+    count = size / width;
+    b->scratch = must(realloc(b->scratch, 1 + (size_t)size));
+    for (uint32_t k = 0; k < size; k++)
+        b->scratch[k] = e->text[1 + k % width * count + k / width];
+    *records = b->scratch;
+    *bytes = size;
+    return 0;
 }
 
 /* Held becomes the text's length, only a text that is not none has an offset,

@@ -23,6 +23,7 @@ struct book {
     struct entry *entries;
     uint32_t count;
     uint32_t capacity;
+    uint8_t *scratch; /* columns or records of the last call */
 };
 
 /* An empty book for an image of the given length; slots 0 means 5507. */
@@ -43,6 +44,17 @@ uint32_t book_delete(struct book *b, const uint8_t *key, size_t key_len);
 uint32_t book_lookup(const struct book *b, const uint8_t *key,
                      size_t key_len, const struct entry **entry);
 uint32_t book_count(const struct book *b);
+
+/* Readings by column: what mode 2 does with the stored bytes, and 19. */
+uint32_t book_store_columns(struct book *b, const uint8_t *key, size_t key_len,
+                            const uint8_t *records, size_t records_len,
+                            uint32_t width);
+
+/* The records, by the entry's text: they are the book's until its next call;
+ * none when refused. 19 also if they do not fit room bytes. */
+uint32_t book_read_columns(struct book *b, const uint8_t *key, size_t key_len,
+                           size_t room, const uint8_t **records,
+                           uint32_t *bytes);
 
 /* The step of compaction. */
 void book_compact(struct book *b);

@@ -20,6 +20,7 @@
 #define PAIR 8u /* a stretch's offset and length */
 #define PAIR_COUNT 4u /* bytes of it, at a journal's start */
 #define MARK 0xA5u
+#define WIDTH_MAX 64u /* bytes of a record */
 #define SCRAMBLE 512u
 #define TABLE 2048u
 #define FIRST_CHARACTER 32u
@@ -873,6 +874,90 @@ uint32_t plain_compact(uint8_t *image, size_t image_len)
         put32(image + AT_NEXT, end);
         put32(image + AT_LAST_PAGE, last_page(v.data, end));
     }
+    return ACCEPTED;
+}
+
+/* ---- readings by column ---- */
+
+/* Question 19 of a width and so many record bytes. */
+static int columns_fit(uint32_t width, size_t size)
+{
+    return width >= 1 && width <= WIDTH_MAX && size % width == 0;
+}
+
+/* Byte c of record i stands in column c, in place i. */
+static size_t column_place(size_t c, size_t i, size_t records)
+{
+    return 1 + c * records + i;
+}
+
+/* The stored form; its first byte is the width. */
+static void to_columns(uint8_t *stored, const uint8_t *records, size_t size,
+                       uint32_t width)
+{
+    size_t count = size / width;
+
+    stored[0] = (uint8_t)width;
+    for (size_t i = 0; i < count; i++)
+        for (size_t c = 0; c < width; c++)
+            stored[column_place(c, i, count)] = records[i * width + c];
+}
+
+static void to_records(uint8_t *records, const uint8_t *stored, size_t size,
+                       uint32_t width)
+{
+    size_t count = size / width;
+
+    for (size_t i = 0; i < count; i++)
+        for (size_t c = 0; c < width; c++)
+            records[i * width + c] = stored[column_place(c, i, count)];
+}
+
+/* What is too long to be placed is refused before a byte of it is read. */
+uint32_t plain_store_columns(uint8_t *image, size_t image_len,
+                             const uint8_t *key, size_t key_len,
+                             const uint8_t *records, size_t records_len,
+                             uint32_t width)
+{
+    struct view v;
+    uint8_t *stored = NULL;
+    uint32_t answer = open_image(&v, image, image_len);
+
+    if (answer == ACCEPTED && !key_fits(&v, key, key_len))
+        answer = 7;
+    if (answer != ACCEPTED)
+        return answer;
+    if (!columns_fit(width, records_len))
+        return 19;
+    if (records_len <= MESSAGE_MAX) {
+        stored = malloc(1 + records_len);
+        if (stored == NULL)
+            abort();
+        to_columns(stored, records, records_len, width);
+    }
+    answer = plain_add(image, image_len, key, key_len, stored,
+                       1 + records_len, MODE_REPLACE);
+    free(stored);
+    return answer;
+}
+
+uint32_t plain_read_columns(const uint8_t *image, size_t image_len,
+                            const uint8_t *key, size_t key_len, uint8_t *out,
+                            size_t out_len, uint32_t *bytes)
+{
+    uint32_t offset, length, width, size;
+    uint32_t answer = plain_lookup(image, image_len, key, key_len, &offset,
+                                   &length);
+
+    *bytes = 0;
+    if (answer != ACCEPTED)
+        return answer;
+    width = length == 0 ? 0 : image[offset];
+    size = length == 0 ? 0 : length - 1;
+    if (!columns_fit(width, size) || out_len < size)
+        return 19;
+    to_records(out, image + offset, size, width);
+    *bytes = size;
     return ACCEPTED;
 }
 

@@ -51,6 +51,21 @@ uint32_t plain_check(const uint8_t *image, size_t image_len,
  * image is not sound. */
 uint32_t plain_compact(uint8_t *image, size_t image_len);
 
+/* Readings by column: stores, as mode 2 does, one byte W, then the first byte
+ * of every record, then the second bytes, and so on. 19, after 7, for a W that
+ * is not from 1 to 64 or record bytes that are not a multiple of it. */
+uint32_t plain_store_columns(uint8_t *image, size_t image_len,
+                             const uint8_t *key, size_t key_len,
+                             const uint8_t *records, size_t records_len,
+                             uint32_t width);
+
+/* The records again, and how many bytes they have; 0 when refused. W is the
+ * message's first byte, 0 if there is none. 19, after 11, also for a slice
+ * that is too short. */
+uint32_t plain_read_columns(const uint8_t *image, size_t image_len,
+                            const uint8_t *key, size_t key_len, uint8_t *out,
+                            size_t out_len, uint32_t *bytes);
+
 /* The same calls, which also list what they changed: pairs of offset and
  * length, one for each run of bytes whose value changed, or the pair 0, L if
  * these do not fit; how many pairs, 0 when refused. 16 for a list below 8

@@ -43,6 +43,15 @@ uint32_t tuned_check(const uint8_t *image, size_t image_len,
 
 uint32_t tuned_compact(uint8_t *image, size_t image_len);
 
+/* Readings by column. */
+uint32_t tuned_store_columns(uint8_t *image, size_t image_len,
+                             const uint8_t *key, size_t key_len,
+                             const uint8_t *records, size_t records_len,
+                             uint32_t width);
+uint32_t tuned_read_columns(const uint8_t *image, size_t image_len,
+                            const uint8_t *key, size_t key_len, uint8_t *out,
+                            size_t out_len, uint32_t *bytes);
+
 /* The same calls, which also list what they changed. */
 uint32_t tuned_add_listed(uint8_t *image, size_t image_len,
                           const uint8_t *key, size_t key_len,

@@ -29,7 +29,7 @@ ghost use Rattle.message_write.specs.Fits.{Fits};
 ghost use Rattle.table_search.specs.Probes.{probeOf, Within};
 
 // The entry is put into the slot, and C grows by 1.
-fn enter(image: &mut [u8], shape: Shape, slot: Slot, key: &[u8], o: Offset)
+pub fn enter(image: &mut [u8], shape: Shape, slot: Slot, key: &[u8], o: Offset)
     requires { ⌜ Open (now image) shape × (slot .0 < shape .slots)
         × (length (now key) ≡ shape .keylen) × (o .0 < 2 ^ 32) ⌝ }
     ensures { λ _. ⌜ now (image .exit)

@@ -21,6 +21,7 @@ pub mod Place  -- a message placed in new space
 pub mod Present  -- add of a point that is present
 pub mod Absent  -- add of a point that is absent
 pub mod Add  -- add
+pub mod Recorded  -- records stored and read by column
 pub mod Fresh  -- create
 -- ---- lists of calls
 pub mod Checked  -- the check of a file with the invariant
@@ -35,3 +36,5 @@ pub mod Steps  -- what a call does to the book
 pub mod Numbers  -- which numbers a step of the book may answer
 pub mod Users  -- corollaries in the words of a user
 pub mod Area  -- the bytes below X that a call leaves as they were, of any image
+pub mod Shown  -- what lookup shows after an add in mode 2, of any image
+pub mod Records  -- reading after storing records, of any image

@@ -17,8 +17,11 @@ use Rattle.spec_file.specs.Questions.{Question, ask, firstNo, nameAllowed, name
 use Rattle.spec_file.specs.Calls.{Outcome, plain}
 use Rattle.spec_file.specs.Lists.{Call, adding, deleting, looking, counting}
 use Rattle.spec_changes.specs.Changes.{listAllowed, workAllowed}
-use Rattle.spec_book.specs.Steps.{Change, adds, deletes, compacts, Step, calling, compacting, listing, journaling}
-use Rattle.spec_book.specs.Book.{Entry, Book, find, stepOf, roomAsks, addAbsent, replace, append, addPresent, addFound, guarded, bookAdd, deleteFound, bookDelete, lookupFound, bookLookup, bookCount, bookCompact, bookCall}
+use Rattle.spec_columns.specs.Columns.{columns}
+use Rattle.spec_records.specs.Records.{readable}
+use Rattle.law_records.proofs.Numbers.{records-number}
+use Rattle.spec_book.specs.Steps.{Change, adds, deletes, compacts, Step, calling, compacting, listing, journaling, storing, reading}
+use Rattle.spec_book.specs.Book.{Entry, Book, find, stepOf, roomAsks, addAbsent, replace, append, addPresent, addFound, guarded, bookAdd, deleteFound, bookDelete, lookupFound, bookLookup, bookStore, readFound, bookRead, bookCount, bookCompact, bookCall}
 use Rattle.spec_book.specs.Told.{bookChanged, imageLength, toldNumber, bookStep}
 use Rattle.law_file.proofs.Tests.{by-bool}
 use Rattle.law_file.proofs.Opened.{firstNo-none, firstNo-yes, firstNo-no}
@@ -161,16 +164,38 @@ module _ (P : ℕ → Type 0) where
       change-of (deletes name) = delete-of name
       change-of compacts = compact-of
 
+      -- 19, of storing and of reading
+      store-of : P 19 → (name recs : Bytes) (W : ℕ) → P (bookStore b name recs W .answer .number)
+      unfolding bookStore
+      store-of p₁₉ name recs W =
+          guarded-number b _ _
+          (either 7 _ _ (few 7 (omega arith)) (either 19 _ [] p₁₉ (none-asked (few 0 (omega arith)))))
+          (found-number b name (columns W recs) 2 few absent (room (length (columns W recs))) (λ e f n₁ n₂. room _)
+          (find name (b .entries)) refl)
+
+      fetched-number : P 19 → (size : ℕ) (f : Option Entry) → P (readFound b size f .answer .number)
+      unfolding readFound
+      fetched-number p₁₉ size none = fourteen
+      fetched-number p₁₉ size (some e) =
+          rw (records-number (firstNo (ask 19 (readable (bytesOf (e .text)) size) ∷ [])) (bytesOf (e .text)))
+          (either 19 (readable (bytesOf (e .text)) size) [] p₁₉ (none-asked (few 0 (omega arith))))
+
+      read-of : P 19 → (name : Bytes) (size : ℕ) → P (bookRead b name size .answer .number)
+      unfolding bookRead
+      read-of p₁₉ name size = seven name _ (fetched-number p₁₉ size (find name (b .entries)))
+
       -- of any step
-      pub step-of : P 16 → P 17 → (t : Bool) (c : Step) → P (bookStep t c b .answer .number)
+      pub step-of : P 16 → P 17 → P 19 → (t : Bool) (c : Step) → P (bookStep t c b .answer .number)
       unfolding bookStep
-      step-of p₁₆ p₁₇ t (calling c) = call-of c
-      step-of p₁₆ p₁₇ t compacting = compact-of
-      step-of p₁₆ p₁₇ t (listing c work list) =
+      step-of p₁₆ p₁₇ p₁₉ t (calling c) = call-of c
+      step-of p₁₆ p₁₇ p₁₉ t compacting = compact-of
+      step-of p₁₆ p₁₇ p₁₉ t (listing c work list) =
           sixteen p₁₆ (listAllowed (length list) && workAllowed (imageLength (b .terms)) work) (bookChanged c b)
           (change-of c)
-      step-of p₁₆ p₁₇ t (journaling c work j) =
+      step-of p₁₆ p₁₇ p₁₉ t (journaling c work j) =
           told-of p₁₇ t _ (sixteen p₁₆ (workAllowed (imageLength (b .terms)) work) (bookChanged c b) (change-of c))
+      step-of p₁₆ p₁₇ p₁₉ t (storing name recs W) = store-of p₁₉ name recs W
+      step-of p₁₆ p₁₇ p₁₉ t (reading name size) = read-of p₁₉ name size
 
 -- ---- 13
 

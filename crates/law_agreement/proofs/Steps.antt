@@ -21,8 +21,9 @@ use Rattle.spec_file.specs.Messages.{bytesOf}
 use Rattle.spec_file.specs.Questions.{Question, ask, firstNo, nameAllowed}
 use Rattle.spec_file.specs.Calls.{Outcome, plain}
 use Rattle.spec_file.specs.Lists.{adding, deleting, looking, counting}
-use Rattle.spec_book.specs.Steps.{Change, adds, deletes, compacts, Step, calling, compacting, listing, journaling}
-use Rattle.spec_book.specs.Book.{Entry, Book, find, withEntry, stepOf, guarded, entered, noting, bare, placed, addAbsent, replace, append, withdrawn, addPresent, addFound, bookAdd, deleteFound, bookDelete, lookupFound, bookLookup, bookCount, trimmed, compactedBook, bookCompact, bookCall}
+use Rattle.spec_columns.specs.Columns.{columns}
+use Rattle.spec_book.specs.Steps.{Change, adds, deletes, compacts, Step, calling, compacting, listing, journaling, storing, reading}
+use Rattle.spec_book.specs.Book.{Entry, Book, find, withEntry, stepOf, guarded, entered, noting, bare, placed, addAbsent, replace, append, withdrawn, addPresent, addFound, bookAdd, deleteFound, bookDelete, lookupFound, bookLookup, bookStore, readFound, bookRead, bookCount, trimmed, compactedBook, bookCompact, bookCall}
 use Rattle.spec_book.specs.Told.{bookChanged, toldNumber, bookStep}
 use Rattle.spec_book.specs.Demand.{bookText, textOf}
 use Rattle.law_file.proofs.Tests.{by-bool, by-eq}
@@ -230,6 +231,18 @@ module _ (b : Book) (name : Bytes) where
       (λ h. rw h (lookup-found (find name (b .entries))))
       (λ h. rw h refl)
 
+  read-found : (room : ℕ) (f : Option Entry) → readFound b room f .after ≡ b
+  unfolding readFound stepOf
+  read-found room none = rw (firstNo-no 14 false [] refl) refl
+  read-found room (some e) = refl
+
+  pub book-read : (room : ℕ) → bookRead b name room .after ≡ b
+  unfolding bookRead guarded stepOf
+  book-read room =
+      by-bool (eqb (firstNo (ask 7 (nameAllowed (b .terms .K) name) ∷ [])) 0)
+      (λ h. rw h (read-found room (find name (b .entries))))
+      (λ h. rw h refl)
+
 -- ---- any step, by its effect on the book
 
 pub plainStep : Change → Step
@@ -237,12 +250,14 @@ plainStep (adds name bytes mode) = calling (adding name bytes mode)
 plainStep (deletes name) = calling (deleting name)
 plainStep compacts = compacting
 
--- the plain call of a step in a form
+-- the plain call of a step in a form; storing is an add of what is stored, reading a lookup
 unfoldable pub asPlain : Step → Step
 asPlain (calling c) = calling c
 asPlain compacting = compacting
 asPlain (listing c work list) = plainStep c
 asPlain (journaling c work j) = plainStep c
+asPlain (storing name recs W) = calling (adding name (columns W recs) 2)
+asPlain (reading name room) = calling (looking name)
 
 -- nothing, or a text is put under the name that it adds, or the entry of the name that it deletes goes, or all entries
 -- are trimmed
@@ -299,6 +314,12 @@ step-effect t (calling counting) b = nothing refl
 step-effect t compacting b = trims refl refl
 step-effect t (listing c work list) b = guarded-effect _ _ (change-effect c refl)
 step-effect t (journaling c work j) b = told-effect t _ (guarded-effect _ _ (change-effect c refl))
+step-effect t (storing name recs W) b =
+    unfold bookStore in
+    guarded-effect _ _
+    (by-put (add-found b name (columns W recs) 2 (find name (b .entries)) refl)
+    (λ e. nothing e) (λ text w. enters name (columns W recs) 2 text refl w))
+step-effect t (reading name room) b = nothing (book-read b name room)
 
 -- the step does not delete, or does not add, a point of that name
 abbrev pub NotDeleting : Bytes → Step → Type 0

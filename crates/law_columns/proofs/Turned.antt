@@ -1,8 +1,9 @@
 -- Columns and records byte by byte, and each after the other: "reading after storing gives the records, and
 -- rearranging what was read gives the stored bytes".
 --     whole-width, whole-count, whole-stored, whole-read     what the test of 19 says; nothing-stored
---     length-columns, width-columns, byte-columns      what is stored: its length, its first byte, the others
---     length-records, byte-records                     the same of what is read
+--     length-columns, width-columns, byte-columns      what is stored: its length, its first byte, the others;
+--                                                      length-stored, of whole records
+--     length-records, byte-records                     the same of what is read; length-read, of whole columns
 --     columns-only, records-only      nothing else has these bytes
 --     records-columns, columns-records      each after the other, for every W from 1 on
 --     read-stored, stored-read        the same of what passes the test, which then passes it too
@@ -102,6 +103,12 @@ module _ (W n : ℕ) (recs : Bytes) (pos : 0 < W) (l : length recs ≡ n * W) wh
       ∙ byte-rows W n (column W n recs) length-column j r h′ h
       ∙ byte-tabulate n (λ r. getD recs (r * W + j) 0) r h)
 
+-- of whole records: one byte more than they have
+pub length-stored : (W : ℕ) (recs : Bytes) → wholeRecords W (length recs) ≡ true
+    → length (columns W recs) ≡ 1 + length recs
+length-stored W recs h =
+    length-columns W (length recs / W) recs (whole-width W (length recs) h .0) (whole-count W (length recs) h)
+
 -- ---- what is read of n records
 
 module _ (W n : ℕ) (stored : Bytes) (first : widthOf stored ≡ W) (pos : 0 < W) (l : length stored ≡ 1 + n * W) where
@@ -124,6 +131,15 @@ module _ (W n : ℕ) (stored : Bytes) (first : widthOf stored ≡ W) (pos : 0 < 
       ap (λ (s : Bytes). getD s (r * W + j) 0) rows
       ∙ byte-rows n W (recordAt W n stored) length-recordAt r j h h′
       ∙ byte-tabulate W (λ j. getD stored (1 + j * n + r) 0) j h′
+
+-- the records of whole columns are as long as what stands behind the width
+pub length-read : (stored : Bytes) → wholeColumns stored ≡ true → length stored ≡ 1 + length (records stored)
+unfolding wholeColumns
+length-read stored h =
+    let W : ℕ = widthOf stored in
+    let n : ℕ = (length stored - 1) / W in
+    let l : length stored ≡ 1 + n * W = whole-stored stored h in
+    omega (arith, length-records W n stored refl (whole-width W (length stored - 1) h .0) l)
 
 -- ---- records and stored bytes that agree on every place are each other's
 

@@ -13,6 +13,8 @@ use Rattle.spec_file.specs.Messages.{bytesOf, isText}
 use Rattle.spec_file.specs.Questions.{Question, ask, firstNo, nameAllowed, named}
 use Rattle.spec_file.specs.Calls.{Outcome, plain}
 use Rattle.spec_file.specs.Lists.{Call, adding, deleting, looking, counting}
+use Rattle.spec_columns.specs.Columns.{wholeRecords, columns}
+use Rattle.spec_records.specs.Records.{readable, recordsAnswer}
 
 -- "entries (name, text, held)"; 02: "The book's text is none or a list that may be empty, and an entry notes whether it
 -- has an offset"
@@ -143,6 +145,23 @@ lookupFound b (some e) =
 
 unfoldable pub bookLookup : Book → Bytes → Outcome Book
 bookLookup b name = guarded b (ask 7 (nameAllowed (b .terms .K) name) ∷ []) (lookupFound b (find name (b .entries)))
+
+-- Document 02, Job 10: "The book compares stored bytes and puts 19 as the file does, on reading by its text." Storing
+-- is its add, in mode 2, of what is stored.
+unfoldable pub bookStore : Book → Bytes → Bytes → ℕ → Outcome Book
+bookStore b name recs W =
+    guarded b (ask 7 (nameAllowed (b .terms .K) name) ∷ ask 19 (wholeRecords W (length recs)) ∷ [])
+    (addFound b name (columns W recs) 2 (find name (b .entries)))
+
+unfoldable pub readFound : Book → ℕ → Option Entry → Outcome Book
+readFound b room none = stepOf b (ask 14 false ∷ []) b
+readFound b room (some e) =
+    let stored : Bytes = bytesOf (e .text) in
+    record { after = b; answer = recordsAnswer (firstNo (ask 19 (readable stored room) ∷ [])) stored }
+
+unfoldable pub bookRead : Book → Bytes → ℕ → Outcome Book
+bookRead b name room =
+    guarded b (ask 7 (nameAllowed (b .terms .K) name) ∷ []) (readFound b room (find name (b .entries)))
 
 -- "Count: the number of entries."
 unfoldable pub bookCount : Book → Outcome Book

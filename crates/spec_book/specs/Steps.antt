@@ -11,6 +11,7 @@ use Rattle.spec_file.specs.Lists.{Call, call}
 use Rattle.spec_compaction.specs.Compact.{compact}
 use Rattle.spec_changes.specs.Changes.{Listed, listed}
 use Rattle.spec_changes.specs.Journal.{Journaled, journaled}
+use Rattle.spec_records.specs.Records.{storeRecords, readRecords}
 
 -- Job 8: "Add, delete and compaction get a form"; Job 9: "a form of those calls"
 pub data Change : Type 0 where
@@ -25,12 +26,15 @@ changed compacts img = compact img
 
 -- Document 01's calls. Job 2, of compaction: "Lists of calls may now contain it". Job 8: "with a working slice that
 -- also fills a lent list": the working slice's length, for its bytes do not matter, and the list. Job 9: "with Job 8's
--- working slice but no list", and a journal.
+-- working slice but no list", and a journal. Job 10: records and their width; the length of the slice that is lent for
+-- them, for its bytes do not matter.
 pub data Step : Type 0 where
   calling : Call → Step
   compacting : Step
   listing : Change → ℕ → Bytes → Step
   journaling : Change → ℕ → Bytes → Step
+  storing : Bytes → Bytes → ℕ → Step
+  reading : Bytes → ℕ → Step
 
 -- ---- one image
 
@@ -45,6 +49,8 @@ performOn (calling c) img = call c img
 performOn compacting img = compact img
 performOn (listing c work list) img = listedOutcome (listed (changed c) img work list)
 performOn (journaling c work j) img = journaledOutcome (journaled (changed c) img work j)
+performOn (storing key recs W) img = storeRecords img key recs W
+performOn (reading key room) img = readRecords img key room
 
 -- ---- the state
 

@@ -17,6 +17,7 @@ use Rattle.spec_book.proofs.CasesBook.{booked, Books, Find, fileTexts, bookText
 use Rattle.spec_book.proofs.CasesReopened.{othersBook}
 use Rattle.spec_book.specs.Steps.{changed, listedOutcome, journaledOutcome, performOn}
 use Rattle.spec_book.proofs.CasesForms.{form-definitions, formsCalls, formsAnswers, journalCalls, journalAnswers}
+use Rattle.spec_book.proofs.CasesRecorded.{recorded-definitions, recordsCalls, recordsAnswers}
 use Rattle.spec_compaction.proofs.CasesCompact.{compact-definitions}
 use Rattle.spec_changes.proofs.CasesChanges.{changes, journals}
 
@@ -160,3 +161,10 @@ forms-file = refl
 pub journaled-file : answers performOn journalCalls (headed 1 4 8192) ≡ journalAnswers
 unfolding compact-definitions form-definitions journals changed journaledOutcome performOn headed
 journaled-file = refl
+
+-- ---- records by column
+
+-- the file's answers to the book's list, in a file of one slot
+pub records-file : answers performOn recordsCalls (headed 1 1 8192) ≡ recordsAnswers
+unfolding recorded-definitions compact-definitions headed
+records-file = refl

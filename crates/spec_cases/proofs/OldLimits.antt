@@ -9,24 +9,26 @@ use mathlib.Core.Path.{_≡_, refl, sym, ap, ap₂, _∙_}
 use Prim.Native.Nat.{ℕ, _+_, _%_, _≤_}
 use native.Mathlib.Omega.{arith}
 use mathlib.Core.Bool.{Bool, cond, _&&_}
-use mathlib.Core.List.{List, [], _∷_}
+use mathlib.Core.List.{List, [], _∷_, _++_}
 use mathlib.Core.Option.{none, some}
 use lib.ListN.{length}
 use lib.Dec.{leb, eqb}
 use borrow.Author.Tests.{le-leb}
 use Rattle.spec_file.specs.Bytes.{Bytes, part}
 use Rattle.spec_file.specs.Limits.{pageSize, mostImage, mostSlots, mostCharacter, keyField, slotsField, pointsField, firstField, lastField, scrambleField, tableField, dataField, freeField, scrambleStart, tableStart}
-use Rattle.spec_file.specs.Image.{field, dataStart, layoutOf, slot, offsetOf}
+use Rattle.spec_file.specs.Image.{field, dataStart, Layout, layoutOf, slot, offsetOf}
 use Rattle.spec_file.specs.Create.{slotsAsked, freshImage}
 use Rattle.spec_file.specs.Search.{search, slotOf}
-use Rattle.spec_file.specs.Messages.{headSize, isActive, held, added}
+use Rattle.spec_file.specs.Messages.{headSize, isActive, bytesOf, held, added}
 use Rattle.spec_file.specs.Delete.{deleted}
 use Rattle.spec_file.specs.Questions.{Question, ask, firstNo, sizeAllowed, keyAllowed, slotsAllowed, tableFits, versionKnown, headerSound, createAsks, opened, addAsks, deleteAsks, lookupAsks, createNumber, openNumber, addNumber, deleteNumber, lookupNumber}
 use Rattle.spec_file.specs.Calls.{Outcome, plain, settled, create, add, delete, lookupOffset, lookupStart, lookupLength, lookupText, lookup, countOf, count}
 use Rattle.spec_file.specs.Lists.{Call, adding, deleting, looking, counting, call}
 use Rattle.spec_changes.specs.Changes.{listed}
 use Rattle.spec_changes.specs.Journal.{journaledNumber, journaled}
-use Rattle.spec_book.specs.Steps.{Change, adds, deletes, compacts, changed, Step, calling, compacting, listing, journaling, listedOutcome, journaledOutcome, performOn}
+use Rattle.spec_columns.specs.Columns.{columns}
+use Rattle.spec_records.specs.Records.{storeAsks, storeNumber, storeRecords, storedBytes, readable, readAsks, readNumber, recordsAnswer, readRecords}
+use Rattle.spec_book.specs.Steps.{Change, adds, deletes, compacts, changed, Step, calling, compacting, listing, journaling, storing, reading, listedOutcome, journaledOutcome, performOn}
 use Rattle.spec_compaction.specs.Compact.{compacted, isSound, compactNumber, compact}
 use Rattle.spec_file.specs.Inspect.{Stop, stopAt, nextTaken, keyWalk, Verdict, tableVerdict, check}
 
@@ -161,11 +163,33 @@ oldChanged (adds key data′ mode) img = oldCall (adding key data′ mode) img
 oldChanged (deletes key) img = oldCall (deleting key) img
 oldChanged compacts img = oldCompact img
 
+storeBy : Bytes → Bytes → Bytes → ℕ → ℕ → Outcome Bytes
+storeBy img key recs W n =
+    record { after = settled n img (added (layoutOf img) img key (columns W recs) 2); answer = plain n }
+
+-- by what lookup shows
+readBy : Bytes → ℕ → Bytes → Outcome Bytes
+readBy img n stored = record { after = img; answer = recordsAnswer n stored }
+
+pub oldStore : Bytes → Bytes → Bytes → ℕ → Outcome Bytes
+oldStore img key recs W =
+    storeBy img key recs W
+    (firstNo (oldOpened img (storeAsks (layoutOf img) img (search (layoutOf img) img key) key recs W)))
+
+pub oldRead : Bytes → Bytes → ℕ → Outcome Bytes
+oldRead img key room =
+    let stored : Bytes = bytesOf (oldCall (looking key) img .answer .text) in
+    let g : Layout = layoutOf img in
+    readBy img
+    (firstNo (oldOpened img (lookupAsks g img (search g img key) key ++ (ask 19 (readable stored room) ∷ [])))) stored
+
 pub oldPerform : Step → Bytes → Outcome Bytes
 oldPerform (calling c) img = oldCall c img
 oldPerform compacting img = oldCompact img
 oldPerform (listing c work list) img = listedOutcome (listed (oldChanged c) img work list)
 oldPerform (journaling c work j) img = journaledOutcome (journaled (oldChanged c) img work j)
+oldPerform (storing key recs W) img = oldStore img key recs W
+oldPerform (reading key room) img = oldRead img key room
 
 -- questions 1 to 4, by the answers to 1 and 3
 createAsksBy : ℕ → ℕ → ℕ → Bool → Bool → List Question
@@ -212,6 +236,22 @@ compact-as-before img w =
     (opened-as-before img _ w
     ∙ ap (λ (v : Verdict). oldOpened img (ask 15 (isSound v) ∷ [])) (check-as-before img w))
 
+store-as-before : (img key recs : Bytes) (W : ℕ) → Within img → storeRecords img key recs W ≡ oldStore img key recs W
+unfolding storeRecords oldStore storeNumber storeBy
+store-as-before img key recs W w =
+    ap (λ (qs : List Question). storeBy img key recs W (firstNo qs)) (opened-as-before img _ w)
+
+read-as-before : (img key : Bytes) (room : ℕ) → Within img → readRecords img key room ≡ oldRead img key room
+unfolding readRecords oldRead readNumber readAsks storedBytes readBy lookup
+read-as-before img key room w =
+    let g : Layout = layoutOf img in
+    let by : Bytes → List Question =
+    λ t. lookupAsks g img (search g img key) key ++ (ask 19 (readable t room) ∷ []) in
+    let same′ : storedBytes img key ≡ bytesOf (oldCall (looking key) img .answer .text) =
+    ap (λ (o : Outcome Bytes). bytesOf (o .answer .text)) (lookup-as-before img key w) in
+    ap (λ (qs : List Question). readBy img (firstNo qs) (storedBytes img key)) (opened-as-before img _ w)
+    ∙ ap (λ (t : Bytes). readBy img (firstNo (oldOpened img (by t))) t) same′
+
 call-as-before : (c : Call) (img : Bytes) → Within img → call c img ≡ oldCall c img
 unfolding call
 call-as-before (adding key data′ mode) img w = add-as-before img key data′ mode w
@@ -244,6 +284,8 @@ perform-as-before (listing c work list) img w =
     ap listedOutcome (listed-by (changed c) (oldChanged c) img work list (changed-as-before c img w))
 perform-as-before (journaling c work j) img w =
     ap journaledOutcome (journaled-by (changed c) (oldChanged c) img work j (changed-as-before c img w))
+perform-as-before (storing key recs W) img w = store-as-before img key recs W w
+perform-as-before (reading key room) img w = read-as-before img key room w
 
 pub create-as-before : (img : Bytes) (K N seed : ℕ) → length img ≤ oldImage → slotsAsked N ≤ oldSlots
     → create img K N seed ≡ oldCreate img K N seed

@@ -21,6 +21,7 @@ ghost use Rattle.spec_changes.specs.Journal.{Disk, recoverNumber, recovered};
 ghost use Rattle.spec_changes.specs.Lists.{Lists};
 ghost use Rattle.journal_recover.specs.Updates.{Updates};
 ghost use Rattle.spec_changes.specs.Journals.{Journals};
+ghost use Rattle.spec_records.specs.Records.{Stores, Reads};
 
 // Makes the slice an empty file: keys of `size` bytes, `slots` slots (0 for 5,507), the scramble of the seed.
 #[no_mangle]
@@ -293,4 +294,35 @@ pub extern "C" fn bhtf_recover(image: &mut [u8], journal: &mut [u8]) -> u32
         (now (image .exit)) (now (journal .exit)) ⌝ }
 {
     journal_recover::recover(image, journal)
+}
+
+// Stores under the key, as `bhtf_add` replaces, the width and the columns of records of so many bytes.
+#[no_mangle]
+pub extern "C" fn bhtf_store_columns(
+    image: &mut [u8],
+    key: &[u8],
+    records: &[u8],
+    width: u32,
+) -> u32
+    ensures { λ r. ⌜ Stores (now (image .entry)) (now (key .entry)) (now (records .entry)) width
+        (now (image .exit)) r ⌝ }
+{
+    columns_store::store_records(image, key, records, width as usize)
+}
+
+// Fills the slice with the records that are stored under the key; `bytes` is how many bytes it filled, 0 when refused.
+#[no_mangle]
+pub extern "C" fn bhtf_read_columns(
+    image: &[u8],
+    key: &[u8],
+    out: &mut [u8],
+    bytes: &mut u32,
+) -> u32
+    ensures { λ r. ⌜ Reads (now (image .entry)) (now (key .entry)) (now (out .entry)) (now (out .exit))
+        r (now (bytes .exit))
+        × (now (image .exit) ≡ now (image .entry)) ⌝ }
+{
+    let fetched = columns_fetch::read_records(image, key, out);
+    *bytes = fetched.bytes as u32;
+    fetched.number
 }

@@ -1,0 +1,1 @@
+pub mod Numbers  -- the numbers, by the first no; what is answered and left then
