@@ -1,0 +1,4 @@
+-- Laws of ranges of key bytes.
+pub mod Ranges  -- keys in ranges, and question 22
+
+
