@@ -1,4 +1,4 @@
 -- Laws of ranges of key bytes.
 pub mod Ranges  -- keys in ranges, and question 22
-
-
+pub mod Chosen  -- the numbers for which a test holds, and their bytes
+pub mod Number  -- the call's number, and what it leaves
