@@ -11,7 +11,7 @@ same-length : tie.Need-same-length
 same-length c = search needs
 
 returns : tie.Need-returns
-returns c = let e = c .select .ensures in (e .0, (e .1 .0, (e .1 .1, refl)))
+returns c = let e = c .before .before .select .ensures in (e .0, (e .1 .0, (e .1 .1, refl)))
 
 pub bhtf-select-spec : {M : Type 1} → statement M
 bhtf-select-spec = tie.close (tie.spec select-requires same-length returns)
