@@ -41,7 +41,7 @@ extern "C" {
 #define BHTF_MESSAGE_MAX 16777215u  /* bytes in the longest message */
 #define BHTF_MESSAGE_HEADER 4u      /* bytes that a message takes besides */
 #define BHTF_PAIR 8u                /* bytes that a pair takes in a list */
-#define BHTF_SLOT_NUMBER 4u         /* bytes that a slot takes in select's list */
+#define BHTF_SLOT_NUMBER 4u         /* bytes that a slot takes in a list */
 #define BHTF_MARKED 0xA5u           /* the mark of a journal that is to be
                                        written to its image */
 

@@ -1,6 +1,7 @@
 -- The numbers for which a test holds, in rising order, and the bytes of a list of slot numbers.
 --     chosen-few, chosen-each, chosen-all, chosen-rising      how many, which, and in which order
---     chosen-take, chosen-pass, chosen-end      one number looked at, as a loop from i up to n has it
+--     chosen-yes, chosen-no      one number looked at; chosen-take, chosen-pass, chosen-end      as a loop from i up to n
+--                                has it
 --     numberAt list j      number j of a list of 4-byte numbers
 --     length-numbers, number-listed      of the numbers of some slots
 -- Assumes nothing.
@@ -19,11 +20,11 @@ use Rattle.spec_range.specs.Ranges.{chosenFrom, slotNumbers}
 module _ (p : ℕ → Bool) where
   -- ---- one number looked at
 
-  chosen-yes : (left i : ℕ) → p i ≡ true → chosenFrom p (suc left) i ≡ i ∷ chosenFrom p left (suc i)
+  pub chosen-yes : (left i : ℕ) → p i ≡ true → chosenFrom p (suc left) i ≡ i ∷ chosenFrom p left (suc i)
   unfolding chosenFrom
   chosen-yes left i e = rw (e, chosenFrom)
 
-  chosen-no : (left i : ℕ) → p i ≡ false → chosenFrom p (suc left) i ≡ chosenFrom p left (suc i)
+  pub chosen-no : (left i : ℕ) → p i ≡ false → chosenFrom p (suc left) i ≡ chosenFrom p left (suc i)
   unfolding chosenFrom
   chosen-no left i e = rw (e, chosenFrom)
 
