@@ -1,41 +1,40 @@
 -- Document 02, Job 13, after every list of calls: the names of the slots that are listed are the book's names in the
--- ranges, each once, and they are as many.
---     namesIn lowest highest es      the names of entries that lie in the ranges, in the book's order
---     Among name names               the name is one of them
---     NamesListed                    what a list, and the number found, say beside the book
---     reached-select                 they do, of every state that calls have reached
---     reached-asks                   the call is refused by the book's own terms alone
+-- ranges, each once, and they are as many: `NamesListed` of crates/spec_range/specs/Listed.antt.
+--     namesOf es          the names of a book's entries
+--     among-known, known-among      a name in the ranges is one of them where the book has an entry of that name
+--     reached-select      the law, of every file that calls have reached
+--     reached-asks        the call's number is what the book's terms say: 22 and 16
 -- Assumes nothing.
 use mathlib.Core.Path.{_≡_, refl, sym, ap, ap₂, _∙_, subst}
-use Prim.Native.Nat.{ℕ, zero, suc, _+_, _<_}
+use Prim.Native.Nat.{ℕ, zero, suc, _+_}
 use native.Mathlib.Omega.{arith}
-use mathlib.Core.Bool.{Bool, true, false, cond, not, _&&_}
+use mathlib.Core.Bool.{Bool, true, false, cond, _&&_}
 use mathlib.Core.List.{List, [], _∷_}
-use mathlib.Core.Logic.{_⊎_, inl, inr}
-use mathlib.Core.Option.{Option, none, some, Option·none-ne-some}
+use mathlib.Core.Logic.{inl, inr}
+use mathlib.Core.Option.{some, Option·none-ne-some}
 use lib.ListN.{length}
 use Rattle.spec_file.specs.Bytes.{Bytes}
-use Rattle.spec_file.specs.Image.{Layout, layoutOf, vacant, slot}
-use Rattle.spec_file.specs.Search.{search, met, isMet}
-use Rattle.spec_file.specs.Questions.{nameAllowed, ask, firstNo}
+use Rattle.spec_file.specs.Image.{Layout, layoutOf}
+use Rattle.spec_file.specs.Questions.{ask, firstNo, nameAllowed}
 use Rattle.spec_file.specs.Inspect.{taken}
-use Rattle.spec_range.specs.Ranges.{keyInRanges, rangesAllowed, listHolds, selectAsks, selectNumber, selects, chosenFrom, selected, select}
-use Rattle.spec_book.specs.Steps.{State, alone}
+use Rattle.spec_range.specs.Ranges.{keyInRanges, selects, chosenFrom, selected, rangesAllowed, listHolds, selectAsks, selectNumber, select}
+use Rattle.spec_range.specs.Listed.{numberAt, Wanted, Lists, namesIn, Among, NamesListed}
+use Rattle.spec_book.specs.Steps.{alone}
 use Rattle.spec_book.specs.Book.{Entry, Terms, Book, find}
 use Rattle.spec_book.specs.Reopened.{entryAt, entriesFrom, bookOf}
-use Rattle.law_file.proofs.Tests.{by-bool, by-either, not-both}
+use Rattle.law_file.proofs.Tests.{by-bool, by-either}
 use Rattle.law_file.proofs.Bytes.{by-same}
 use Rattle.law_file.proofs.Opened.{facts-opened, firstNo-opened}
 use Rattle.law_file.proofs.Probe.{search-met, search-finds, met-taken}
-use Rattle.law_file.proofs.Table.{Taken, keyAt}
+use Rattle.law_file.proofs.Table.{keyAt}
 use Rattle.law_range.proofs.Ranges.{key-lies, lies-key}
-use Rattle.law_range.proofs.Chosen.{numberAt, chosen-yes, chosen-no}
+use Rattle.law_range.proofs.Chosen.{chosen-yes, chosen-no}
 use Rattle.law_range.proofs.Number.{select-fills, select-number}
-use Rattle.law_range.proofs.Selected.{Wanted}
-use Rattle.law_range.proofs.Listed.{Lists, select-lists}
-use Rattle.law_agreement.proofs.File.{Allowed, allowed-zero, File, file-some}
+use Rattle.law_range.proofs.Selected.{wanted-taken, taken-wanted}
+use Rattle.law_range.proofs.Listed.{select-lists}
+use Rattle.law_agreement.proofs.File.{allowed-zero, file-some}
 use Rattle.law_agreement.proofs.Entries.{Distinct, find-none, find-here, find-on}
-use Rattle.law_agreement.proofs.Reflect.{Reflects, Reflected}
+use Rattle.law_agreement.proofs.Reflect.{Reflects}
 use Rattle.law_agreement.proofs.Simple.{found-met, found-none, by-met}
 use Rattle.law_agreement.proofs.Checked.{taken-allowed}
 use Rattle.law_agreement.proofs.Reopened.{from-taken, from-vacant, file-reflects}
@@ -44,37 +43,34 @@ use Rattle.law_agreement.proofs.Reached.{Reached, reached-reflects}
 
 -- ---- the book's names in the ranges
 
-unfoldable pub namesIn : Bytes → Bytes → List Entry → List Bytes
-namesIn lowest highest [] = []
-namesIn lowest highest (e ∷ es) =
-    cond (keyInRanges lowest highest (e .name)) (e .name ∷ namesIn lowest highest es) (namesIn lowest highest es)
-
-abbrev pub Among : Bytes → List Bytes → Type 0
-Among name [] = ⊥
-Among name (x ∷ names) = (x ≡ name) ⊎ Among name names
+unfoldable pub namesOf : List Entry → List Bytes
+namesOf [] = []
+namesOf (e ∷ es) = e .name ∷ namesOf es
 
 module _ (lowest highest : Bytes) where
-  -- an entry of the book, by its name
+  abbrev within : List Entry → List Bytes
+  within es = namesIn lowest highest (namesOf es)
+
   inside : (e : Entry) (es : List Entry) → keyInRanges lowest highest (e .name) ≡ true
-      → namesIn lowest highest (e ∷ es) ≡ e .name ∷ namesIn lowest highest es
-  unfolding namesIn
+      → within (e ∷ es) ≡ e .name ∷ within es
+  unfolding namesIn namesOf
   inside e es h = rw h refl
 
-  outside : (e : Entry) (es : List Entry) → keyInRanges lowest highest (e .name) ≡ false
-      → namesIn lowest highest (e ∷ es) ≡ namesIn lowest highest es
-  unfolding namesIn
+  outside : (e : Entry) (es : List Entry) → keyInRanges lowest highest (e .name) ≡ false → within (e ∷ es) ≡ within es
+  unfolding namesIn namesOf
   outside e es h = rw h refl
 
-  abbrev Known : Bytes → List Entry → Type 0
+  -- the book has an entry of that name, which lies in the ranges
+  abbrev pub Known : Bytes → List Entry → Type 0
   Known name es = (e : Entry) × (find name es ≡ some e) × (keyInRanges lowest highest name ≡ true)
 
-  among-known : (name : Bytes) (es : List Entry) → Among name (namesIn lowest highest es) → Known name es
-  among-known name [] a = absurd (unfold namesIn in a)
+  pub among-known : (name : Bytes) (es : List Entry) → Among name (within es) → Known name es
+  among-known name [] a = absurd (unfold namesIn namesOf in a)
   among-known name (e ∷ es) a =
-      let ih : Among name (namesIn lowest highest es) → Known name es = among-known name es in
+      let ih : Among name (within es) → Known name es = among-known name es in
       let here : e .name ≡ name → keyInRanges lowest highest (e .name) ≡ true → Known name (e ∷ es) =
       λ q h. (e, find-here e es name q, ap (keyInRanges lowest highest) (sym q) ∙ h) in
-      let on : Among name (namesIn lowest highest es) → Known name (e ∷ es) =
+      let on : Among name (within es) → Known name (e ∷ es) =
       λ m. let k = ih m in
       by-same (e .name) name
       (λ q. here q (ap (keyInRanges lowest highest) q ∙ k .2))
@@ -83,11 +79,11 @@ module _ (lowest highest : Bytes) where
       (λ h. by-either (subst (Among name) (inside e es h) a) (λ q. here q h) on)
       (λ h. on (subst (Among name) (outside e es h) a))
 
-  known-among : (name : Bytes) (es : List Entry) (x : Entry) → find name es ≡ some x
-      → keyInRanges lowest highest name ≡ true → Among name (namesIn lowest highest es)
+  pub known-among : (name : Bytes) (es : List Entry) (x : Entry) → find name es ≡ some x
+      → keyInRanges lowest highest name ≡ true → Among name (within es)
   known-among name [] x f h = absurd (Option·none-ne-some x (sym (find-none name) ∙ f))
   known-among name (e ∷ es) x f h =
-      let ih : find name es ≡ some x → Among name (namesIn lowest highest es) = λ k. known-among name es x k h in
+      let ih : find name es ≡ some x → Among name (within es) = λ k. known-among name es x k h in
       by-same (e .name) name
       (λ q. subst (Among name) (sym (inside e es (ap (keyInRanges lowest highest) q ∙ h))) (inl q))
       (λ n.
@@ -96,12 +92,12 @@ module _ (lowest highest : Bytes) where
       (λ k. subst (Among name) (sym (inside e es k)) (inr m))
       (λ k. subst (Among name) (sym (outside e es k)) m))
 
-  -- how many they are, as a sum over the entries
+  -- ---- how many they are, as a sum over the entries
   abbrev one : Entry → ℕ
   one e = cond (keyInRanges lowest highest (e .name)) 1 0
 
   abbrev many : List Entry → ℕ
-  many es = length (namesIn lowest highest es)
+  many es = length (within es)
 
   many-more : (e : Entry) (es : List Entry) → many (e ∷ es) ≡ one e + many es
   many-more e es =
@@ -115,9 +111,9 @@ module _ (lowest highest : Bytes) where
 
   many-same : (es fs : List Entry) → Distinct es → Distinct fs → ((name : Bytes) → find name es ≡ find name fs)
       → many es ≡ many fs
-  many-same = sum-same one many (unfold namesIn in refl) many-more
+  many-same = sum-same one many (unfold namesIn namesOf in refl) many-more
 
-  -- ---- the book read off an image: an entry for each taken slot
+  -- ---- the book read off an image has an entry for each taken slot
   selects-both : (g : Layout) (img : Bytes) (i : ℕ) {a c : Bool} → taken g img i ≡ a
       → keyInRanges lowest highest (keyAt g img i) ≡ c → selects g img lowest highest i ≡ (a && c)
   unfolding selects
@@ -126,7 +122,7 @@ module _ (lowest highest : Bytes) where
   many-from : (g : Layout) (img : Bytes) (left i : ℕ)
       → length (chosenFrom (selects g img lowest highest) left i) ≡ many (entriesFrom g img left i)
   unfolding entryAt
-  many-from g img zero i = unfold chosenFrom entriesFrom namesIn in refl
+  many-from g img zero i = unfold chosenFrom entriesFrom namesIn namesOf in refl
   many-from g img (suc left) i =
       let ih : length (chosenFrom (selects g img lowest highest) left (suc i)) ≡ many (entriesFrom g img left (suc i)) =
       many-from g img left (suc i) in
@@ -154,17 +150,6 @@ module _ (lowest highest : Bytes) where
 
 -- ---- a list beside the book
 
--- the name of the slot that number j of the list names
-abbrev pub nameAt : Bytes → Bytes → ℕ → Bytes
-nameAt img list j = keyAt (layoutOf img) img (numberAt list j)
-
-pub record NamesListed (img : Bytes) (b : Book) (lowest highest list : Bytes) (found : ℕ) : Type 0 where
-  pub number : found ≡ length (namesIn lowest highest (b .entries))
-  pub only : (j : ℕ) → j < found → Among (nameAt img list j) (namesIn lowest highest (b .entries))
-  pub all : (name : Bytes) → Among name (namesIn lowest highest (b .entries))
-      → (j : ℕ) × (j < found) × (nameAt img list j ≡ name)
-  pub once : (j k : ℕ) → j < found → k < found → nameAt img list j ≡ nameAt img list k → j ≡ k
-
 module _ (img : Bytes) (b : Book) (lowest highest list : Bytes) (r : Reflects (layoutOf img) img b)
     (ok : select img lowest highest list .number ≡ 0) where
   abbrev g : Layout
@@ -175,6 +160,9 @@ module _ (img : Bytes) (b : Book) (lowest highest list : Bytes) (r : Reflects (l
 
   abbrev found : ℕ
   found = select img lowest highest list .found
+
+  abbrev names : List Bytes
+  names = within lowest highest (b .entries)
 
   lists : Lists img lowest highest list after found
   lists = select-lists img lowest highest list ok
@@ -189,7 +177,7 @@ module _ (img : Bytes) (b : Book) (lowest highest list : Bytes) (r : Reflects (l
       (λ a. sym (read-off .points name a) ∙ r .points name a)
       (λ n. read-off .others name n ∙ sym (r .others name n))
 
-  as-many : found ≡ length (namesIn lowest highest (b .entries))
+  as-many : found ≡ length names
   unfolding selected bookOf
   as-many =
       select-fills img lowest highest list (sym (select-number img lowest highest list) ∙ ok) .0
@@ -197,37 +185,35 @@ module _ (img : Bytes) (b : Book) (lowest highest list : Bytes) (r : Reflects (l
       ∙ many-same lowest highest (bookOf img .entries) (b .entries) (read-off .distinct) (r .distinct) same-book
 
   -- a slot that is listed has a name of the book's
-  wanted-among : (i : ℕ) → Wanted g img lowest highest i
-      → Among (keyAt g img i) (namesIn lowest highest (b .entries))
+  wanted-among : (i : ℕ) → Wanted img lowest highest i → Among (keyAt g img i) names
   wanted-among i w =
       let key = keyAt g img i in
-      let m = search-finds g img key (file-some (r .file)) i (r .file .table) (w .below) (w .stands) refl in
-      let a = taken-allowed g img (r .file) i (w .below) (w .stands) in
+      let t = wanted-taken img lowest highest i w in
+      let m = search-finds g img key (file-some (r .file)) i (r .file .table) (w .below) t refl in
+      let a = taken-allowed g img (r .file) i (w .below) t in
       known-among lowest highest key (b .entries) _ (found-met g img b r key a i m) (lies-key lowest highest key (w .lies))
 
   -- a name of the book's has a slot that is listed
   known-wanted : (name : Bytes) (e : Entry) → find name (b .entries) ≡ some e → keyInRanges lowest highest name ≡ true
-      → (i : ℕ) × Wanted g img lowest highest i × (keyAt g img i ≡ name)
+      → (i : ℕ) × Wanted img lowest highest i × (keyAt g img i ≡ name)
   known-wanted name e f h =
       by-bool (nameAllowed (g .K) name)
       (λ a. by-met g img b r name
       (λ i m.
       let s = search-met g img name (file-some (r .file)) i m in (
         i,
-        record {
-          below = s .0;
-          stands = met-taken g img name (file-some (r .file)) i (allowed-zero g name a) m;
-          lies = key-lies lowest highest (keyAt g img i) (ap (keyInRanges lowest highest) (s .1) ∙ h);
-        },
+        taken-wanted img lowest highest i (s .0)
+            (met-taken g img name (file-some (r .file)) i (allowed-zero g name a) m)
+            (key-lies lowest highest (keyAt g img i) (ap (keyInRanges lowest highest) (s .1) ∙ h)),
         s .1,
       ))
       (λ n. absurd (Option·none-ne-some e (sym (found-none g img b r name a n) ∙ f))))
       (λ n. absurd (Option·none-ne-some e (sym (r .others name n) ∙ f)))
 
-  names-listed : NamesListed img b lowest highest after found
+  names-listed : NamesListed img (namesOf (b .entries)) lowest highest after found
   names-listed =
       record {
-        number = as-many;
+        number-is = as-many;
         only = λ j l. wanted-among (numberAt after j) (lists .only j l);
         all = λ name a.
             let k = among-known lowest highest name (b .entries) a in
@@ -238,10 +224,11 @@ module _ (img : Bytes) (b : Book) (lowest highest list : Bytes) (r : Reflects (l
             let s = lists .only j a in
             let t = lists .only k c in
             lists .once j k a c
-            (r .file .table .distinct (numberAt after j) (numberAt after k) (s .below) (t .below) (s .stands) (t .stands) e);
+            (r .file .table .distinct (numberAt after j) (numberAt after k) (s .below) (t .below)
+            (wanted-taken img lowest highest (numberAt after j) s) (wanted-taken img lowest highest (numberAt after k) t) e);
       }
 
--- ---- on every state that calls have reached
+-- ---- on every file that calls have reached
 
 module _ (img : Bytes) (b : Book) (reached : Reached (alone img) b) where
   -- in the layout of the image's own header
@@ -251,16 +238,16 @@ module _ (img : Bytes) (b : Book) (reached : Reached (alone img) b) where
       subst (λ (l : Layout). Reflects l img b) (sym (r .1 .file .layout)) (r .1)
 
   pub reached-select : (lowest highest list : Bytes) → select img lowest highest list .number ≡ 0
-      → NamesListed img b lowest highest (select img lowest highest list .list) (select img lowest highest list .found)
+      → NamesListed img (namesOf (b .entries)) lowest highest (select img lowest highest list .list)
+      (select img lowest highest list .found)
   reached-select lowest highest list ok = names-listed img b lowest highest list own ok
 
-  -- the number is what the book's terms say: 22 and 16
   pub reached-asks : (lowest highest list : Bytes) → select img lowest highest list .number
       ≡ firstNo (ask 22 (rangesAllowed (b .terms .K) lowest highest) ∷ ask 16 (listHolds (b .terms .N) (length list)) ∷ [])
   unfolding selectNumber selectAsks
   reached-asks lowest highest list =
-      let t = own .terms in
       select-number img lowest highest list
       ∙ firstNo-opened img (selectAsks (layoutOf img) lowest highest (length list)) (facts-opened img (own .file .opened))
       ∙ ap (λ (x : Terms).
-      firstNo (ask 22 (rangesAllowed (x .K) lowest highest) ∷ ask 16 (listHolds (x .N) (length list)) ∷ [])) (sym t)
+      firstNo (ask 22 (rangesAllowed (x .K) lowest highest) ∷ ask 16 (listHolds (x .N) (length list)) ∷ []))
+      (sym (own .terms))

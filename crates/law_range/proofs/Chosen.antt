@@ -2,7 +2,6 @@
 --     chosen-few, chosen-each, chosen-all, chosen-rising      how many, which, and in which order
 --     chosen-yes, chosen-no      one number looked at; chosen-take, chosen-pass, chosen-end      as a loop from i up to n
 --                                has it
---     numberAt list j      number j of a list of 4-byte numbers
 --     length-numbers, number-listed      of the numbers of some slots
 -- Assumes nothing.
 use mathlib.Core.Path.{_≡_, refl, sym, ap, _∙_, subst}
@@ -12,10 +11,11 @@ use mathlib.Core.Bool.{Bool, true, false}
 use mathlib.Core.List.{List, [], _∷_, _++_}
 use lib.ListN.{length, getD, take, drop, length-append}
 use lib.Seq.{take-at, drop-at, drop-drop}
-use Rattle.spec_file.specs.Bytes.{Bytes, part, number, digits}
+use Rattle.spec_file.specs.Bytes.{part, number, digits}
 use Rattle.law_file.proofs.Bytes.{length-digits, number-digits-fits}
 use Rattle.law_file.proofs.Tests.{by-bool, by-eq, not-both}
 use Rattle.spec_range.specs.Ranges.{chosenFrom, slotNumbers}
+use Rattle.spec_range.specs.Listed.{numberAt}
 
 module _ (p : ℕ → Bool) where
   -- ---- one number looked at
@@ -123,9 +123,6 @@ length-numbers [] = refl
 length-numbers (i ∷ is) =
     let ih : length (slotNumbers is) ≡ 4 * length is = length-numbers is in
     omega (arith, length-append (digits 4 i) (slotNumbers is), length-digits 4 i)
-
-abbrev pub numberAt : Bytes → ℕ → ℕ
-numberAt list j = number (part list (4 * j) 4)
 
 part-numbers : (is : List ℕ) (j : ℕ) → j < length is → part (slotNumbers is) (4 * j) 4 ≡ digits 4 (getD is j 0)
 unfolding slotNumbers part

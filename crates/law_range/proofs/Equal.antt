@@ -1,8 +1,7 @@
--- Document 02, Job 13: "equal bounds everywhere give what lookup finds on a sound image". With a name of K bytes for
--- both bounds, and a list that holds N slot numbers.
---     Found i       one slot is listed: that where the name's search ended; lookup is accepted
---     Missed        none is listed, and the list stays; lookup answers 14, or 7 for the name of zeros
---     equal-bounds      one or the other
+-- Document 02, Job 13: "equal bounds everywhere give what lookup finds on a sound image": `OneFound` or `NoneFound` of
+-- crates/spec_range/specs/Listed.antt. With a name of K bytes for both bounds, and a list that holds N slot numbers.
+--     lies-equal        a key in ranges that are one byte each is that name
+--     equal-bounds      the law
 -- Assumes nothing.
 use mathlib.Core.Path.{_≡_, refl, sym, ap, _∙_, subst}
 use mathlib.Core.Logic.{_⊎_, inl, inr}
@@ -29,10 +28,10 @@ use Rattle.law_file.proofs.Table.{Taken, keyAt}
 use Rattle.law_file.proofs.Tests.{by-bool, by-le, and-true, not-both}
 use Rattle.law_file.proofs.Verdict.{check-open, check-searches, check-messages}
 use Rattle.spec_range.specs.Ranges.{selected, slotNumbers, listHolds, selectNumber, select}
-use Rattle.law_range.proofs.Ranges.{LiesIn, paired-allowed}
-use Rattle.law_range.proofs.Chosen.{numberAt}
+use Rattle.spec_range.specs.Listed.{numberAt, LiesIn, Wanted, OneFound, NoneFound}
+use Rattle.law_range.proofs.Ranges.{paired-allowed}
 use Rattle.law_range.proofs.Number.{select-0, select-fills}
-use Rattle.law_range.proofs.Selected.{Wanted, selected-wanted, wanted-selected, selected-rising}
+use Rattle.law_range.proofs.Selected.{wanted-taken, taken-wanted, selected-wanted, wanted-selected, selected-rising}
 use Rattle.law_range.proofs.Listed.{numbered}
 
 -- ---- a key in ranges that are one byte each
@@ -52,19 +51,6 @@ length-nil (x ∷ l) e = absurd (omega arith)
 
 met-inj : {i j : ℕ} → met i ≡ met j → i ≡ j
 met-inj e = cc
-
--- ---- what the call answers beside lookup
-
-pub record Found (img key list : Bytes) (i : ℕ) : Type 0 where
-  pub one : select img key key list .found ≡ 1
-  pub slot-is : numberAt (select img key key list .list) 0 ≡ i
-  pub ends : search (layoutOf img) img key ≡ met i
-  pub looked : lookupNumber img key ≡ 0
-
-pub record Missed (img key list : Bytes) : Type 0 where
-  pub none-found : select img key key list .found ≡ 0
-  pub list-stays : select img key key list .list ≡ list
-  pub looked : (lookupNumber img key ≡ 14) ⊎ ((lookupNumber img key ≡ 7) × (allZero key ≡ true))
 
 module _ (img key list : Bytes) (ok : check img ≡ sound)
     (size : length key ≡ layoutOf img .K) (room : 4 * layoutOf img .N ≤ length list) where
@@ -87,42 +73,43 @@ module _ (img key list : Bytes) (ok : check img ≡ sound)
       (le-leb (4 * g .N) (length list) room)
 
   -- the slots that are wanted are those that hold the name
-  wanted-key : (i : ℕ) → Wanted g img key key i → keyAt g img i ≡ key
+  wanted-key : (i : ℕ) → Wanted img key key i → keyAt g img i ≡ key
   wanted-key i w =
       let r = opened-room img (opened-facts img (check-open img ok)) in
       lies-equal key (keyAt g img i)
       (length-keyOf g (slot g img i) (length-slot g img r i (w .below)) ∙ sym size)
       (w .lies)
 
-  key-wanted : (i : ℕ) → i < g .N → Taken g img i → keyAt g img i ≡ key → Wanted g img key key i
-  key-wanted i l t e = record { below = l; stands = t; lies = equal-lies key (keyAt g img i) e }
+  key-wanted : (i : ℕ) → i < g .N → Taken g img i → keyAt g img i ≡ key → Wanted img key key i
+  key-wanted i l t e = taken-wanted img key key i l t (equal-lies key (keyAt g img i) e)
 
   -- and the name's search ends there
-  wanted-met : (i : ℕ) → Wanted g img key key i → search g img key ≡ met i
-  wanted-met i w = ap (search g img) (sym (wanted-key i w)) ∙ check-searches img ok i (w .below) (w .stands)
+  wanted-met : (i : ℕ) → Wanted img key key i → search g img key ≡ met i
+  wanted-met i w = ap (search g img) (sym (wanted-key i w)) ∙ check-searches img ok i (w .below) (wanted-taken img key key i w)
 
   -- ---- none
-  no-slots : ((i : ℕ) → Wanted g img key key i → ⊥) → length slots ≡ 0
+  no-slots : ((i : ℕ) → Wanted img key key i → ⊥) → length slots ≡ 0
   no-slots n =
-      by-le (length slots) 0 (λ l. omega arith) (λ l. absurd (n (getD slots 0 0) (selected-wanted g img key key 0 l)))
+      by-le (length slots) 0 (λ l. omega arith) (λ l. absurd (n (getD slots 0 0) (selected-wanted img key key 0 l)))
 
-  missed : ((i : ℕ) → Wanted g img key key i → ⊥)
-      → (lookupNumber img key ≡ 14) ⊎ ((lookupNumber img key ≡ 7) × (allZero key ≡ true)) → Missed img key list
+  missed : ((i : ℕ) → Wanted img key key i → ⊥)
+      → (lookupNumber img key ≡ 14) ⊎ ((lookupNumber img key ≡ 7) × (allZero key ≡ true)) → NoneFound img key list
   missed n h =
       let f = select-fills img key key list accepted in
       let e : slots ≡ [] = length-nil slots (no-slots n) in
       record {
-        none-found = f .0 ∙ no-slots n;
-        list-stays =
+        found-is = f .0 ∙ no-slots n;
+        list-is =
             f .1 ∙ ap (λ (l : List ℕ). store list 0 (slotNumbers l)) e ∙ (unfold slotNumbers in store-none list 0);
-        looked = h;
+        looked-up = h;
       }
 
   -- the name of zeros is no taken slot's key
-  missed-zeros : allZero key ≡ true → Missed img key list
+  missed-zeros : allZero key ≡ true → NoneFound img key list
   missed-zeros z =
       missed
-      (λ i w. not-both (vacant g (slot g img i)) (unfold vacant in (ap allZero (wanted-key i w) ∙ z)) (w .stands))
+      (λ i w. not-both (vacant g (slot g img i)) (unfold vacant in (ap allZero (wanted-key i w) ∙ z))
+      (wanted-taken img key key i w))
       (inr (lookup-7 img key (check-open img ok) (unfold nameAllowed in ap (λ (b : Bool). eqb (length key) (g .K) && not b) z ∙ and-false (eqb (length key) (g .K))), z))
 
   -- ---- a name that is not all zero
@@ -131,33 +118,33 @@ module _ (img key list : Bytes) (ok : check img ≡ sound)
     unfolding nameAllowed
     allowed = and-true (eqb (length key) (g .K)) (not (allZero key)) (eq-eqb (length key) (g .K) size) (ap not z)
 
-    missed-absent : isMet (search g img key) ≡ false → Missed img key list
+    missed-absent : isMet (search g img key) ≡ false → NoneFound img key list
     missed-absent h =
         missed
         (λ i w. not-both (isMet (search g img key)) (ap isMet (wanted-met i w) ∙ (unfold isMet in refl)) h)
         (inl (lookup-14 img key (check-open img ok) allowed h))
 
-    found-met : (i : ℕ) → search g img key ≡ met i → Found img key list i
+    found-met : (i : ℕ) → search g img key ≡ met i → OneFound img key list i
     found-met i e =
         let s = search-met g img key some-slots i e in
         let t = met-taken g img key some-slots i z e in
-        let w = wanted-selected g img key key i (key-wanted i (s .0) t (s .1)) in
+        let w = wanted-selected img key key i (key-wanted i (s .0) t (s .1)) in
         let f = select-fills img key key list accepted in
         -- every slot that is listed is that one
         let all : (j : ℕ) → j < length slots → getD slots j 0 ≡ i = λ j l.
-        met-inj (sym (wanted-met (getD slots j 0) (selected-wanted g img key key j l)) ∙ e) in
+        met-inj (sym (wanted-met (getD slots j 0) (selected-wanted img key key j l)) ∙ e) in
         let some : 0 < length slots = omega (arith, w .1) in
         let one : length slots ≡ 1 =
         by-le (length slots) 1 (λ l. omega arith)
-        (λ l. absurd (omega (arith, all 0 some, all 1 l, selected-rising g img key key 0 1 (omega arith) l))) in
+        (λ l. absurd (omega (arith, all 0 some, all 1 l, selected-rising img key key 0 1 (omega arith) l))) in
         record {
-          one = f .0 ∙ one;
+          found-is = f .0 ∙ one;
           slot-is = ap (λ (b : Bytes). numberAt b 0) (f .1) ∙ numbered img key key list accepted 0 some ∙ all 0 some;
-          ends = e;
-          looked = lookup-0 img key (check-open img ok) allowed i e (check-messages img ok i (s .0) t);
+          search-ends = e;
+          looked-up = lookup-0 img key (check-open img ok) allowed i e (check-messages img ok i (s .0) t);
         }
 
-  pub equal-bounds : ((i : ℕ) × Found img key list i) ⊎ Missed img key list
+  pub equal-bounds : ((i : ℕ) × OneFound img key list i) ⊎ NoneFound img key list
   equal-bounds =
       by-bool (allZero key)
       (λ z. inr (missed-zeros z))

@@ -3,5 +3,5 @@ pub mod Ranges  -- keys in ranges, and question 22
 pub mod Chosen  -- the numbers for which a test holds, and their bytes
 pub mod Number  -- the call's number, and what it leaves
 pub mod Selected  -- the slots that are listed
-pub mod Listed  -- exactly they, each once, in rising order
+pub mod Listed  -- exactly the wanted ones, each once, in rising order
 pub mod Equal  -- equal bounds give what lookup finds

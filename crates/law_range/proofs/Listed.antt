@@ -1,7 +1,7 @@
 -- Document 02, Job 13: "the call lists all taken slots whose every key byte lies in its range, each exactly once, by
--- rising slot, and answers how many". Of an accepted call on any bytes.
---     Lists img lowest highest list after found      the list afterwards, and the number found, say so
---     select-lists      they do
+-- rising slot, and answers how many": `Lists` of crates/spec_range/specs/Listed.antt, of an accepted call on any bytes.
+--     numbered          number j of the list is slot j of those that are listed
+--     select-lists      the law
 -- Assumes nothing.
 use mathlib.Core.Path.{_≡_, refl, sym, ap, _∙_, subst}
 use Prim.Native.Nat.{ℕ, _+_, _*_, _^_, _≤_, _<_}
@@ -16,18 +16,10 @@ use Rattle.law_file.proofs.Byte.{byte-store-above}
 use Rattle.law_file.proofs.Opened.{opened-facts}
 use Rattle.law_file.proofs.Tests.{by-eq, by-le}
 use Rattle.spec_range.specs.Ranges.{selected, slotNumbers, selectNumber, select}
-use Rattle.law_range.proofs.Chosen.{numberAt, length-numbers, number-listed}
+use Rattle.spec_range.specs.Listed.{numberAt, Wanted, Lists}
+use Rattle.law_range.proofs.Chosen.{length-numbers, number-listed}
 use Rattle.law_range.proofs.Number.{Accepted, select-accepted, select-fills, select-number}
-use Rattle.law_range.proofs.Selected.{Wanted, selected-few, selected-wanted, wanted-selected, selected-rising}
-
--- the numbers of the list are those of slots, and the bytes after the last one stay
-pub record Lists (img lowest highest list after : Bytes) (found : ℕ) : Type 0 where
-  pub only : (j : ℕ) → j < found → Wanted (layoutOf img) img lowest highest (numberAt after j)
-  pub all : (i : ℕ) → Wanted (layoutOf img) img lowest highest i → (j : ℕ) × (j < found) × (numberAt after j ≡ i)
-  pub once : (j k : ℕ) → j < found → k < found → numberAt after j ≡ numberAt after k → j ≡ k
-  pub rising : (j k : ℕ) → j < k → k < found → numberAt after j < numberAt after k
-  pub stays : (p : ℕ) → 4 * found ≤ p → getD after p 0 ≡ getD list p 0
-  pub size : length after ≡ length list
+use Rattle.law_range.proofs.Selected.{selected-few, selected-wanted, wanted-selected, selected-rising}
 
 module _ (img lowest highest list : Bytes) (ok : selectNumber img lowest highest (length list) ≡ 0) where
   abbrev g : Layout
@@ -47,12 +39,11 @@ module _ (img lowest highest list : Bytes) (ok : selectNumber img lowest highest
   high = opened-facts img (granted .accepted) .slots-high
 
   fits : 0 + length (slotNumbers slots) ≤ length list
-  fits = omega (arith, length-numbers slots, selected-few g img lowest highest, granted .room)
+  fits = omega (arith, length-numbers slots, selected-few img lowest highest, granted .room)
 
-  -- number j of the list is slot j of those that are listed
   pub numbered : (j : ℕ) → j < length slots → numberAt filled j ≡ getD slots j 0
   numbered j l =
-      let w = selected-wanted g img lowest highest j l in
+      let w = selected-wanted img lowest highest j l in
       let z : 0 + 4 * j ≡ 4 * j = omega arith in
       ap (λ (p : ℕ). number (part filled p 4)) (sym z)
       ∙ ap number (part-store-inside list 0 (slotNumbers slots) (4 * j) 4 (omega arith) (omega (arith, length-numbers slots)))
@@ -65,13 +56,13 @@ module _ (img lowest highest list : Bytes) (ok : selectNumber img lowest highest
         arith,
         numbered j (omega arith),
         numbered k b,
-        selected-rising g img lowest highest j k a b,
+        selected-rising img lowest highest j k a b,
       ) in
       record {
         only = λ j l.
-            subst (Wanted g img lowest highest) (sym (numbered j l)) (selected-wanted g img lowest highest j l);
+            subst (Wanted img lowest highest) (sym (numbered j l)) (selected-wanted img lowest highest j l);
         all = λ i w.
-            let s = wanted-selected g img lowest highest i w in
+            let s = wanted-selected img lowest highest i w in
             (s .0, s .1, numbered (s .0) (s .1) ∙ s .2);
         once = λ j k a b e.
             by-eq j k (λ q. q)

@@ -1,7 +1,8 @@
 -- Keys in ranges, position by position.
 --     all-which, all-below, all-fails      a test over the numbers below n
 --     range-facts, facts-range             a byte in its range, as two comparisons
---     LiesIn lowest highest key            every byte of the key lies in its range; key-lies, lies-key, key-outside
+--     LiesAt lowest highest key p          the byte at position p lies in its range
+--     key-lies, lies-key, key-outside      a key in its ranges, and one that is not
 --     Paired K lowest highest              question 22 as facts; allowed-paired, paired-allowed, not-paired
 -- Assumes nothing.
 use mathlib.Core.Path.{_≡_, refl, ap, _∙_}
@@ -13,6 +14,7 @@ use lib.Dec.{leb, eqb}
 use borrow.Author.Tests.{le-leb, leb-true, eq-eqb, eqb-true}
 use Rattle.spec_file.specs.Bytes.{Bytes}
 use Rattle.law_file.proofs.Tests.{by-bool, by-eq, and-left, and-right, and-true, not-both}
+use Rattle.spec_range.specs.Listed.{LiesIn}
 use Rattle.spec_range.specs.Ranges.{allBelow, inRange, byteInRange, keyInRanges, rangesAllowed}
 
 -- ---- a test over the numbers below n
@@ -54,9 +56,6 @@ module _ (lowest highest : Bytes) where
   abbrev pub LiesAt : Bytes → ℕ → Type 0
   LiesAt key p = (getD lowest p 0 ≤ getD key p 0) × (getD key p 0 ≤ getD highest p 0)
 
-  abbrev pub LiesIn : Bytes → Type 0
-  LiesIn key = (p : ℕ) → p < length key → LiesAt key p
-
   pub byte-lies : (key : Bytes) (p : ℕ) → byteInRange lowest highest key p ≡ true → LiesAt key p
   unfolding byteInRange
   byte-lies key p h = range-facts (getD lowest p 0) (getD highest p 0) (getD key p 0) h
@@ -65,11 +64,11 @@ module _ (lowest highest : Bytes) where
   unfolding byteInRange
   lies-byte key p h = facts-range (getD lowest p 0) (getD highest p 0) (getD key p 0) (h .0) (h .1)
 
-  pub key-lies : (key : Bytes) → keyInRanges lowest highest key ≡ true → LiesIn key
+  pub key-lies : (key : Bytes) → keyInRanges lowest highest key ≡ true → LiesIn lowest highest key
   unfolding keyInRanges
   key-lies key h p l = byte-lies key p (all-which (byteInRange lowest highest key) (length key) h p l)
 
-  pub lies-key : (key : Bytes) → LiesIn key → keyInRanges lowest highest key ≡ true
+  pub lies-key : (key : Bytes) → LiesIn lowest highest key → keyInRanges lowest highest key ≡ true
   unfolding keyInRanges
   lies-key key h = all-below (byteInRange lowest highest key) (length key) (λ p l. lies-byte key p (h p l))
 

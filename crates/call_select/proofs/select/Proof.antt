@@ -85,7 +85,7 @@ cast-found c =
     omega (
       arith,
       F .fill-list .ensures .0,
-      selected-few (layoutOf img) img (A .lowest .now) (A .highest .now),
+      selected-few img (A .lowest .now) (A .highest .now),
       header img (P .read-shape .result) (opened P) .slots-high,
       layout-slots img (P .read-shape .result) (P .read-shape .ensures),
     )
