@@ -1,6 +1,6 @@
 -- A list that is being filled with the numbers for which a test holds.
---     Filling p n list₀ list found i     those below i stand in the list, `found` of them; those from i on, below n, are
---                                        to be written behind them
+--     Filling p n list₀ list found i     those below i stand in the list, `found` of them; those from i on, below n,
+--                                        are to be written after them
 --     filling-start, filling-take, filling-pass, filling-end      its turns
 --     filling-room      one more number has room
 -- Assumes nothing.
@@ -8,7 +8,7 @@ use mathlib.Core.Path.{_≡_, refl, sym, ap, ap₂, _∙_}
 use Prim.Native.Nat.{ℕ, suc, _+_, _-_, _*_, _≤_, _<_}
 use native.Mathlib.Omega.{arith}
 use mathlib.Core.Bool.{Bool, true, false}
-use mathlib.Core.List.{List, [], _∷_, _++_}
+use mathlib.Core.List.{List, [], _∷_}
 use lib.ListN.{length}
 use Rattle.spec_file.specs.Bytes.{Bytes, store, digits}
 use Rattle.spec_file.specs.Image.{setField}

@@ -14,7 +14,8 @@ module _ (g : Layout) (img lowest highest : Bytes) (i : ℕ) (key : Bytes) (e : 
   pub selects-outside : keyInRanges lowest highest key ≡ false → false ≡ selects g img lowest highest i
   unfolding selects
   selects-outside h =
-      sym (ap (λ (b : Bool). taken g img i && b) (ap (keyInRanges lowest highest) (sym e) ∙ h) ∙ and-false (taken g img i))
+      sym
+      (ap (λ (b : Bool). taken g img i && b) (ap (keyInRanges lowest highest) (sym e) ∙ h) ∙ and-false (taken g img i))
 
   pub selects-inside : keyInRanges lowest highest key ≡ true → (z : Bool) → z ≡ allZero key
       → not z ≡ selects g img lowest highest i

@@ -55,8 +55,9 @@ fn fill_list(
         × (4 * shape .slots ≤ length (now list)) ⌝ }
     ensures found { λ r. ⌜ r ≡ length (selected (layoutOf (now (image .entry))) (now (image .entry))
         (now (lowest .entry)) (now (highest .entry))) ⌝ }
-    ensures list { λ _. ⌜ now (list .exit) ≡ store (now (list .entry)) 0 (slotNumbers
-        (selected (layoutOf (now (image .entry))) (now (image .entry)) (now (lowest .entry)) (now (highest .entry)))) ⌝ }
+    ensures list { λ _. ⌜ now (list .exit) ≡ store (now (list .entry)) 0
+        (slotNumbers (selected (layoutOf (now (image .entry))) (now (image .entry))
+        (now (lowest .entry)) (now (highest .entry)))) ⌝ }
 {
     let slots = shape.slots;
     let mut found = 0;

@@ -15,7 +15,7 @@ use mathlib.Core.Option.{some, Option·none-ne-some}
 use lib.ListN.{length}
 use Rattle.spec_file.specs.Bytes.{Bytes}
 use Rattle.spec_file.specs.Image.{Layout, layoutOf}
-use Rattle.spec_file.specs.Questions.{ask, firstNo, nameAllowed}
+use Rattle.spec_file.specs.Questions.{Question, ask, firstNo, nameAllowed}
 use Rattle.spec_file.specs.Inspect.{taken}
 use Rattle.spec_range.specs.Ranges.{keyInRanges, selects, chosenFrom, selected, rangesAllowed, listHolds, selectAsks, selectNumber, select}
 use Rattle.spec_range.specs.Listed.{numberAt, Wanted, Lists, namesIn, Among, NamesListed}
@@ -191,7 +191,8 @@ module _ (img : Bytes) (b : Book) (lowest highest list : Bytes) (r : Reflects (l
       let t = wanted-taken img lowest highest i w in
       let m = search-finds g img key (file-some (r .file)) i (r .file .table) (w .below) t refl in
       let a = taken-allowed g img (r .file) i (w .below) t in
-      known-among lowest highest key (b .entries) _ (found-met g img b r key a i m) (lies-key lowest highest key (w .lies))
+      known-among lowest highest key (b .entries) _ (found-met g img b r key a i m)
+      (lies-key lowest highest key (w .lies))
 
   -- a name of the book's has a slot that is listed
   known-wanted : (name : Bytes) (e : Entry) → find name (b .entries) ≡ some e → keyInRanges lowest highest name ≡ true
@@ -225,7 +226,8 @@ module _ (img : Bytes) (b : Book) (lowest highest list : Bytes) (r : Reflects (l
             let t = lists .only k c in
             lists .once j k a c
             (r .file .table .distinct (numberAt after j) (numberAt after k) (s .below) (t .below)
-            (wanted-taken img lowest highest (numberAt after j) s) (wanted-taken img lowest highest (numberAt after k) t) e);
+            (wanted-taken img lowest highest (numberAt after j) s)
+            (wanted-taken img lowest highest (numberAt after k) t) e);
       }
 
 -- ---- on every file that calls have reached
@@ -242,12 +244,16 @@ module _ (img : Bytes) (b : Book) (reached : Reached (alone img) b) where
       (select img lowest highest list .found)
   reached-select lowest highest list ok = names-listed img b lowest highest list own ok
 
-  pub reached-asks : (lowest highest list : Bytes) → select img lowest highest list .number
-      ≡ firstNo (ask 22 (rangesAllowed (b .terms .K) lowest highest) ∷ ask 16 (listHolds (b .terms .N) (length list)) ∷ [])
+  -- questions 22 and 16 by the book's terms
+  abbrev bookAsks : Terms → Bytes → Bytes → Bytes → List Question
+  bookAsks t lowest highest list =
+      ask 22 (rangesAllowed (t .K) lowest highest) ∷ ask 16 (listHolds (t .N) (length list)) ∷ []
+
+  pub reached-asks : (lowest highest list : Bytes)
+      → select img lowest highest list .number ≡ firstNo (bookAsks (b .terms) lowest highest list)
   unfolding selectNumber selectAsks
   reached-asks lowest highest list =
       select-number img lowest highest list
-      ∙ firstNo-opened img (selectAsks (layoutOf img) lowest highest (length list)) (facts-opened img (own .file .opened))
-      ∙ ap (λ (x : Terms).
-      firstNo (ask 22 (rangesAllowed (x .K) lowest highest) ∷ ask 16 (listHolds (x .N) (length list)) ∷ []))
-      (sym (own .terms))
+      ∙ firstNo-opened img (selectAsks (layoutOf img) lowest highest (length list))
+      (facts-opened img (own .file .opened))
+      ∙ ap (λ (t : Terms). firstNo (bookAsks t lowest highest list)) (sym (own .terms))

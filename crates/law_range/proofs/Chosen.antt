@@ -1,7 +1,7 @@
 -- The numbers for which a test holds, in rising order, and the bytes of a list of slot numbers.
 --     chosen-few, chosen-each, chosen-all, chosen-rising      how many, which, and in which order
---     chosen-yes, chosen-no      one number looked at; chosen-take, chosen-pass, chosen-end      as a loop from i up to n
---                                has it
+--     chosen-yes, chosen-no      one number looked at
+--     chosen-take, chosen-pass, chosen-end      the same, as a loop from i up to n has it
 --     length-numbers, number-listed      of the numbers of some slots
 -- Assumes nothing.
 use mathlib.Core.Path.{_≡_, refl, sym, ap, _∙_, subst}
@@ -13,7 +13,7 @@ use lib.ListN.{length, getD, take, drop, length-append}
 use lib.Seq.{take-at, drop-at, drop-drop}
 use Rattle.spec_file.specs.Bytes.{part, number, digits}
 use Rattle.law_file.proofs.Bytes.{length-digits, number-digits-fits}
-use Rattle.law_file.proofs.Tests.{by-bool, by-eq, not-both}
+use Rattle.law_file.proofs.Tests.{by-bool, by-eq}
 use Rattle.spec_range.specs.Ranges.{chosenFrom, slotNumbers}
 use Rattle.spec_range.specs.Listed.{numberAt}
 

@@ -3,9 +3,9 @@
 --     lies-equal        a key in ranges that are one byte each is that name
 --     equal-bounds      the law
 -- Assumes nothing.
-use mathlib.Core.Path.{_≡_, refl, sym, ap, _∙_, subst}
+use mathlib.Core.Path.{_≡_, refl, sym, ap, _∙_}
 use mathlib.Core.Logic.{_⊎_, inl, inr}
-use Prim.Native.Nat.{ℕ, _+_, _*_, _≤_, _<_}
+use Prim.Native.Nat.{ℕ, _*_, _≤_, _<_}
 use native.Mathlib.Nat.{le-antisymm}
 use native.Mathlib.Omega.{arith}
 use mathlib.Core.Bool.{Bool, true, false, not, _&&_, and-false}
@@ -15,8 +15,8 @@ use lib.Seq.{ext-getD}
 use lib.Dec.{eqb}
 use borrow.Author.Tests.{eq-eqb, le-leb}
 use Rattle.spec_file.specs.Bytes.{Bytes, store, allZero}
-use Rattle.spec_file.specs.Image.{Layout, layoutOf, slot, keyOf, vacant}
-use Rattle.spec_file.specs.Search.{Probe, met, empty, exhausted, search, isMet}
+use Rattle.spec_file.specs.Image.{Layout, layoutOf, slot, vacant}
+use Rattle.spec_file.specs.Search.{met, search, isMet}
 use Rattle.spec_file.specs.Questions.{nameAllowed, lookupNumber}
 use Rattle.spec_file.specs.Inspect.{sound, check}
 use Rattle.law_file.proofs.Stores.{store-none}
@@ -27,7 +27,7 @@ use Rattle.law_file.proofs.Probe.{search-met, met-taken, by-search}
 use Rattle.law_file.proofs.Table.{Taken, keyAt}
 use Rattle.law_file.proofs.Tests.{by-bool, by-le, and-true, not-both}
 use Rattle.law_file.proofs.Verdict.{check-open, check-searches, check-messages}
-use Rattle.spec_range.specs.Ranges.{selected, slotNumbers, listHolds, selectNumber, select}
+use Rattle.spec_range.specs.Ranges.{selected, slotNumbers, listHolds, selectNumber}
 use Rattle.spec_range.specs.Listed.{numberAt, LiesIn, Wanted, OneFound, NoneFound}
 use Rattle.law_range.proofs.Ranges.{paired-allowed}
 use Rattle.law_range.proofs.Number.{select-0, select-fills}
@@ -85,7 +85,8 @@ module _ (img key list : Bytes) (ok : check img ≡ sound)
 
   -- and the name's search ends there
   wanted-met : (i : ℕ) → Wanted img key key i → search g img key ≡ met i
-  wanted-met i w = ap (search g img) (sym (wanted-key i w)) ∙ check-searches img ok i (w .below) (wanted-taken img key key i w)
+  wanted-met i w =
+      ap (search g img) (sym (wanted-key i w)) ∙ check-searches img ok i (w .below) (wanted-taken img key key i w)
 
   -- ---- none
   no-slots : ((i : ℕ) → Wanted img key key i → ⊥) → length slots ≡ 0
@@ -105,12 +106,17 @@ module _ (img key list : Bytes) (ok : check img ≡ sound)
       }
 
   -- the name of zeros is no taken slot's key
+  zeros-refused : allZero key ≡ true → nameAllowed (g .K) key ≡ false
+  unfolding nameAllowed
+  zeros-refused z =
+      ap (λ (b : Bool). eqb (length key) (g .K) && not b) z ∙ and-false (eqb (length key) (g .K))
+
   missed-zeros : allZero key ≡ true → NoneFound img key list
   missed-zeros z =
       missed
       (λ i w. not-both (vacant g (slot g img i)) (unfold vacant in (ap allZero (wanted-key i w) ∙ z))
       (wanted-taken img key key i w))
-      (inr (lookup-7 img key (check-open img ok) (unfold nameAllowed in ap (λ (b : Bool). eqb (length key) (g .K) && not b) z ∙ and-false (eqb (length key) (g .K))), z))
+      (inr (lookup-7 img key (check-open img ok) (zeros-refused z), z))
 
   -- ---- a name that is not all zero
   module _ (z : allZero key ≡ false) where

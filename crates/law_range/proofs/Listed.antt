@@ -3,8 +3,8 @@
 --     numbered          number j of the list is slot j of those that are listed
 --     select-lists      the law
 -- Assumes nothing.
-use mathlib.Core.Path.{_≡_, refl, sym, ap, _∙_, subst}
-use Prim.Native.Nat.{ℕ, _+_, _*_, _^_, _≤_, _<_}
+use mathlib.Core.Path.{_≡_, sym, ap, _∙_, subst}
+use Prim.Native.Nat.{ℕ, _+_, _*_, _≤_, _<_}
 use native.Mathlib.Omega.{arith}
 use mathlib.Core.List.{List}
 use lib.ListN.{length, getD}
@@ -46,7 +46,8 @@ module _ (img lowest highest list : Bytes) (ok : selectNumber img lowest highest
       let w = selected-wanted img lowest highest j l in
       let z : 0 + 4 * j ≡ 4 * j = omega arith in
       ap (λ (p : ℕ). number (part filled p 4)) (sym z)
-      ∙ ap number (part-store-inside list 0 (slotNumbers slots) (4 * j) 4 (omega arith) (omega (arith, length-numbers slots)))
+      ∙ ap number
+      (part-store-inside list 0 (slotNumbers slots) (4 * j) 4 (omega arith) (omega (arith, length-numbers slots)))
       ∙ number-listed slots j l (omega (arith, w .below, high))
 
   lists : Lists img lowest highest list filled (length slots)

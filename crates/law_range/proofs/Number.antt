@@ -3,13 +3,13 @@
 --     Accepted, select-accepted      what a 0 says
 --     select-refused, select-fills       how many, and the list afterwards
 -- Assumes nothing.
-use mathlib.Core.Path.{_≡_, refl, sym, ap, _∙_}
+use mathlib.Core.Path.{_≡_, refl, sym, _∙_}
 use Prim.Native.Nat.{ℕ, _*_, _≤_}
 use native.Mathlib.Omega.{arith}
-use mathlib.Core.Bool.{Bool, true, false}
-use mathlib.Core.List.{List, [], _∷_}
+use mathlib.Core.Bool.{true, false}
+use mathlib.Core.List.{List, []}
 use lib.ListN.{length}
-use borrow.Author.Tests.{leb-true, le-leb, lt-leb}
+use borrow.Author.Tests.{leb-true}
 use Rattle.spec_file.specs.Bytes.{Bytes, store}
 use Rattle.spec_file.specs.Image.{layoutOf}
 use Rattle.spec_file.specs.Questions.{firstNo, openNumber}

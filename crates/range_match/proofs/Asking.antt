@@ -3,18 +3,18 @@
 --     Shown lowest highest key i           the bytes below position i lie in their ranges
 --     shown-start, shown-more, shown-all, shown-fails      the turns over the positions that are asked
 -- Assumes nothing.
-use mathlib.Core.Path.{_≡_, refl, sym, ap, _∙_}
-use Prim.Native.Nat.{ℕ, _+_, _-_, _≤_, _<_}
+use mathlib.Core.Path.{_≡_, ap, _∙_}
+use Prim.Native.Nat.{ℕ, _+_, _-_, _<_}
 use native.Mathlib.Omega.{arith}
-use mathlib.Core.Bool.{Bool, true, false, not, _&&_}
+use mathlib.Core.Bool.{Bool, true, _&&_}
 use lib.Dec.{eqb}
 use lib.ListN.{length, getD}
 use borrow.Author.Tests.{eqb-true}
 use Rattle.spec_file.specs.Bytes.{Bytes}
 use Rattle.law_file.proofs.Bytes.{AreBytes}
-use Rattle.law_file.proofs.Tests.{by-eq, by-le, and-left, and-right, was-yes, was-no}
-use Rattle.spec_range.specs.Ranges.{inRange, byteInRange, keyInRanges}
-use Rattle.law_range.proofs.Ranges.{LiesAt, byte-lies, lies-key, key-outside}
+use Rattle.law_file.proofs.Tests.{by-eq, by-le, and-left, and-right}
+use Rattle.spec_range.specs.Ranges.{byteInRange, keyInRanges}
+use Rattle.law_range.proofs.Ranges.{LiesAt, byte-lies, lies-key}
 use Rattle.range_match.specs.Positions.{Free, AskedIn}
 
 module _ (lowest highest : Bytes) where

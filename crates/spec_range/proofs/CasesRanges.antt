@@ -1,11 +1,11 @@
 -- Document 02, Job 13, "Plates that are half legible": cases, by computation. Every call's whole answer: its number,
 -- how many slots were found, and the list.
 --     range-definitions     unfolding it unfolds all that they compute with
---     plates                K = 2, N = 5: "A1" in slot 0, slot 1 empty with offset bytes, "B2" in slot 2, bytes 0 and 50
---                           in slot 3, "A3" in slot 4
+--     plates                K = 2, N = 5: "A1" in slot 0, slot 1 empty with offset bytes, "B2" in slot 2, bytes 0 and
+--                           50 in slot 3, "A3" in slot 4
 -- Assumes nothing.
-use Prim.Native.Nat.{ℕ, _-_}
-use mathlib.Core.List.{List, [], _∷_, _++_}
+use Prim.Native.Nat.{ℕ}
+use mathlib.Core.List.{[], _∷_}
 use mathlib.Core.Path.{_≡_, refl}
 use Rattle.spec_file.specs.Bytes.{Bytes, store, zeros}
 use Rattle.spec_file.specs.Limits.{freeField}

@@ -1,10 +1,8 @@
 -- The slots below i that are listed stand in the list, `found` of them. Assumes nothing.
-use Prim.Native.Nat.{ℕ, _-_, _+_, _*_, _≤_}
+use Prim.Native.Nat.{ℕ, _-_, _+_, _≤_}
 use native.Mathlib.Omega.{arith}
 use mathlib.Core.Path.{_≡_, sym, ap, _∙_, subst}
-use borrow.Author.Needs.{needs}
-use mathlib.Core.Bool.{Bool, true, false}
-use lib.ListN.{length}
+use mathlib.Core.Bool.{Bool}
 use Rattle.spec_file.specs.Bytes.{Bytes}
 use Rattle.spec_file.specs.Limits.{mostSlots}
 use Rattle.spec_file.specs.Image.{layoutOf}
@@ -75,12 +73,13 @@ write-u32-requires c κs =
     let R = c .before .before in
     let L = R .before .before .before in
     let A = start L .args in
-    filling-room (listed L) (A .shape .slots) (A .list .now) (L .loop .list) (L .loop .found) (L .loop .i) (L .loop .inv)
-    (start L .pre .2) (R .before .before .loop-test .taken) (answered R (c .before .if1 .taken))
+    filling-room (listed L) (A .shape .slots) (A .list .now) (L .loop .list) (L .loop .found) (L .loop .i)
+    (L .loop .inv) (start L .pre .2) (R .before .before .loop-test .taken) (answered R (c .before .if1 .taken))
 
 add-found : tie.Need-add-found Inv-loop μ-loop
 add-found c =
-    let L = c .before .before .before .before .before .before .before .before in
+    let R = c .before .before .before .before .before in
+    let L = R .before .before .before in
     omega (arith, few L, high L)
 
 add-i : tie.Need-add-i Inv-loop μ-loop

@@ -1,10 +1,8 @@
 -- Questions 1, 5, 6, 22 and 16, then the list is filled. Assumes nothing.
-use Prim.Native.Nat.{ℕ, _≤_}
 use native.Mathlib.Omega.{arith}
 use mathlib.Core.Path.{_≡_, sym, _∙_}
 use lib.ListN.{length}
 use borrow.Author.Needs.{needs}
-use Rattle.spec_file.specs.Image.{layoutOf}
 use Rattle.spec_range.specs.Ranges.{selectNumber}
 use Rattle.law_file.proofs.Opened.{opened-facts}
 use Rattle.header_layout.specs.Shapes.{Open}

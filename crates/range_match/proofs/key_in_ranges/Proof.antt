@@ -1,7 +1,7 @@
 -- The bytes below i lie in their ranges: those before the first that is asked are free. Assumes nothing.
-use Prim.Native.Nat.{ℕ, _-_, _≤_}
+use Prim.Native.Nat.{_-_, _≤_}
 use native.Mathlib.Omega.{arith}
-use mathlib.Core.Path.{_≡_, sym}
+use mathlib.Core.Path.{sym}
 use borrow.Author.Needs.{needs}
 use Rattle.law_file.proofs.Bytes.{AreBytes}
 use Rattle.law_file.proofs.Tests.{was-no, was-yes}
@@ -69,7 +69,8 @@ returns-2 c =
     let S = L .before .before .before .before in
     let A = S .args in
     sym
-    (shown-all (A .lowest .now) (A .highest .now) (A .key .now) (bytes (L .before .before .before)) (S .pre .0) (S .pre .1)
+    (shown-all (A .lowest .now) (A .highest .now) (A .key .now) (bytes (L .before .before .before)) (S .pre .0)
+    (S .pre .1)
     (λ p l. L .loop .inv .1 p (omega arith)))
 
 pub key-in-ranges-spec : {M : Type 1} → statement M
