@@ -76,9 +76,9 @@ fn fill_list(
 fn select_number(image: &[u8], lowest: &[u8], highest: &[u8], size: usize) -> u32
     ensures { λ r. ⌜ r ≡ selectNumber (now (image .entry)) (now (lowest .entry)) (now (highest .entry)) size ⌝ }
 {
-    let number = open_number(image);
-    if number != 0 {
-        return number;
+    let opened = open_number(image);
+    if opened != 0 {
+        return opened;
     }
     let shape = read_shape(image);
     if !ranges_allowed(shape.keylen, lowest, highest) {
