@@ -1,5 +1,7 @@
 // Select: lists the taken slots whose every key byte lies in its range. One pass over the table.
 use bytes_compare::all_zero;
+use bytes_words::answers::BAD_RANGES;
+use bytes_words::answers::SHORT_SLICE;
 use bytes_words::fields::write_u32;
 use header_layout::places::Slot;
 use header_layout::shape::Shape;
@@ -82,10 +84,10 @@ fn select_number(image: &[u8], lowest: &[u8], highest: &[u8], size: usize) -> u3
     }
     let shape = read_shape(image);
     if !ranges_allowed(shape.keylen, lowest, highest) {
-        return 22;
+        return BAD_RANGES;
     }
     if size < 4 * shape.slots {
-        return 16;
+        return SHORT_SLICE;
     }
     0
 }
