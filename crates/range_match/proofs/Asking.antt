@@ -1,21 +1,34 @@
 -- Positions that are free, one more or one less; a key of which some positions are asked.
+--     one-test                             a byte in its range, by one comparison
 --     free-which, free-more, free-less     the test of one position, and runs of free ones
 --     Shown lowest highest key i           the bytes below position i lie in their ranges
 --     shown-start, shown-more, shown-all, shown-fails      the turns over the positions that are asked
 -- Assumes nothing.
-use mathlib.Core.Path.{_≡_, ap, _∙_}
-use Prim.Native.Nat.{ℕ, _+_, _-_, _<_}
+use mathlib.Core.Path.{_≡_, sym, ap, _∙_}
+use Prim.Native.Nat.{ℕ, _+_, _-_, _%_, _≤_, _<_}
 use native.Mathlib.Omega.{arith}
 use mathlib.Core.Bool.{Bool, true, _&&_}
-use lib.Dec.{eqb}
+use lib.Dec.{leb, eqb}
 use lib.ListN.{length, getD}
-use borrow.Author.Tests.{eqb-true}
+use borrow.Author.Tests.{le-leb, lt-leb, eqb-true}
 use Rattle.spec_file.specs.Bytes.{Bytes}
 use Rattle.law_file.proofs.Bytes.{AreBytes}
-use Rattle.law_file.proofs.Tests.{by-eq, by-le, and-left, and-right}
-use Rattle.spec_range.specs.Ranges.{byteInRange, keyInRanges}
-use Rattle.law_range.proofs.Ranges.{LiesAt, byte-lies, lies-key}
+use Rattle.law_file.proofs.Tests.{by-bool, by-eq, by-le, and-left, and-right}
+use Rattle.spec_range.specs.Ranges.{inRange, byteInRange, keyInRanges}
+use Rattle.law_range.proofs.Ranges.{range-facts, facts-range, LiesAt, byte-lies, lies-key}
 use Rattle.range_match.specs.Positions.{Free, AskedIn}
+
+-- what is left of a byte above the lowest, wrapped, is at most what the range is wide
+pub one-test : (lowest highest byte r : ℕ) → lowest ≤ highest → highest < 256 → r < 256
+    → (r + lowest) % 256 ≡ byte → leb r (highest - lowest) ≡ inRange lowest highest byte
+one-test lowest highest byte r l h k e =
+    by-le r (highest - lowest)
+    (λ y. le-leb r (highest - lowest) y ∙ sym (facts-range lowest highest byte (omega arith) (omega arith)))
+    (λ n.
+    lt-leb r (highest - lowest) n
+    ∙ sym (by-bool (inRange lowest highest byte)
+    (λ y. absurd (omega (arith, range-facts lowest highest byte y)))
+    (λ z. z)))
 
 module _ (lowest highest : Bytes) where
   -- what the test of a position says

@@ -5,7 +5,7 @@ ghost use Prim.Native.Nat.{_≤_, _<_};
 ghost use lib.Dec.{eqb};
 ghost use lib.ListN.{length, getD};
 ghost use Rattle.spec_range.specs.Ranges.{inRange, keyInRanges, rangesAllowed};
-ghost use Rattle.range_match.specs.Positions.{Free, AskedIn};
+ghost use Rattle.range_match.specs.Positions.{Ordered, Free, AskedIn};
 
 // Question 22: as many lowest and highest bytes as a key has, and no lowest above its highest.
 pub fn ranges_allowed(size: usize, lowest: &[u8], highest: &[u8]) -> bool
@@ -74,7 +74,7 @@ fn first_asked(lowest: &[u8], highest: &[u8], end: usize) -> usize
 
 // The positions that are asked: found once, so that no key is looked at where every byte is taken.
 pub fn asked_positions(lowest: &[u8], highest: &[u8]) -> Asked
-    requires { ⌜ length (now lowest) ≡ length (now highest) ⌝ }
+    requires { ⌜ (length (now lowest) ≡ length (now highest)) × Ordered (now lowest) (now highest) ⌝ }
     ensures { λ r. ⌜ AskedIn (now (lowest .entry)) (now (highest .entry)) (r .first) (r .end) ⌝ }
 {
     let end = last_asked(lowest, highest);
@@ -82,11 +82,13 @@ pub fn asked_positions(lowest: &[u8], highest: &[u8]) -> Asked
     Asked { first, end }
 }
 
-// Whether a byte lies in its range.
+// Whether a byte lies in its range. One comparison and not two, of which each would be foretold wrongly at times: a byte
+// below the lowest wraps round, to more than the range is wide.
 fn in_range(lowest: u8, highest: u8, byte: u8) -> bool
+    requires { ⌜ lowest ≤ highest ⌝ }
     ensures { λ r. ⌜ r ≡ inRange lowest highest byte ⌝ }
 {
-    (lowest <= byte) & (byte <= highest)
+    std::num::wrapping_sub_u8(byte, lowest) <= highest - lowest
 }
 
 // Whether every byte of the key lies in its range; the first that does not ends it.

@@ -52,7 +52,7 @@ returns c =
 asked-positions-requires : tie.Need-asked-positions-requires
 asked-positions-requires c κs =
     let f = granted c .ranges in
-    f .lowest-length ∙ sym (f .highest-length)
+    (f .lowest-length ∙ sym (f .highest-length), λ p l. f .ordered p (omega (arith, f .lowest-length)))
 
 read-shape-requires : tie.Need-read-shape-requires
 read-shape-requires c κs = omega (arith, opened-facts _ (granted (c .before) .accepted) .size-low)

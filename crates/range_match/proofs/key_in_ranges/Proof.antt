@@ -24,7 +24,7 @@ loop-holds : tie.Need-loop-holds Inv-loop μ-loop
 loop-holds c =
     let S = c .before .before .before in
     let A = S .args in (
-      S .pre .0 .ordered,
+      S .pre .0 .begins,
       shown-start (A .lowest .now) (A .highest .now) (A .key .now) (bytes (c .before .before)) (S .pre .0),
     )
 
@@ -38,7 +38,10 @@ shared-slice-read-in-range-3 : tie.Need-shared-slice-read-in-range-3 Inv-loop μ
 shared-slice-read-in-range-3 c = search needs
 
 in-range-requires : tie.Need-in-range-requires Inv-loop μ-loop
-in-range-requires c κs = search needs
+in-range-requires c κs =
+    let L = c .before .before .before .before in
+    let S = L .before .before .before .before in
+    S .pre .0 .ranges (L .loop .i) (omega (arith, S .pre .0 .within, c .before .before .before .loop-test .taken))
 
 returns : tie.Need-returns Inv-loop μ-loop
 returns c =
