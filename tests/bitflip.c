@@ -1,5 +1,6 @@
 /* Flips each of the 65,536 bits of a small image, asks count and check, and
- * compares how often each answer comes with what the layout says.
+ * compares how often each answer comes with what the layout says; then selects
+ * names and compares how many slots are listed how often.
  * Ends with "N passed, 0 failed".
  *
  * The image: seed 0, K = 1, N = 4, L = 8192, so D = 4096.
@@ -45,7 +46,12 @@
  *      the next message; 0; 0; 1, 2 do not         68             4
  *   message bytes                                                48
  *   behind X                                                  32624
- *   together                             63  247  217     8   65001 */
+ *   together                             63  247  217     8   65001
+ *
+ * Names, of those that 5 and 6 leave: another K is 22, four times. In the range
+ * 0 to 255 three slots are listed; two when a key becomes 0, three times; four
+ * when slot 2 gets a key, eight times. In the range 2 to 2 it is one, slot 0;
+ * none when its key is another, eight times; two when slot 2 gets 2, once. */
 #include "calls.h"
 
 #include <stdio.h>
@@ -482,8 +488,49 @@ static void make_image(void)
     expect("whole image", "sound", ask(), SOUND);
 }
 
+/* ---- names in ranges ---- */
+
+enum { LISTED = N + 1, REFUSED = 23 };
+
+/* How often so many slots are listed, and how often each number comes. */
+static void count_selected(uint8_t lowest, uint8_t highest,
+                           unsigned long *listed, unsigned long *refused)
+{
+    uint8_t list[4 * 260]; /* for the N that 6 takes */
+
+    for (uint32_t bit = 0; bit < 8 * L; bit++) {
+        uint32_t found = 77, number;
+
+        image[bit / 8] ^= (uint8_t)(1u << bit % 8);
+        number = subject.select(image, L, &lowest, 1, &highest, 1, list,
+                                sizeof list, &found);
+        image[bit / 8] ^= (uint8_t)(1u << bit % 8);
+        refused[number < REFUSED ? number : 0]++;
+        if (number == 0)
+            listed[found < LISTED ? found : 0]++;
+        else if (found != 0)
+            refused[0]++;
+    }
+}
+
+static void select_names(const char *where, uint8_t lowest, uint8_t highest,
+                         const unsigned long *by_hand)
+{
+    unsigned long listed[LISTED] = { 0 }, refused[REFUSED] = { 0 };
+
+    count_selected(lowest, highest, listed, refused);
+    for (int i = 0; i < LISTED; i++)
+        expect(where, "slots listed", listed[i], by_hand[i]);
+    expect(where, "5", refused[5], 63);
+    expect(where, "6", refused[6], 247);
+    expect(where, "22", refused[22], 4);
+    expect(where, "accepted", refused[0], 8 * L - 63 - 247 - 4);
+}
+
 int main(void)
 {
+    static const unsigned long all[LISTED] = { 0, 0, 3, 65211, 8 };
+    static const unsigned long of_2[LISTED] = { 8, 65213, 1, 0, 0 };
     static const unsigned long by_hand[CLASSES] = { 63, 247, 217, 8, 65001 };
     unsigned long totals[CLASSES] = { 0 };
     uint32_t end = 0;
@@ -500,6 +547,8 @@ int main(void)
         printf("%s: %lu\n", class_name[c], totals[c]);
         expect("all bits", class_name[c], totals[c], by_hand[c]);
     }
+    select_names("names from 0 to 255", 0, 255, all);
+    select_names("the name 2", 2, 2, of_2);
     printf("%u passed, %u failed\n", passed, failed);
     return failed != 0;
 }

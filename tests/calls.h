@@ -47,6 +47,12 @@ struct calls {
                              const uint8_t *key, size_t key_len, uint8_t *out,
                              size_t out_len, uint32_t *bytes);
 
+    /* Names in ranges. */
+    uint32_t (*select)(const uint8_t *image, size_t image_len,
+                       const uint8_t *lowest, size_t lowest_len,
+                       const uint8_t *highest, size_t highest_len,
+                       uint8_t *list, size_t list_len, uint32_t *found);
+
     /* Those that write a file, with the list of what they changed. */
     uint32_t (*add_listed)(uint8_t *image, size_t image_len,
                            const uint8_t *key, size_t key_len,
@@ -83,7 +89,7 @@ struct calls {
     {                                                                       \
         p##_create, p##_add, p##_delete, p##_lookup, p##_count, p##_walk,   \
             p##_check, p##_add_slots, p##_delete_slots, p##_lookup_slots,   \
-            p##_compact, p##_store_columns, p##_read_columns,               \
+            p##_compact, p##_store_columns, p##_read_columns, p##_select,   \
             p##_add_listed, p##_delete_listed, p##_compact_listed,          \
             p##_add_journaled, p##_delete_journaled,                        \
             p##_compact_journaled, p##_recover,                             \

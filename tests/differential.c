@@ -32,8 +32,8 @@
  * images.c, reopened.c, damage.c and splice.c make arguments and images,
  * steps.c and lists.c calls of them; compare.c and book.c hold the answers
  * against each other; packed.c holds a compaction against its definition,
- * columns.c readings by column, changed.c, listed.c and journal.c a list and a
- * journal; and report.c says what differs. */
+ * columns.c readings by column, ranges.c names in ranges, changed.c, listed.c
+ * and journal.c a list and a journal; and report.c says what differs. */
 #define _DEFAULT_SOURCE
 
 #include "differential/parts.h"

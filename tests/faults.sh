@@ -698,6 +698,76 @@ misbook "the book: rows for columns" \
 misbook "the book: the width is not among the stored bytes" \
     'b->scratch[0] = (uint8_t)width;' 'b->scratch[0] = 0;'
 
+# Names in ranges.
+fault "the lowest byte is excluded" \
+    'if (key[i] < lowest[i] || key[i] > highest[i])' \
+    'if (key[i] <= lowest[i] || key[i] > highest[i])'
+fault "the highest byte is excluded" \
+    'if (key[i] < lowest[i] || key[i] > highest[i])' \
+    'if (key[i] < lowest[i] || key[i] >= highest[i])'
+fault "bytes are compared with a sign" \
+    'if (key[i] < lowest[i] || key[i] > highest[i])' \
+    'if ((int8_t)key[i] < (int8_t)lowest[i] || (int8_t)key[i] > (int8_t)highest[i])'
+fault "the last key byte may be any" \
+    'if (key[i] < lowest[i] || key[i] > highest[i])' \
+    'if ((key[i] < lowest[i] || key[i] > highest[i]) && i + 1 < v->key_size)'
+fault "empty slots are listed" \
+    'if (!is_taken(&v, slot) || !in_ranges(&v, slot, lowest, highest))' \
+    'if (!in_ranges(&v, slot, lowest, highest))'
+fault "the last slot is missed" \
+    'for (uint32_t slot = 0; slot < v.slots; slot++) {' \
+    'for (uint32_t slot = 0; slot + 1 < v.slots; slot++) {'
+fault "slots are listed falling" \
+    'for (uint32_t slot = 0; slot < v.slots; slot++) {' \
+    'for (uint32_t slot = v.slots; slot-- > 0;) {'
+fault "no more slots than C are listed" \
+    'for (uint32_t slot = 0; slot < v.slots; slot++) {' \
+    'for (uint32_t slot = 0; slot < v.slots && *found < v.count; slot++) {'
+fault "slot numbers stand the least significant byte first" \
+    'put32(list + SLOT_NUMBER * (size_t)*found, slot);' \
+    'put32(list + SLOT_NUMBER * (size_t)*found, __builtin_bswap32(slot));'
+fault "the list is written behind the answer" \
+    'if (!is_taken(&v, slot) || !in_ranges(&v, slot, lowest, highest))' \
+    'put32(list + SLOT_NUMBER * (size_t)*found, slot); if (!is_taken(&v, slot) || !in_ranges(&v, slot, lowest, highest))'
+fault "16 before 1" \
+    '*found = 0;' '*found = 0; if (list_len == 0) return 16;'
+fault "16 before 22" \
+    'if (!ranges_fit(&v, lowest, lowest_len, highest, highest_len))' \
+    'if (list_len < SLOT_NUMBER * (size_t)v.slots) return 16; if (!ranges_fit(&v, lowest, lowest_len, highest, highest_len))'
+fault "a list one byte too short is taken" \
+    'if (list_len < SLOT_NUMBER * (size_t)v.slots)' \
+    'if (list_len + 1 < SLOT_NUMBER * (size_t)v.slots)'
+fault "a list that N slot numbers fill is refused" \
+    'if (list_len < SLOT_NUMBER * (size_t)v.slots)' \
+    'if (list_len <= SLOT_NUMBER * (size_t)v.slots)'
+fault "a list for C slot numbers is taken" \
+    'if (list_len < SLOT_NUMBER * (size_t)v.slots)' \
+    'if (list_len < SLOT_NUMBER * (size_t)v.count)'
+fault "the length of select's list cut to 32 bits" \
+    'if (list_len < SLOT_NUMBER * (size_t)v.slots)' \
+    'if ((uint32_t)list_len < SLOT_NUMBER * (size_t)v.slots)'
+fault "equal bounds are refused" \
+    'if (lowest[i] > highest[i])' 'if (lowest[i] >= highest[i])'
+fault "a lowest byte above its highest is taken" \
+    'if (lowest[i] > highest[i])' 'if (0)'
+fault "more ranges than K are taken" \
+    'if (lowest_len != v->key_size || highest_len != v->key_size)' \
+    'if (lowest_len < v->key_size || highest_len < v->key_size)'
+fault "the highest bytes are not counted" \
+    'if (lowest_len != v->key_size || highest_len != v->key_size)' \
+    'if (lowest_len != v->key_size || highest_len == 0)'
+fault "the number of ranges cut to 32 bits" \
+    'highest_len != v->key_size)' '(uint32_t)highest_len != v->key_size)'
+fault "22 answers slots" \
+    'if (!ranges_fit(&v, lowest, lowest_len, highest, highest_len))' \
+    'if (!ranges_fit(&v, lowest, lowest_len, highest, highest_len) && (*found = v.count, 1))'
+misbook "the book: 22 not put" \
+    '!lies_in(lowest, lowest, highest, b->key_size))' '0)'
+misbook "the book: 16 of select not put" \
+    'if (list_len < 4 * (uint64_t)b->slots)' 'if (0)'
+misbook "the book: the highest byte is excluded" \
+    'highest[size] < name[size])' 'highest[size] <= name[size])'
+
 # The list of what changed.
 fault "runs with a byte between them are one pair" \
     'to = write_pair(to, at, end - at);' \

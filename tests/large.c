@@ -1,7 +1,8 @@
 /* Images and tables at the limits: 1 GiB, 1,048,576 slots, and messages of
  * 16,777,215 bytes, which only images beyond the old limit can hold; their
  * compaction; as many readings by column as fit one; what changed in the last
- * bytes, listed and by way of a journal; two points on one message among many.
+ * bytes, listed and by way of a journal; two points on one message among many;
+ * names in ranges among 1,048,576 slots.
  * Ends with "N passed, M failed". Takes some 2.2 GiB of memory. */
 #define _DEFAULT_SOURCE
 
@@ -595,6 +596,64 @@ static void test_meeting(void)
     expect_sound("sound", length);
 }
 
+/* ---- prisms and their epochs, in the largest table ---- */
+
+enum { PRISMS = 500, EPOCHS = 1000, PRISM = 4, PRISM_KEY = 8 };
+
+#define PRISMS_LENGTH (3073u * PAGE) /* 2,048 + 1,048,576 x 12 is 3,072.5 */
+
+/* P and three digits, then the epoch. */
+static void spell_prism(uint32_t prism, uint32_t epoch, uint8_t *key)
+{
+    key[0] = 'P';
+    for (int i = 3; i > 0; i--, prism /= 10)
+        key[i] = (uint8_t)('0' + prism % 10);
+    for (int i = 0; i < 4; i++)
+        key[PRISM + i] = (uint8_t)(epoch >> (24 - 8 * i));
+}
+
+static void add_prisms(void)
+{
+    uint8_t key[PRISM_KEY];
+    uint32_t done = 0;
+
+    created("prisms", PRISMS_LENGTH, PRISM_KEY, SLOTS_MAX, PRISMS_LENGTH);
+    for (uint32_t i = 0; i < PRISMS * EPOCHS; i++) {
+        spell_prism(i % PRISMS, 1 + i / PRISMS, key);
+        done += subject.add(image, PRISMS_LENGTH, key, PRISM_KEY, NULL, 0, 3) ==
+                0;
+    }
+    expect("  epochs added", done, PRISMS * EPOCHS);
+}
+
+/* Of P..7 at each epoch, fifty prisms: rising slots that hold such a name. */
+static void test_ranges(void)
+{
+    const uint8_t *lowest = (const uint8_t *)"P\0\0007\0\0\0\0";
+    const uint8_t *highest = (const uint8_t *)"P\377\3777\377\377\377\377";
+    uint8_t *slots = map(4 * SLOTS_MAX);
+    uint32_t found = 0, wrong = 0, last = 0;
+
+    add_prisms();
+    expect("a list a byte too short",
+           subject.select(image, PRISMS_LENGTH, lowest, PRISM_KEY, highest,
+                          PRISM_KEY, slots, 4 * SLOTS_MAX - 1, &found), 16);
+    expect("P..7", subject.select(image, PRISMS_LENGTH, lowest, PRISM_KEY,
+                                  highest, PRISM_KEY, slots, 4 * SLOTS_MAX,
+                                  &found), 0);
+    expect("  found", found, PRISMS / 10 * EPOCHS);
+    for (uint32_t i = 0; i < found; i++) {
+        uint32_t slot = number_at(slots + 4 * i);
+
+        wrong += slot >= SLOTS_MAX || (i > 0 && slot <= last) ||
+                 image[TABLE + 12 * (slot % SLOTS_MAX) + 3] != '7';
+        last = slot;
+    }
+    expect("  wrong slots", wrong, 0);
+    expect("  the list behind them", are_zero(slots + 4 * found, 4096), 1);
+    munmap(slots, 4 * SLOTS_MAX);
+}
+
 int main(void)
 {
     image = map((size_t)GIB + PAGE);
@@ -608,6 +667,7 @@ int main(void)
     test_full_table();
     test_many_messages();
     test_meeting();
+    test_ranges();
     printf("%u passed, %u failed\n", passed, failed);
     return failed == 0 ? 0 : 1;
 }

@@ -95,6 +95,9 @@ test_that "plain C whose recovery writes nothing: found" finds lost
 edited tests/reference/plain.c 's/^            records\[i \* width + c\] = .*$/            records[i * width + c] = stored[1 + i * width + c];/' "$work/rows.c"
 plain rows "$work/rows.c" || exit 2
 test_that "plain C that reads rows for columns: found" finds rows
+edited tests/reference/plain.c 's/^        if (key\[i\] < lowest\[i\] || /        if (key[i] <= lowest[i] || /' "$work/above.c"
+plain above "$work/above.c" || exit 2
+test_that "plain C that leaves out the lowest byte of a range: found" finds above
 wrong one-round 's/^    while (is_taken(v, slot)) {$/    for (uint32_t i = 1; i < v->slots \&\& is_taken(v, slot); i++) {/'
 wrong no-version-1.0.0 's/ image\[AT_LAST_VERSION\] <= NOTES_VERSION;/ image[AT_LAST_VERSION] - 1u <= 1;/'
 misread used-from-0 's/used: next - data/used: next/'

@@ -4,8 +4,9 @@
 //! Compared after every call: the number, C, the message's bytes, and the slots read, which are counted here on the image before the
 //! call and may not be more than its points and one; the list of what changed, byte for byte, and that a copy of the file before the
 //! call is the file after it once the listed stretches are copied; the journal, byte for byte, and that recovery makes the file after
-//! the call of the one before; the records that are read by column, and the lent slice behind them; after every list: that the file
-//! finds the book's points with the book's texts, that the walk shows each of them once, and that the check calls the file sound.
+//! the call of the one before; the records that are read by column, the slots listed for ranges of names, and the lent slice behind
+//! them; after every list: that the file finds the book's points with the book's texts, that the walk shows each of them once, and
+//! that the check calls the file sound.
 //! Status 0 if every list agreed.
 use std::collections::{BTreeMap, BTreeSet};
 
@@ -55,6 +56,17 @@ extern "C" {
         out: *mut u8,
         out_len: usize,
         bytes: *mut u32,
+    ) -> u32;
+    fn bhtf_select(
+        image: *const u8,
+        len: usize,
+        lowest: *const u8,
+        lowest_len: usize,
+        highest: *const u8,
+        highest_len: usize,
+        list: *mut u8,
+        list_len: usize,
+        found: *mut u32,
     ) -> u32;
     fn bhtf_add_listed(
         image: *mut u8,
@@ -201,6 +213,16 @@ impl File {
         let (out, out_len) = (out.as_mut_ptr(), out.len());
         let number = unsafe { bhtf_read_columns(image, len, key.as_ptr(), key.len(), out, out_len, &mut bytes) };
         (number, bytes)
+    }
+
+    /// Fills the list; number and slots found.
+    fn select(&self, lowest: &[u8], highest: &[u8], list: &mut [u8]) -> (u32, u32) {
+        let (image, len, mut found) = (self.0.as_ptr(), self.0.len(), !0);
+        let (low, low_len) = (lowest.as_ptr(), lowest.len());
+        let (high, high_len) = (highest.as_ptr(), highest.len());
+        let (list, list_len) = (list.as_mut_ptr(), list.len());
+        let number = unsafe { bhtf_select(image, len, low, low_len, high, high_len, list, list_len, &mut found) };
+        (number, found)
     }
 
     // The calls that write, with the list of what changed.
@@ -498,6 +520,18 @@ impl Book {
             }
             _ => (19, Vec::new()),
         }
+    }
+
+    /// The names in the ranges, if a list of so many bytes can hold the table's slots.
+    fn select(&self, lowest: &[u8], highest: &[u8], room: usize) -> (u32, Vec<Vec<u8>>) {
+        let within = |name: &Vec<u8>| (0..self.key_size).all(|i| (lowest[i]..=highest[i]).contains(&name[i]));
+        if lowest.len() != self.key_size || highest.len() != self.key_size || lowest.iter().zip(highest).any(|(l, h)| l > h) {
+            return (22, Vec::new());
+        }
+        if room < 4 * self.slots {
+            return (16, Vec::new());
+        }
+        (0, self.points.keys().filter(|name| within(name)).cloned().collect())
     }
 
     /// Only texts take space now, and as much as they are long.
@@ -853,6 +887,37 @@ fn read_columns(chance: &mut Chance, file: &File, book: &Book, key: &[u8]) -> (A
     ((got, answered(bytes, &out), None), (want, answered(records.len() as u32, &wanted), None))
 }
 
+/// Names in ranges around one, on file and book: how many, the names of the listed slots in the order of the names, whether the
+/// slots rise, and the list behind them.
+fn select(chance: &mut Chance, file: &File, book: &Book, key: &[u8]) -> (Answer, Answer) {
+    let (mut lowest, mut highest) = (key.to_vec(), key.to_vec());
+    for i in 0..key.len() {
+        let style = chance.below(4);
+        lowest[i] = if style < 2 { chance.below(key[i] as usize + 1) as u8 } else { key[i] };
+        highest[i] = if style > 0 { 255 - chance.below(256 - key[i] as usize) as u8 } else { key[i] };
+    }
+    if chance.one_in(20) {
+        std::mem::swap(&mut lowest, &mut highest);
+    }
+    let room = if chance.one_in(8) { chance.below(4 * book.slots) } else { 4 * book.slots + chance.below(5) };
+    let mut list = chance.bytes(room);
+    let before = list.clone();
+    let (want, mut names) = book.select(&lowest, &highest, room);
+    let (got, found) = file.select(&lowest, &highest, &mut list);
+    let end = list.len().min(4 * found as usize);
+    let slots: Vec<usize> = list[..end].chunks(4).map(|number| field(number, 0)).collect();
+    let name = |&slot: &usize| file.0[slot_at(&file.0, slot)..slot_offset(&file.0, slot)].to_vec();
+    let mut listed: Vec<Vec<u8>> = slots.iter().filter(|&&slot| slot < book.slots).map(name).collect();
+    let rises = slots.windows(2).all(|two| two[0] < two[1]);
+    listed.sort();
+    names.sort();
+    let kept = &before[before.len().min(4 * names.len())..];
+    let bytes = |found: u32, names: &[Vec<u8>], rises, rest: &[u8]| {
+        Some([&found.to_be_bytes()[..], &names.concat(), &[rises as u8], rest].concat())
+    };
+    ((got, bytes(found, &listed, rises, &list[end..]), None), (want, bytes(names.len() as u32, &names, true, kept), None))
+}
+
 /// One call on the file and on the book: its name and both answers.
 fn call(
     chance: &mut Chance,
@@ -867,7 +932,7 @@ fn call(
     // none where the call is refused before its search
     let searches = if book.named(key) { slots_read(&file.0, key) as u32 } else { 0 };
     let read = |n| counted.then_some(if n == 8 { 0 } else { searches });
-    match chance.below(24) {
+    match chance.below(25) {
         0..=9 => {
             let size = [0, 1, 5, 40, book.room][chance.below(5)];
             let length = chance.below(size + 1);
@@ -932,6 +997,10 @@ fn call(
         21 => {
             let (got, want) = read_columns(chance, file, book, key);
             ("read columns", got, want)
+        }
+        22 => {
+            let (got, want) = select(chance, file, book, key);
+            ("select", got, want)
         }
         _ => {
             let (number, points) = file.count();

@@ -1,6 +1,6 @@
-/* 01's proved table, 02's empty notes, compaction, readings by column, lists of
- * changes, journal and recovery, and the generator, run on the code under test.
- * Ends with "N passed, 0 failed".
+/* 01's proved table, 02's empty notes, compaction, readings by column, names in
+ * ranges, lists of changes, journal and recovery, and the generator, run on the
+ * code under test. Ends with "N passed, 0 failed".
  *
  * The hash is not an export; it is seen through home slots: on an empty table
  * an added key lands in slot hash mod N. 65536, 65535 and 65533 have no
@@ -533,6 +533,139 @@ static void columns_refused(void)
     expect_unread("1", 1, 0, 1);
 }
 
+/* ---- names in ranges ---- */
+
+#define NUMBERS 5
+
+static uint8_t numbers[4 * NUMBERS];
+
+/* Ranges written "lowest", "highest", as long as the given K. */
+static uint32_t select(const char *lowest, const char *highest, size_t k,
+                       size_t list_len, uint32_t *found)
+{
+    memset(numbers, 0xEE, sizeof numbers);
+    *found = 77;
+    return subject.select(image, length, (const uint8_t *)lowest, k,
+                          (const uint8_t *)highest, k, numbers, list_len,
+                          found);
+}
+
+/* The list is these slots, and the bytes behind them are as they were. */
+static void expect_selected(const char *what, const char *lowest,
+                            const char *highest, size_t k,
+                            const uint8_t *slots, uint32_t wanted)
+{
+    uint32_t found, wrong = 0;
+
+    expect(what, select(lowest, highest, k, sizeof numbers, &found), 0);
+    expect("  found", found, wanted);
+    for (uint32_t i = 0; i < sizeof numbers; i++)
+        wrong += numbers[i] != (i / 4 >= wanted ? 0xEE
+                                : i % 4 == 3   ? slots[i / 4]
+                                               : 0);
+    expect("  bytes of the list that are wrong", wrong, 0);
+}
+
+/* A refused call answers 0, and the list is as it was. */
+static void expect_unselected(const char *what, const char *lowest,
+                              const char *highest, size_t k, size_t list_len,
+                              uint32_t number)
+{
+    uint32_t found, wrong = 0;
+
+    expect(what, select(lowest, highest, k, list_len, &found), number);
+    expect("  none", found, 0);
+    for (uint32_t i = 0; i < sizeof numbers; i++)
+        wrong += numbers[i] != 0xEE;
+    expect("  bytes of the list that changed", wrong, 0);
+}
+
+/* Of the table above: bytes 2, 3, 32, 1 in slots 0 to 3, then, without byte 1,
+ * bytes 3 and 32 in slots 0 and 1, slot 2 empty, byte 2 in slot 3. */
+static void ranges_of_one(void)
+{
+    static const uint8_t names[] = { 1, 2, 3, 32 };
+    static const uint8_t all[] = { 0, 1, 2, 3 }, low[] = { 0, 1, 3 };
+    static const uint8_t third[] = { 2 }, most[] = { 1, 2 };
+
+    create(8192, 1, 4, 0);
+    for (int i = 0; i < 4; i++)
+        add(names[i], NULL, 0, 3);
+    expect_selected("all", "\0", "\377", 1, all, 4);
+    expect_selected("1 to 3", "\1", "\3", 1, low, 3);
+    expect_selected("32", "\40", "\40", 1, third, 1);
+    expect_selected("3 to 32", "\3", "\40", 1, most, 2);
+    expect_selected("4 to 31", "\4", "\37", 1, NULL, 0);
+    expect_selected("33", "\41", "\41", 1, NULL, 0);
+    delete(1);
+    expect_selected("all that are left", "\0", "\377", 1, low, 3);
+    expect_selected("zeros", "\0", "\0", 1, NULL, 0);
+    expect_selected("zeros and 1", "\0", "\1", 1, NULL, 0);
+}
+
+/* An opened image: A1, B1 and A9 in slots 0 to 2, slot 3 empty. */
+static void ranges_of_two(void)
+{
+    static const uint8_t first[] = { 0 }, ones[] = { 0, 1 }, as[] = { 0, 2 };
+
+    create(8192, 2, 4, 0);
+    memcpy(image + TABLE, "A1", 2);
+    memcpy(image + TABLE + 6, "B1", 2);
+    memcpy(image + TABLE + 12, "A9", 2);
+    expect_selected("A, 1 to 5", "A1", "A5", 2, first, 1);
+    expect_selected("A or B, 1", "A1", "B1", 2, ones, 2);
+    expect_selected("A, any", "A\0", "A\377", 2, as, 2);
+    expect_selected("B, 2 to 9", "B2", "B9", 2, NULL, 0);
+    expect_selected("C is 0 and yet", "A9", "A9", 2, as + 1, 1);
+}
+
+/* A name in the last slot of a table that ends with the image. */
+static void last_of_all(void)
+{
+    static uint8_t many[4 * 256];
+    uint32_t found = 77;
+
+    create(4096, 4, 256, 0);
+    expect("D", get32(AT_DATA), 4096);
+    memcpy(image + 4096 - 8, "last", 4);
+    expect("last slot", subject.select(image, length, (const uint8_t *)"l\0\0t",
+                                       4, (const uint8_t *)"l\377\377t", 4,
+                                       many, sizeof many, &found), 0);
+    expect("  found", found, 1);
+    expect("  slot", many[3], 255);
+    expect("  bytes before and behind", many[2] | many[4], 0);
+}
+
+/* 1, 5, 6, then 22, then 16: 16 bytes hold four slot numbers. */
+static void ranges_refused(void)
+{
+    const uint8_t one = 1;
+    uint32_t found = 77;
+
+    create(8192, 1, 4, 0);
+    add(1, NULL, 0, 3);
+    expect_unselected("a list of 15 bytes", "\0", "\377", 1, 15, 16);
+    expect_unselected("none", "\0", "\377", 1, 0, 16);
+    expect("a list of 16", select("\0", "\377", 1, 16, &found), 0);
+    expect("  found", found, 1);
+    expect_unselected("no range", "", "", 0, 20, 22);
+    expect_unselected("two", "\0\0", "\1\1", 2, 20, 22);
+    expect_unselected("2 to 1", "\2", "\1", 1, 20, 22);
+    expect_unselected("22 before 16", "\2", "\1", 1, 15, 22);
+    expect("one lowest, no highest",
+           subject.select(image, length, &one, 1, &one, 0, numbers,
+                          sizeof numbers, &found), 22);
+    expect("one highest, no lowest",
+           subject.select(image, length, &one, 0, &one, 1, numbers,
+                          sizeof numbers, &found), 22);
+    put32(AT_COUNT, 5);
+    expect_unselected("6 before 22", "\2", "\1", 1, 0, 6);
+    image[0]++;
+    expect_unselected("5 before 22", "\2", "\1", 1, 0, 5);
+    length--;
+    expect_unselected("1 before 22", "\2", "\1", 1, 0, 1);
+}
+
 /* ---- the list of what changed ---- */
 
 #define PAIRS 8
@@ -896,6 +1029,10 @@ int main(void)
     no_record();
     no_columns();
     columns_refused();
+    ranges_of_one();
+    ranges_of_two();
+    last_of_all();
+    ranges_refused();
     changes_listed();
     list_too_short();
     slices_too_short();

@@ -78,6 +78,14 @@ test_that "found: columns in place one byte too long" \
     'if (records_len <= old.length && old.length > 0) {'
 test_that "found: a slice one byte too short for the records" \
     finds '|| out_len < size)' '|| out_len + 1 < size)'
+test_that "found: empty slots where zeros lie in the ranges" \
+    finds 'r->takes_zeros = all_zero(low, KEY_MAX);' 'r->takes_zeros = 0;'
+test_that "found: a long name's rest not held against its ranges" \
+    finds 'if (inside(r, 1, rest) != 0xFFFF)' 'if (inside(r, 1, rest) == 77)'
+test_that "found: slots at the image's end passed over" \
+    finds 'select_last(v, &r, &to, slot);' '(void)slot, (void)select_last;'
+test_that "found: a list one byte too short for N slot numbers" \
+    finds 'if (list_len / 4 < v.slots)' 'if ((list_len + 1) / 4 < v.slots)'
 test_that "found: a run that begins inside a word" \
     finds 'while (at < length && old[at] == new[at])' \
     'while (at < length && at % 8 == 0 && old[at] == new[at])'

@@ -59,11 +59,16 @@
 #define OPTION_FIELDS OPTION(44)
 #define OPTION_LITTLE OPTION(45)
 #define OPTION_COLUMN OPTION(46)
+#define OPTION_ALIKE OPTION(47)
+#define OPTION_NEAR OPTION(48)
 #define OPTION_CSV OPTION(49)
 #define OPTION_TOLERANCE OPTION(50)
 #define OPTION_FINISH OPTION(56)
 #define OPTION_SET_ASIDE OPTION(57)
 #define OPTION_SPREADSHEET OPTION(58)
+
+/* Forms of rows, of which one at most is given. */
+#define OPTION_FORMS (OPTION_TSV | OPTION_JSON | OPTION_CSV)
 
 /* In place of the largest number of words: as many as there are. */
 enum { ANY_NUMBER = -1 };
@@ -81,6 +86,7 @@ struct options {
     uint64_t width;
     uint64_t column;
     const char *fields;
+    const char *near;
     const char *easting;
     const char *northing;
     const char *height;
@@ -134,6 +140,7 @@ int run_delete(const struct options *o);
 int run_get(const struct options *o);
 int run_count(const struct options *o);
 int run_list(const struct options *o);
+int run_find(const struct options *o);
 int run_store_records(const struct options *o);
 int run_read_records(const struct options *o);
 int run_check(const struct options *o);

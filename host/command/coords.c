@@ -88,6 +88,17 @@ int spot_show(struct buffer *shown, const struct spot *s)
            buffer_put_byte(shown, '\0');
 }
 
+void spot_at(struct spot *s, struct record *r, const struct buffer *copy,
+             uint32_t key_size, uint32_t slot)
+{
+    uint32_t place;
+
+    memset(s, 0, sizeof *s);
+    bhtf_walk(copy->bytes, copy->length, slot, &s->slot, &place);
+    read_name(s, copy->bytes + place, key_size);
+    read_text(s, r, copy, key_size);
+}
+
 /* ---- all points ---- */
 
 static size_t count_taken(const struct buffer *copy)

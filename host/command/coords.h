@@ -51,6 +51,11 @@ struct site {
  * or is beyond COORDINATE_MOST. */
 int coordinate_read(struct piece p, double *number);
 
+/* The point in a taken slot of an accepted image. The record is room that it
+ * uses. */
+void spot_at(struct spot *s, struct record *r, const struct buffer *copy,
+             uint32_t key_size, uint32_t slot);
+
 /* All points of a file: DONE, or the status after a complaint. */
 int site_open(struct site *s, const char *file, unsigned wait);
 

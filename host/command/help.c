@@ -203,6 +203,22 @@ static const struct command commands[] = {
       "      --little       numbers have their least significant byte first\n"
       "      --column N     one column alone, of bytes or of the fields; the\n"
       "                     others are not read\n" WAITING NAMES },
+    { "find", OPTION_ALIKE | OPTION_NEAR | OPTION_TSV | OPTION_JSON |
+              OPTION_CSV, 2, ANY_NUMBER, run_find,
+      "bhtf find FILE PATTERN.. [--alike] [--near E,N,R] [--tsv | --json | "
+      "--csv]\n"
+      "Points whose names fit a pattern, as of a target plate that is half\n"
+      "legible, with their texts. Status 1 where none does.\n"
+      "  ?        any byte               [3-8A]   one of these\n"
+      "  *        at the end: any bytes  [!3-8A]  none of these\n"
+      "  \\xHH     one byte               and every other byte itself\n"
+      "Put a pattern in quotes, so that the shell leaves it alone.\n"
+      "      --alike        try letters and digits that look alike too: 0 O D,\n"
+      "                     1 I 7, 8 B, 5 S and others; it says which\n"
+      "      --near E,N,R   only within R metres of a place, the nearest first\n"
+      "      --tsv          name, slot, easting, northing, height, note\n"
+      "      --json         one object a line\n"
+      "      --csv          as export writes it\n" QUIET WAITING },
     { "check", 0, 1, 1, run_check,
       "bhtf check FILE\n"
       "Says whether the file is sound: status 0 if so, 1 if not. If so it says "

@@ -42,6 +42,7 @@ extern "C" {
 #define BHTF_MESSAGE_HEADER 4u      /* bytes that a message takes besides */
 #define BHTF_PAIR 8u                /* bytes that a pair takes in a list */
 #define BHTF_WIDTH_MAX 64u          /* bytes in the widest record */
+#define BHTF_SLOT_NUMBER 4u         /* bytes that a slot takes in a list */
 #define BHTF_MARKED 0xA5u           /* the mark of a journal that is to be
                                        written to its image */
 
@@ -74,7 +75,8 @@ extern "C" {
                                   in mode 4, where it is asked after 8 */
 #define BHTF_UNSOUND 15u       /* compact: bhtf_check does not say sound */
 #define BHTF_SHORT_SLICE 16u   /* list shorter than BHTF_PAIR, or working slice
-                                  than the image; asked before 1 */
+                                  than the image; asked before 1. Select: list
+                                  too short for all slots; asked last */
 #define BHTF_BAD_JOURNAL 17u   /* journal too short for what would change, or
                                   its mark is not 0; asked last */
 #define BHTF_UNRECOVERABLE 18u /* recover: the journal is empty, or marked and
@@ -82,6 +84,8 @@ extern "C" {
 #define BHTF_BAD_RECORDS 19u   /* records: width not from 1 to
                                   BHTF_WIDTH_MAX, bytes not a multiple of it,
                                   or slice too short */
+#define BHTF_BAD_RANGES 22u    /* select: not as many ranges as a key has bytes,
+                                  or a lowest byte above its highest */
 
 /* ---- verdicts of bhtf_check ---- */
 
@@ -181,6 +185,27 @@ uint32_t bhtf_count(const uint8_t *image, size_t image_len, uint32_t *count);
  * with 0 and go on from *slot + 1 until *key_offset is 0. */
 uint32_t bhtf_walk(const uint8_t *image, size_t image_len, uint32_t from,
                    uint32_t *slot, uint32_t *key_offset);
+
+/* Lists the keys that a half legible name may be: every slot with a key whose
+ * every byte lies in its range, from lowest[i] to highest[i], both included.
+ *   lowest, highest  as many bytes as a key has. A byte that can be read has
+ *                    itself for both, one that cannot has 0 and 255.
+ *   list             at least BHTF_SLOT_NUMBER bytes for each slot of the
+ *                    table (the number at offset 16 of the image). It takes
+ *                    from its start the slots' numbers, each once, rising, 4
+ *                    bytes each, the most significant byte first. The rest of
+ *                    the list stays as it was.
+ *   *found           how many there are; 0 when refused.
+ * The key of slot i stands at 2,048 + i * (key size + 4) of the image. With
+ * lowest and highest equal everywhere a sound image has at most one such key,
+ * that which bhtf_lookup finds. An empty slot is never listed.
+ * Refused with 1, 5 and 6, then with 22 and 16. Time: one pass over the table;
+ * of a key no byte is read after the first that lies outside its range, and
+ * none before the first or after the last range that is not 0 to 255. */
+uint32_t bhtf_select(const uint8_t *image, size_t image_len,
+                     const uint8_t *lowest, size_t lowest_len,
+                     const uint8_t *highest, size_t highest_len, uint8_t *list,
+                     size_t list_len, uint32_t *found);
 
 /* Says whether the image is sound: *verdict is BHTF_SOUND when every key is
  * found by its search in its own slot, every message is whole, none shares a

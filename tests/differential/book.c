@@ -48,6 +48,28 @@ static void compare_read(const struct call *c, const struct answer *a)
         fail("the records are not the book's");
 }
 
+/* As many as the book has in the ranges, and each of them a point of it. */
+static void compare_select(const struct call *c, const struct answer *a)
+{
+    const struct entry *e;
+    uint32_t found;
+    uint32_t number = book_select(&list.book, c->lowest, c->lowest_len,
+                                  c->highest, c->highest_len, c->list_len,
+                                  &found);
+
+    same_as_book("answer", a->number, number);
+    same_as_book("points in the ranges", a->found, found);
+    for (uint32_t i = 0; i < a->found; i++) {
+        size_t slot = get32(filled.library + 4 * (size_t)i);
+
+        if (slot >= list.slots ||
+            book_lookup(&list.book,
+                        lent.library + 2048 + slot * (list.key_size + 4),
+                        list.key_size, &e) != 0)
+            fail("a listed slot's name is not in the book");
+    }
+}
+
 static int asks_16(const struct call *c)
 {
     if (c->form == LISTED)
@@ -93,6 +115,9 @@ void compare_book(const struct call *c, const struct answer *a)
         break;
     case READ:
         compare_read(c, a);
+        break;
+    case SELECT:
+        compare_select(c, a);
         break;
     case LOOKUP:
         compare_lookup(c, a);

@@ -79,7 +79,8 @@ static void perform_journaled(const struct calls *f, uint8_t *s,
 static struct answer perform(const struct calls *f, uint8_t *image,
                              const struct call *c)
 {
-    struct answer a = { 0, UNSET, UNSET, UNSET, UNSET, UNSET };
+    struct answer a = { 0, UNSET, UNSET, UNSET, UNSET, UNSET,
+                        UNSET };
     uint8_t *s = slice(image, c->image_len);
     size_t n = c->image_len;
 
@@ -127,6 +128,12 @@ static struct answer perform(const struct calls *f, uint8_t *image,
                                    f == &plain ? filled.plain
                                                : filled.library,
                                    c->list_len, &a.bytes);
+        break;
+    case SELECT:
+        a.number = f->select(s, n, c->lowest, c->lowest_len, c->highest,
+                             c->highest_len,
+                             f == &plain ? filled.plain : filled.library,
+                             c->list_len, &a.found);
         break;
     case RECOVER:
         a.number = f->recover(s, n,
@@ -188,6 +195,8 @@ static void compare_answers(const struct call *c, const struct answer *a,
         same("count", a->first, b->first);
     if (c->kind == READ)
         same("bytes of records", a->bytes, b->bytes);
+    if (c->kind == SELECT)
+        same("slots in the ranges", a->found, b->found);
     if (c->kind == WALK) {
         same("key offset", a->second, b->second);
         if (run.strict || b->second != 0)
@@ -258,6 +267,8 @@ static void lend_slices(void)
         lend_journaled();
     if (list.now.kind == READ)
         lend_filled();
+    if (list.now.kind == SELECT)
+        lend_selected();
     if (list.now.kind == RECOVER && !list.now.again)
         lend_journal();
 }
@@ -274,6 +285,8 @@ static void compare_slices(const struct call *c, const struct answer *a)
         compare_filled(c, a);
     if (c->kind == READ)
         store_again(c, a);
+    if (c->kind == SELECT)
+        compare_selected(c, a);
     if (c->kind == RECOVER)
         compare_recovered(c, a);
 }

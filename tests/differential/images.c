@@ -142,18 +142,33 @@ static void make_slots(void)
     poke32(20, one_in(3) ? below(list.slots + 1) : taken);
 }
 
+/* K and N of a table that ends with a page. */
+static void choose_brim(uint32_t *k, uint32_t *n)
+{
+    static const uint32_t slots[33] = {
+        [4] = 256, [12] = 128, [20] = 256, [28] = 64
+    };
+
+    *k = 4 + 8 * below(4);
+    *n = slots[*k];
+}
+
+/* Now and then the image ends with its table. */
 void made_up_image(void)
 {
+    int brim = one_in(16);
     uint32_t data;
     uint32_t k, n;
 
     list.what = "made-up image";
     choose_shape(&k, &n);
+    if (brim)
+        choose_brim(&k, &n);
     list.key_size = k;
     list.slots = n == 0 || n > 500 ? 1 + below(8) : n;
     choose_names();
     data = data_offset(list.key_size, list.slots);
-    set_length(choose_image_length(data));
+    set_length(brim ? data : choose_image_length(data));
     if (one_in(2))
         memset(lent.library, 0, lent.length);
     share_image();

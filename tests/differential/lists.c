@@ -43,6 +43,8 @@ static void close_list(void)
     }
     step_plain(COUNT);
     step_plain(CHECK);
+    if (!run.old_calls)
+        step_select();
     walk_all();
 }
 

@@ -19,6 +19,8 @@ struct slice filled;
 uint8_t *data_start;
 size_t data_size;
 uint8_t *key_end;
+uint8_t *lowest_end;
+uint8_t *highest_end;
 
 static void *map(size_t size, int flags)
 {
@@ -88,6 +90,8 @@ void map_all(void)
     lent.before = map(ROOM, MAP_NORESERVE);
     lent.scratch = map(ROOM, MAP_NORESERVE);
     key_end = map_before_wall(PAGE);
+    lowest_end = map_before_wall(PAGE);
+    highest_end = map_before_wall(PAGE);
     map_data();
     map_slice(&work);
     map_slice(&listing);

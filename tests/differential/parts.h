@@ -21,9 +21,9 @@
 /* Those up to compaction, storing columns and recovery write the image. Those
  * before recovery are calls on a file, those up to the check document 01's. */
 enum kind { CREATE, ADD, DELETE, COMPACT, LOOKUP, COUNT, WALK, CHECK, STORE,
-            READ, RECOVER, KINDS };
+            READ, SELECT, RECOVER, KINDS };
 
-#define NUMBERS 20 /* answers from 0 to 19 */
+#define NUMBERS 23 /* answers from 0 to 22 */
 
 extern const char *const kind_name[KINDS];
 
@@ -40,6 +40,10 @@ struct call {
     size_t data_len;
     uint32_t mode;
     uint32_t width;    /* of records */
+    const uint8_t *lowest; /* bytes of names */
+    size_t lowest_len;
+    const uint8_t *highest;
+    size_t highest_len;
     uint32_t key_size; /* create */
     uint32_t slots;
     uint32_t seed;
@@ -60,6 +64,7 @@ struct answer {
     uint32_t read;  /* slots, of a counted call */
     uint32_t pairs; /* of a listed call */
     uint32_t bytes; /* of the records read */
+    uint32_t found; /* slots in the ranges */
 };
 
 /* ---- the state of a run (differential.c) ---- */
@@ -142,6 +147,8 @@ extern struct slice filled; /* by a call that reads */
 extern uint8_t *data_start;
 extern size_t data_size;
 extern uint8_t *key_end;
+extern uint8_t *lowest_end;
+extern uint8_t *highest_end;
 
 void map_all(void);
 
@@ -344,6 +351,14 @@ void lend_filled(void);
 void compare_stored(const struct call *c);
 void compare_filled(const struct call *c, const struct answer *a);
 void store_again(const struct call *c, const struct answer *a);
+
+/* ---- names in ranges (ranges.c) ---- */
+
+void step_select(void);
+
+/* Lends list.now ranges and a list, as long as they may be or not. */
+void lend_selected(void);
+void compare_selected(const struct call *c, const struct answer *a);
 
 /* ---- journal and recovery (journal.c) ---- */
 

@@ -10,14 +10,21 @@
 
 const char *const kind_name[KINDS] = {
     "create", "add", "delete", "compact", "lookup", "count", "walk", "check",
-    "store", "read", "recover",
+    "store", "read", "select", "recover",
 };
 
-static void print_key(const struct call *c)
+static void print_bytes(const char *what, const uint8_t *bytes, size_t length)
 {
-    printf(", key of %zu bytes", c->key_len);
-    for (size_t i = 0; i < c->key_len && i < 33; i++)
-        printf("%s%02x", i == 0 ? " " : "", c->key[i]);
+    printf(", %s of %zu bytes", what, length);
+    for (size_t i = 0; i < length && i < 33; i++)
+        printf("%s%02x", i == 0 ? " " : "", bytes[i]);
+}
+
+static void print_ranges(const struct call *c)
+{
+    print_bytes("lowest", c->lowest, c->lowest_len);
+    print_bytes("highest", c->highest, c->highest_len);
+    printf(", list of %zu bytes", c->list_len);
 }
 
 static void print_call(const struct call *c)
@@ -27,11 +34,13 @@ static void print_call(const struct call *c)
         printf(", K %u, N %u, seed %u", c->key_size, c->slots, c->seed);
     if (c->kind == ADD || c->kind == DELETE || c->kind == LOOKUP ||
         c->kind == STORE || c->kind == READ)
-        print_key(c);
+        print_bytes("key", c->key, c->key_len);
     if (c->kind == STORE)
         printf(", records of %zu bytes, width %u", c->data_len, c->width);
     if (c->kind == READ)
         printf(", slice of %zu bytes", c->list_len);
+    if (c->kind == SELECT)
+        print_ranges(c);
     if (c->kind == ADD)
         printf(", data of %zu bytes, mode %u", c->data_len, c->mode);
     if (c->kind == WALK)

@@ -142,6 +142,8 @@ void step(const uint8_t *weights)
         step_recover();
     else if (!run.old_calls && one_in(10))
         step_columns();
+    else if (!run.old_calls && one_in(20))
+        step_select();
     else if (style < weights[ADD])
         step_add();
     else if (style < weights[DELETE])

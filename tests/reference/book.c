@@ -288,6 +288,33 @@ uint32_t book_read_columns(struct book *b, const uint8_t *key, size_t key_len,
     return 0;
 }
 
+/* ---- names in ranges ---- */
+
+static int lies_in(const uint8_t *name, const uint8_t *lowest,
+                   const uint8_t *highest, uint32_t size)
+{
+    while (size-- > 0)
+        if (name[size] < lowest[size] || highest[size] < name[size])
+            return 0;
+    return 1;
+}
+
+uint32_t book_select(const struct book *b, const uint8_t *lowest,
+                     size_t lowest_len, const uint8_t *highest,
+                     size_t highest_len, size_t list_len, uint32_t *found)
+{
+    *found = 0;
+    if (lowest_len != b->key_size || highest_len != b->key_size ||
+        !lies_in(lowest, lowest, highest, b->key_size))
+        return 22;
+    if (list_len < 4 * (uint64_t)b->slots)
+        return 16;
+    for (uint32_t i = 0; i < b->count; i++)
+        *found += (uint32_t)lies_in(b->entries[i].name, lowest, highest,
+                                    b->key_size);
+    return 0;
+}
+
 /* Held becomes the text's length, only a text that is not none has an offset,
  * and U is what these take. */
 void book_compact(struct book *b)

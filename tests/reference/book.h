@@ -56,6 +56,11 @@ uint32_t book_read_columns(struct book *b, const uint8_t *key, size_t key_len,
                            size_t room, const uint8_t **records,
                            uint32_t *bytes);
 
+/* How many names lie in the ranges, 0 when refused; 22 and 16 as the file. */
+uint32_t book_select(const struct book *b, const uint8_t *lowest,
+                     size_t lowest_len, const uint8_t *highest,
+                     size_t highest_len, size_t list_len, uint32_t *found);
+
 /* The step of compaction. */
 void book_compact(struct book *b);
 

@@ -21,6 +21,7 @@
 #define PAIR_COUNT 4u /* bytes of it, at a journal's start */
 #define MARK 0xA5u
 #define WIDTH_MAX 64u /* bytes of a record */
+#define SLOT_NUMBER 4u /* bytes of it, in a list */
 #define SCRAMBLE 512u
 #define TABLE 2048u
 #define FIRST_CHARACTER 32u
@@ -958,6 +959,56 @@ uint32_t plain_read_columns(const uint8_t *image, size_t image_len,
         return 19;
     to_records(out, image + offset, size, width);
     *bytes = size;
+    return ACCEPTED;
+}
+
+/* ---- names in ranges ---- */
+
+/* Question 22: as many ranges as a key has bytes, none turned round. */
+static int ranges_fit(const struct view *v, const uint8_t *lowest,
+                      size_t lowest_len, const uint8_t *highest,
+                      size_t highest_len)
+{
+    if (lowest_len != v->key_size || highest_len != v->key_size)
+        return 0;
+    for (uint32_t i = 0; i < v->key_size; i++)
+        if (lowest[i] > highest[i])
+            return 0;
+    return 1;
+}
+
+static int in_ranges(const struct view *v, uint32_t slot,
+                     const uint8_t *lowest, const uint8_t *highest)
+{
+    const uint8_t *key = key_in(v, slot);
+
+    for (uint32_t i = 0; i < v->key_size; i++)
+        if (key[i] < lowest[i] || key[i] > highest[i])
+            return 0;
+    return 1;
+}
+
+uint32_t plain_select(const uint8_t *image, size_t image_len,
+                      const uint8_t *lowest, size_t lowest_len,
+                      const uint8_t *highest, size_t highest_len,
+                      uint8_t *list, size_t list_len, uint32_t *found)
+{
+    struct view v;
+    uint32_t answer = open_image(&v, image, image_len);
+
+    *found = 0;
+    if (answer != ACCEPTED)
+        return answer;
+    if (!ranges_fit(&v, lowest, lowest_len, highest, highest_len))
+        return 22;
+    if (list_len < SLOT_NUMBER * (size_t)v.slots)
+        return 16;
+    for (uint32_t slot = 0; slot < v.slots; slot++) {
+        if (!is_taken(&v, slot) || !in_ranges(&v, slot, lowest, highest))
+            continue;
+        put32(list + SLOT_NUMBER * (size_t)*found, slot);
+        ++*found;
+    }
     return ACCEPTED;
 }
 

@@ -66,6 +66,15 @@ uint32_t plain_read_columns(const uint8_t *image, size_t image_len,
                             const uint8_t *key, size_t key_len, uint8_t *out,
                             size_t out_len, uint32_t *bytes);
 
+/* The taken slots whose every key byte lies between the lowest and the highest
+ * of its position, rising, 4 bytes each; how many, 0 when refused. 22 for ranges
+ * that are not K or a lowest above its highest, then 16 for a list that cannot
+ * hold N slot numbers. */
+uint32_t plain_select(const uint8_t *image, size_t image_len,
+                      const uint8_t *lowest, size_t lowest_len,
+                      const uint8_t *highest, size_t highest_len,
+                      uint8_t *list, size_t list_len, uint32_t *found);
+
 /* The same calls, which also list what they changed: pairs of offset and
  * length, one for each run of bytes whose value changed, or the pair 0, L if
  * these do not fit; how many pairs, 0 when refused. 16 for a list below 8

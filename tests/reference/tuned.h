@@ -52,6 +52,12 @@ uint32_t tuned_read_columns(const uint8_t *image, size_t image_len,
                             const uint8_t *key, size_t key_len, uint8_t *out,
                             size_t out_len, uint32_t *bytes);
 
+/* Names in ranges. */
+uint32_t tuned_select(const uint8_t *image, size_t image_len,
+                      const uint8_t *lowest, size_t lowest_len,
+                      const uint8_t *highest, size_t highest_len,
+                      uint8_t *list, size_t list_len, uint32_t *found);
+
 /* The same calls, which also list what they changed. */
 uint32_t tuned_add_listed(uint8_t *image, size_t image_len,
                           const uint8_t *key, size_t key_len,

@@ -32,6 +32,7 @@ pub mod Compacting  -- compaction keeps the relation
 pub mod Forms  -- each step, in its form, keeps the relation
 pub mod Theorem  -- the theorem
 pub mod Reached  -- files that calls have reached
+pub mod Selecting  -- names in ranges, beside the book's
 pub mod Steps  -- what a call does to the book
 pub mod Numbers  -- which numbers a step of the book may answer
 pub mod Users  -- corollaries in the words of a user

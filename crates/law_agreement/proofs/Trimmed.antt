@@ -1,6 +1,6 @@
--- The book's entries after a compaction, and the space that their texts take.
+-- The book's entries after a compaction, and sums over entries.
 --     find-trimmed, distinct-trimmed, length-trimmed      the entries by name, and how many
---     space-same      books that say the same of every name have texts of the same space
+--     sum-same      books that say the same of every name have the same sums; so space-same, of their texts' space
 -- Assumes nothing.
 use mathlib.Core.Path.{_≡_, refl, sym, ap, ap₂, _∙_}
 use Prim.Native.Nat.{ℕ, suc, _+_}
@@ -49,46 +49,53 @@ unfolding trimmedAll
 length-trimmed [] = refl
 length-trimmed (e ∷ es) = ap suc (length-trimmed es)
 
--- ---- the space
+-- ---- sums over entries
 
-module _ (head : ℕ) where
+module _ (w : Entry → ℕ) (sum : List Entry → ℕ) (nil : sum [] ≡ 0)
+    (more : (e : Entry) (es : List Entry) → sum (e ∷ es) ≡ w e + sum es) where
   -- one entry and the others
-  space-without : (name : Bytes) (es : List Entry) (x : Entry) → find name es ≡ some x
-      → spaceForAll head es ≡ spaceFor head (x .text) + spaceForAll head (without name es)
-  unfolding spaceForAll
-  space-without name [] x h = absurd (Option·none-ne-some x (sym (find-none name) ∙ h))
-  space-without name (e ∷ es) x h =
-      let ih : find name es ≡ some x
-      → spaceForAll head es ≡ spaceFor head (x .text) + spaceForAll head (without name es) = space-without name es x in
+  sum-without : (name : Bytes) (es : List Entry) (x : Entry) → find name es ≡ some x
+      → sum es ≡ w x + sum (without name es)
+  sum-without name [] x h = absurd (Option·none-ne-some x (sym (find-none name) ∙ h))
+  sum-without name (e ∷ es) x h =
+      let ih : find name es ≡ some x → sum es ≡ w x + sum (without name es) = sum-without name es x in
       by-same (e .name) name
       (λ q.
-      ap₂ (λ (y : Entry) (l : List Entry). spaceFor head (y .text) + spaceForAll head l)
+      more e es
+      ∙ ap₂ (λ (y : Entry) (l : List Entry). w y + sum l)
       (Option·some-injective e x (sym (find-here e es name q) ∙ h)) (sym (without-here e es name q)))
       (λ n. omega (
         arith,
+        more e es,
         ih (sym (find-on e es name n) ∙ h),
-        ap (spaceForAll head) (without-on e es name n),
+        ap sum (without-on e es name n),
+        more e (without name es),
       ))
 
-  -- "two books that say the same of every name have the same sums"
-  pub space-same : (es fs : List Entry) → Distinct es → Distinct fs → ((name : Bytes) → find name es ≡ find name fs)
-      → spaceForAll head es ≡ spaceForAll head fs
-  unfolding spaceForAll
-  space-same [] [] d c same = refl
-  space-same [] (f ∷ fs) d c same =
+  -- two books that say the same of every name have the same sums
+  pub sum-same : (es fs : List Entry) → Distinct es → Distinct fs → ((name : Bytes) → find name es ≡ find name fs)
+      → sum es ≡ sum fs
+  sum-same [] [] d c same = refl
+  sum-same [] (f ∷ fs) d c same =
       absurd (Option·none-ne-some f
       (sym (find-none (f .name)) ∙ same (f .name) ∙ find-here f fs (f .name) refl))
-  space-same (e ∷ es) fs d c same =
+  sum-same (e ∷ es) fs d c same =
       let name = e .name in
       let there : find name fs ≡ some e = sym (same name) ∙ find-here e es name refl in
-      let ih : ((n : Bytes) → find n es ≡ find n (without name fs))
-      → spaceForAll head es ≡ spaceForAll head (without name fs)
-      = space-same es (without name fs) (d .1) (distinct-without name fs c) in
-      ap (λ (n : ℕ). spaceFor head (e .text) + n)
+      let ih : ((n : Bytes) → find n es ≡ find n (without name fs)) → sum es ≡ sum (without name fs)
+      = sum-same es (without name fs) (d .1) (distinct-without name fs c) in
+      more e es
+      ∙ ap (λ (n : ℕ). w e + n)
       (ih (λ n. by-same n name
       (λ q.
       ap (λ (x : Bytes). find x es) q ∙ d .0
       ∙ sym (ap (λ (x : Bytes). find x (without name fs)) q ∙ find-without-same name fs c))
       (λ q.
       sym (find-on e es n (λ r. q (sym r))) ∙ same n ∙ sym (find-without-other name n fs q))))
-      ∙ sym (space-without name fs e there)
+      ∙ sym (sum-without name fs e there)
+
+-- the space of the texts is one
+pub space-same : (head : ℕ) (es fs : List Entry) → Distinct es → Distinct fs
+    → ((name : Bytes) → find name es ≡ find name fs) → spaceForAll head es ≡ spaceForAll head fs
+unfolding spaceForAll
+space-same head = sum-same (λ e. spaceFor head (e .text)) (spaceForAll head) refl (λ e es. refl)

@@ -17,6 +17,7 @@ ghost use Rattle.call_walk.specs.Stops.{stopSlot};
 ghost use Rattle.station.specs.Codes.{verdictCode, verdictSlot};
 ghost use Rattle.spec_file.specs.Calls.{create, add, delete, lookup, lookupStart, lookupLength, count, addRead, deleteRead, lookupRead};
 ghost use Rattle.spec_compaction.specs.Compact.{compact};
+ghost use Rattle.spec_range.specs.Ranges.{select};
 ghost use Rattle.spec_changes.specs.Journal.{Disk, recoverNumber, recovered};
 ghost use Rattle.spec_changes.specs.Lists.{Lists};
 ghost use Rattle.journal_recover.specs.Updates.{Updates};
@@ -163,6 +164,26 @@ pub extern "C" fn bhtf_walk(image: &[u8], from: u32, slot: &mut u32, place: &mut
         }
         Stop::End => 0,
     }
+}
+
+// Lists the taken slots whose every key byte lies in its range, as numbers of 4 bytes; `found` is how many they are.
+#[no_mangle]
+pub extern "C" fn bhtf_select(
+    image: &[u8],
+    lowest: &[u8],
+    highest: &[u8],
+    list: &mut [u8],
+    found: &mut u32,
+) -> u32
+    ensures number { λ r. ⌜ r ≡ select (now (image .entry)) (now (lowest .entry)) (now (highest .entry))
+        (now (list .entry)) .number ⌝ }
+    ensures found { λ _. ⌜ now (found .exit) ≡ select (now (image .entry)) (now (lowest .entry))
+        (now (highest .entry)) (now (list .entry)) .found ⌝ }
+    ensures list { λ _. ⌜ now (list .exit) ≡ select (now (image .entry)) (now (lowest .entry))
+        (now (highest .entry)) (now (list .entry)) .list ⌝ }
+    ensures image { λ _. ⌜ now (image .exit) ≡ now (image .entry) ⌝ }
+{
+    call_select::select(image, lowest, highest, list, found)
 }
 
 // Whether the image is sound: verdict 0 sound, 1 the slot fails, 2 the count fails. The slot is 0 but for verdict 1.

@@ -1,0 +1,1 @@
+// Laws of the definitions in crates/spec_range, of any image bytes. It holds no code.
