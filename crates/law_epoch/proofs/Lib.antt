@@ -1,0 +1,1 @@
+pub mod Choice  -- which slot is chosen, and one slot looked at
