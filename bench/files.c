@@ -5,7 +5,7 @@
  * in microseconds, the middle of five turns.
  *
  * tdb and LMDB as bench/tdb.c and bench/lmdb.c open them, but that they sync. */
-#include "../host/bhtf_file.h"
+#include "../host/include/bhtf_file.h"
 
 #include <fcntl.h>
 #include <lmdb.h>

@@ -9,7 +9,7 @@
  * the plain one (median over the samples), and the listed form's nanoseconds.
  * Ends with "N passed, M failed". */
 #define _DEFAULT_SOURCE
-#include "../host/bhtf.h"
+#include "../host/include/bhtf.h"
 #include "samples.h"
 
 #include <stdio.h>

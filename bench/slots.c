@@ -6,7 +6,7 @@
  * call answers what it should not, or reads more than N slots or C + 1.
  *
  * slots SEED K N TABLES */
-#include "../host/bhtf.h"
+#include "../host/include/bhtf.h"
 #include "inputs.h"
 
 #include <stdio.h>

@@ -84,7 +84,7 @@ header_compiles() {
   echo '#include "bhtf.h"
 int main(void) { return bhtf_message(BHTF_ABSENT) == 0; }' >"$work/uses$1"
   # shellcheck disable=SC2086
-  "${@:2}" -Wall -Wextra -Werror -pedantic -Ihost "$work/uses$1" "$work/gcc/libbhtf.a" ${LDLIBS:-} -o "$work/uses" &&
+  "${@:2}" -Wall -Wextra -Werror -pedantic -Ihost/include "$work/uses$1" "$work/gcc/libbhtf.a" ${LDLIBS:-} -o "$work/uses" &&
     "$work/uses"
 }
 holds "the header is C99" header_compiles .c gcc -std=c99
@@ -113,10 +113,10 @@ through_pkg_config() {
     $(PKG_CONFIG_PATH="$work/usr/lib/pkgconfig" pkg-config --cflags --libs bhtf) && LD_LIBRARY_PATH="$work/usr/lib" "$work/uses"
 }
 holds "a program builds with pkg-config" through_pkg_config
-holds "the man page passes mandoc" mandoc -Tlint host/bhtf.1
+holds "the man page passes mandoc" mandoc -Tlint host/man/bhtf.1
 man_is_clean() {
   local said
-  said=$(man --warnings -l host/bhtf.1 2>&1 >"$work/page") && [ -z "$said" ] && [ -s "$work/page" ] && return
+  said=$(man --warnings -l host/man/bhtf.1 2>&1 >"$work/page") && [ -z "$said" ] && [ -s "$work/page" ] && return
   echo "$said"
   return 1
 }

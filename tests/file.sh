@@ -121,16 +121,16 @@ export PYTHONPATH=$work/usr/share/bhtf
 gives "the example in Python" 0 '^14 points, sound$' python3 host/examples/stakeout.py "$site"
 holds "the module for Python" python3 tests/file/module.py "$work"
 for page in bhtf.3 bhtf_file.3; do
-  holds "$page passes mandoc" mandoc -Tlint "host/$page"
-  holds "$page has no warnings" sh -c "[ -z \"\$(man --warnings -l host/$page 2>&1 >/dev/null)\" ]"
+  holds "$page passes mandoc" mandoc -Tlint "host/man/$page"
+  holds "$page has no warnings" sh -c "[ -z \"\$(man --warnings -l host/man/$page 2>&1 >/dev/null)\" ]"
 done
 every_call() {
   local call
-  for call in $(sed -n 's/.*\(bhtf_file_[a-z]*\)(.*/\1/p' host/bhtf_file.h); do
-    grep -q "$call" host/bhtf_file.3 || { echo "no $call"; return 1; }
+  for call in $(sed -n 's/.*\(bhtf_file_[a-z_]*\)(.*/\1/p' host/include/bhtf_file.h); do
+    grep -q "$call" host/man/bhtf_file.3 || { echo "no $call"; return 1; }
   done
-  for call in $(sed -n 's/^#define \(BHTF_FILE_[A-Z_]*\) 10[0-9]u.*/\1/p' host/bhtf_file.h); do
-    grep -q "$call" host/bhtf_file.3 || { echo "no $call"; return 1; }
+  for call in $(sed -n 's/^#define \(BHTF_FILE_[A-Z_]*\) 10[0-9]u.*/\1/p' host/include/bhtf_file.h); do
+    grep -q "$call" host/man/bhtf_file.3 || { echo "no $call"; return 1; }
   done
 }
 holds "bhtf_file.3 has every call and answer" every_call
@@ -202,7 +202,7 @@ builds() {
 # copies: a fresh copy of the layer
 copies() {
   rm -rf "$work/copy"
-  mkdir "$work/copy" "$work/copy/cuts" && cp host/layer* host/messages.c host/bhtf.h host/bhtf_file.h "$work/copy"
+  mkdir "$work/copy" "$work/copy/cuts" && cp host/file/* host/include/* "$work/copy"
 }
 
 # runs SCENES STATES: the cuts over the copy

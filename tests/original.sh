@@ -13,7 +13,7 @@ settings=()
 [ -z "${STANDIN:-}" ] || settings+=(STANDIN="$STANDIN")
 make -s OUT="$work/build" "${settings[@]}"
 # shellcheck disable=SC2086
-gcc -std=c99 -O2 -Wall -Wextra -Werror -pedantic -D_POSIX_C_SOURCE=200809L -D_FILE_OFFSET_BITS=64 -I. \
-  ../tests/original.c "$work/build/image.o" "$work/build/text.o" "$work/build/utf8.o" "$work/build/libbhtf.a" ${LDLIBS:-} \
+gcc -std=c99 -O2 -Wall -Wextra -Werror -pedantic -D_POSIX_C_SOURCE=200809L -D_FILE_OFFSET_BITS=64 -Iinclude -Icommand \
+  ../tests/original.c "$work"/build/command/{image,buffer,complain,utf8}.o "$work/build/libbhtf.a" ${LDLIBS:-} \
   -o "$work/original"
 "$work/original" "$work/testfile.bht"

@@ -1,6 +1,6 @@
 /* sha256: the command's SHA-256 of standard input. sha256 N: those of its
  * first 0 to N bytes, a line each. */
-#include "../host/sha256.h"
+#include "../host/command/sha256.h"
 
 #include <stdio.h>
 #include <stdlib.h>

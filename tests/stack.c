@@ -1,7 +1,7 @@
 /* How much stack the check and the compaction take, this also in the forms with
  * a list and by way of a journal: each runs on a thread whose stack is little
- * larger than the header (host/bhtf.h) says, with an unreadable page at its
- * end, and the bytes that it wrote there are counted.
+ * larger than the header (host/include/bhtf.h) says, with an unreadable page at
+ * its end, and the bytes that it wrote there are counted.
  * Ends with "N passed, 0 failed". */
 #define _DEFAULT_SOURCE
 

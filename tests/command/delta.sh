@@ -9,8 +9,8 @@ cd stations || exit 2
 
 # ---- the check sum ----
 
-holds "SHA-256 builds" gcc -std=c99 -O2 -Wall -Wextra -Werror -pedantic "$root/tests/sha256.c" "$root/host/sha256.c" \
-  "$root/host/header.c" -o "$work/sha256"
+holds "SHA-256 builds" gcc -std=c99 -O2 -Wall -Wextra -Werror -pedantic -I"$root/host/include" \
+  "$root/tests/sha256.c" "$root/host/command/sha256.c" "$root/host/command/image_header.c" -o "$work/sha256"
 # The examples that NIST published for FIPS 180-4, and the empty message.
 while read -r sum text; do
   same "SHA-256 of '${text:0:20}'" "$sum" "$(printf '%s' "$text" | "$work/sha256")"

@@ -13,24 +13,24 @@ while read -r command; do
   gives "help $command" 0 "^bhtf $command [A-Z]" bhtf help "$command"
   gives "$command -h" 0 "^bhtf $command [A-Z]" bhtf "$command" -h
   gives "--help $command" 0 "^bhtf $command [A-Z]" bhtf --help "$command"
-  gives "$command in the manual page" 0 . grep -E "^\\.B(R)? \"?(bhtf )?$command\"?( |\$)" "$root/host/bhtf.1"
+  gives "$command in the manual page" 0 . grep -E "^\\.B(R)? \"?(bhtf )?$command\"?( |\$)" "$root/host/man/bhtf.1"
 done < <(bhtf --help | sed -n 's/^  bhtf \([a-z]*\) .*/\1/p')
 holds "create -h makes no file" test ! -e -h
 options_in_page() { # every option that a help names
   local option
   for option in $(for c in $(bhtf --help | sed -n 's/^  bhtf \([a-z]*\) .*/\1/p'); do bhtf help "$c"; done |
     sed -n 's/^  *\(-[A-Za-z], \)\{0,1\}--\([a-z-]*\).*/\2/p' | sort -u); do
-    grep -q -- "\\\\-\\\\-${option//-/\\\\-}" "$root/host/bhtf.1" || { echo "no --$option"; return 1; }
+    grep -q -- "\\\\-\\\\-${option//-/\\\\-}" "$root/host/man/bhtf.1" || { echo "no --$option"; return 1; }
   done
 }
 holds "the manual page has every option" options_in_page
 # The limits of the header, in the manual page, in the help and in the words of refusals.
-limit() { sed -n "s/^#define BHTF_$1 \([0-9]*\)u.*/\1/p" "$root/host/bhtf.h"; }
+limit() { sed -n "s/^#define BHTF_$1 \([0-9]*\)u.*/\1/p" "$root/host/include/bhtf.h"; }
 with_commas() { sed ':a;s/\B[0-9]\{3\}\>/,&/;ta' <<<"$1"; }
 limits_in_page() {
   local name
   for name in IMAGE_MAX SLOTS_MAX SLOTS_DEFAULT PAGE KEY_MAX; do
-    grep -q "$(with_commas "$(limit $name)")" "$root/host/bhtf.1" || { echo "no $name"; return 1; }
+    grep -q "$(with_commas "$(limit $name)")" "$root/host/man/bhtf.1" || { echo "no $name"; return 1; }
     bhtf help create | grep -q "$(limit $name)" || { echo "no $name in the help"; return 1; }
   done
 }
@@ -38,7 +38,7 @@ holds "the manual page and the help have the true limits" limits_in_page
 gives "refusal 1 has them" 1 "to $(with_commas "$(limit IMAGE_MAX)")\." bhtf create limits --size 5000
 gives "refusal 2" 1 "1 to $(limit KEY_MAX) bytes" bhtf create limits -k 99
 gives "refusal 3" 1 "more than $(with_commas "$(limit SLOTS_MAX)") slots" bhtf create limits -s 4000000000
-gives "refusal 12" 0 "longer than $(with_commas "$(limit MESSAGE_MAX)") bytes" cat "$root/host/messages.c"
+gives "refusal 12" 0 "longer than $(with_commas "$(limit MESSAGE_MAX)") bytes" cat "$root/host/file/answer_words.c"
 
 # ---- options ----
 

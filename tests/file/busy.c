@@ -6,7 +6,7 @@
  * the time. Prints what each did; the last line is 'N passed, M failed'. */
 #define _GNU_SOURCE
 
-#include "../../host/bhtf_file.h"
+#include "../../host/include/bhtf_file.h"
 
 #include <signal.h>
 #include <stdio.h>

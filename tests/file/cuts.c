@@ -18,7 +18,7 @@
 #include "disk.h"
 #include "trace.h"
 
-#include "../../host/bhtf_file.h"
+#include "../../host/include/bhtf_file.h"
 
 #include <dirent.h>
 #include <errno.h>

@@ -4,8 +4,8 @@
  * middle of one. The last line is 'N passed, M failed'. */
 #define _GNU_SOURCE
 
-#include "../../host/bhtf_file.h"
-#include "../../host/layer.h"
+#include "../../host/include/bhtf_file.h"
+#include "../../host/file/layer.h"
 
 #include <errno.h>
 #include <fcntl.h>
@@ -82,6 +82,29 @@ static void make_fresh(void)
     if (bhtf_create(first, SIZE, KEY, 50, 3) != 0 ||
         bhtf_file_create(file, first, SIZE, NULL, NULL) != 0)
         exit(2);
+}
+
+/* A new file made where it will stand. */
+static void try_new(void)
+{
+    struct bhtf_file_error why;
+    bhtf_file_new *n;
+
+    n = bhtf_file_new_begin(file, SIZE, NULL, &why);
+    holds("a new file has no name", n != NULL && !is_there(file));
+    if (n != NULL)
+        bhtf_file_new_drop(n);
+    holds("nor when it is dropped", !is_there(file));
+    n = bhtf_file_new_begin(file, SIZE, NULL, &why);
+    if (n == NULL)
+        exit(2);
+    holds("an image can be made in it",
+          bhtf_create(bhtf_file_new_image(n), SIZE, KEY, 50, 3) == 0);
+    holds("it gets its name", bhtf_file_new_end(n) == 0 &&
+          has(file, "A", NULL));
+    n = bhtf_file_new_begin(file, SIZE, NULL, &why);
+    holds("once", n == NULL && why.number == BHTF_FILE_SYSTEM &&
+          why.error == EEXIST);
 }
 
 /* ---- an unfinished change ---- */
@@ -217,6 +240,8 @@ static void try_failing(void)
               bhtf_file_error(f)->error == EIO &&
               strstr(bhtf_file_error(f)->words, at < 3 ? "nothing was changed"
                      : "is told when the file is opened again") != NULL);
+        holds("whether it is known what is there",
+              (bhtf_file_unsure(f) != 0) == (at == 3));
         holds("what it says of the next change", put(f, "B", "2") ==
               (at < 3 ? 0 : BHTF_FILE_BROKEN));
         bhtf_file_close(f);
@@ -479,6 +504,7 @@ static void try_locks(void)
     struct bhtf_file_how how = { BHTF_FILE_WRITE, 50, NULL, NULL };
     struct bhtf_file_error why;
     bhtf_file *a, *b, *r;
+    int64_t start;
 
     make_fresh();
     a = open_writer(NULL);
@@ -494,6 +520,10 @@ static void try_locks(void)
     holds("a reader reads beside a writer", r != NULL);
     holds("which cannot change what is read", put(a, "A", "1") ==
           BHTF_FILE_LOCKED);
+    bhtf_file_set_wait(a, 400);
+    start = layer_now();
+    holds("nor after another wait", put(a, "A", "1") == BHTF_FILE_LOCKED &&
+          layer_now() - start >= 400);
     bhtf_file_pause(r);
     holds("until the reader pauses", put(a, "A", "1") == 0);
     holds("refresh takes the new state", bhtf_file_refresh(r) == 0 &&
@@ -742,6 +772,7 @@ int main(int argc, char **argv)
     snprintf(journal, sizeof journal, "%s.journal", file);
     snprintf(other, sizeof other, "%s.other", file);
     try_sums();
+    try_new();
     try_batches();
     try_locks();
     try_names();

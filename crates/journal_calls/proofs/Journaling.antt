@@ -18,7 +18,7 @@ use Rattle.law_file.proofs.Bytes.{part-store-same}
 use Rattle.law_file.proofs.Stores.{store-lent}
 use Rattle.law_file.proofs.Outcomes.{settled-no}
 use Rattle.spec_changes.proofs.Recovery.{cut-safe}
-use Rattle.journal_calls.specs.Journals.{Journals}
+use Rattle.spec_changes.specs.Journals.{Journals}
 
 module _ (call : Bytes → Outcome Bytes) (img : Bytes) (work : ℕ) (j : Bytes) where
   abbrev new : Bytes

@@ -10,7 +10,7 @@ use journal_commit::update;
 ghost use lib.ListN.{length};
 ghost use Rattle.spec_file.specs.Bytes.{Bytes};
 ghost use Rattle.spec_file.specs.Calls.{add, delete};
-ghost use Rattle.journal_calls.specs.Journals.{Journals};
+ghost use Rattle.spec_changes.specs.Journals.{Journals};
 
 // Add by way of the journal.
 pub fn add_journaled(

@@ -4,7 +4,7 @@ use changes_bytes::put_part;
 use journal_commit::update;
 ghost use lib.ListN.{length};
 ghost use Rattle.spec_compaction.specs.Compact.{compact};
-ghost use Rattle.journal_calls.specs.Journals.{Journals};
+ghost use Rattle.spec_changes.specs.Journals.{Journals};
 
 // Compaction by way of the journal.
 pub fn compact_journaled(image: &mut [u8], work: &mut [u8], journal: &mut [u8]) -> u32

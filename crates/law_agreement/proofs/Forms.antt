@@ -1,10 +1,10 @@
--- Demand 3 with the forms of document 02 in the lists: a form that is refused neither with 16 nor with 17 is the plain
--- call, of the file and of the book.
+-- Each step of a list keeps the relation of file and book, with equal answers. A form that is refused neither with 16
+-- nor with 17 is the plain call, of the file and of the book.
+--     same-call, same-changed    a call keeps the relation; so does one that has forms
 --     Plain o                 an outcome that is an answer's number, and the image as it was where that is not 0
 --     listed-plain            the listed form of such a call, its slices allowed, is that call; journaled-plain: so is
 --                             the journaled form, its journal allowed too
---     same-form               a form keeps the relation, with equal answers
---     agreement-of-forms      the theorem
+--     same-step               every step keeps the relation, with equal answers
 -- Assumes nothing.
 use mathlib.Core.Path.{_≡_, refl, sym, ap, ap₂, _∙_, subst}
 use Prim.Native.Nat.{ℕ, _+_, _-_, _≤_}
@@ -15,23 +15,38 @@ use lib.ListN.{length}
 use lib.Dec.{eqb}
 use borrow.Author.Tests.{ne-eqb}
 use Rattle.spec_file.specs.Bytes.{Bytes}
-use Rattle.spec_file.specs.Limits.{dataField}
-use Rattle.spec_file.specs.Image.{field, Layout, layoutOf, dataStart}
-use Rattle.spec_file.specs.Questions.{Question, ask, firstNo}
+use Rattle.spec_file.specs.Image.{Layout, layoutOf, dataStart}
+use Rattle.spec_file.specs.Questions.{ask, firstNo}
 use Rattle.spec_file.specs.Calls.{Answer, Outcome, plain, settled, add, delete}
-use Rattle.spec_file.specs.Lists.{call, answers, stateAfter}
+use Rattle.spec_file.specs.Lists.{Call, adding, deleting, looking, counting, call}
 use Rattle.spec_compaction.specs.Compact.{compact}
 use Rattle.spec_changes.specs.Changes.{listAllowed, workAllowed, workedNumber, Listed, listed}
 use Rattle.spec_changes.specs.Journal.{journalAllowed, journaledNumber, Journaled, journaled}
-use Rattle.spec_book.specs.Steps.{perform}
-use Rattle.spec_book.specs.Book.{Terms, Book, stepOf, guarded, bookStep}
-use Rattle.spec_book.specs.Reopened.{Starts}
-use Rattle.spec_book.specs.Forms.{Change, adds, deletes, compacts, plainStep, Form, plainly, listing, journaling, outcomeOf, journaledOutcome, performForm, imageLength, toldNumber, bookForm, Told, toldBy, bookTold, FormsAgree, AgreementOfForms}
+use Rattle.spec_book.specs.Steps.{Change, adds, deletes, compacts, changed, Step, calling, compacting, listing, journaling, listedOutcome, journaledOutcome, performOn, alone, aloneAfter, perform}
+use Rattle.spec_book.specs.Book.{Terms, Book, stepOf, guarded, bookCall}
+use Rattle.spec_book.specs.Told.{bookChanged, imageLength, toldNumber, bookStep, tells}
 use Rattle.law_file.proofs.Tests.{by-bool, by-eq, zero-yes, zero-no}
 use Rattle.law_file.proofs.Outcomes.{settled-yes, settled-no}
-use Rattle.law_agreement.proofs.Reflect.{Reflects, Reflected}
-use Rattle.law_agreement.proofs.Simple.{Same}
-use Rattle.law_agreement.proofs.Theorem.{step-kept, points-agree, started}
+use Rattle.law_agreement.proofs.Reflect.{Reflects}
+use Rattle.law_agreement.proofs.Simple.{Same, same-count, same-lookup, same-delete}
+use Rattle.law_agreement.proofs.Add.{same-add}
+use Rattle.law_agreement.proofs.Compacting.{same-compact}
+
+-- ---- calls
+
+module _ (g : Layout) (img : Bytes) (b : Book) (r : Reflects g img b) where
+  pub same-call : (c : Call) → Same g (call c img) (bookCall c b)
+  unfolding call bookCall
+  same-call (adding key bytes mode) = same-add g img b r key bytes mode
+  same-call (deleting key) = same-delete g img b r key
+  same-call (looking key) = same-lookup g img b r key
+  same-call counting = same-count g img b r
+
+  pub same-changed : (c : Change) → Same g (changed c img) (bookChanged c b)
+  unfolding changed bookChanged
+  same-changed (adds key bytes mode) = same-add g img b r key bytes mode
+  same-changed (deletes key) = same-delete g img b r key
+  same-changed compacts = same-compact g img b r
 
 -- ---- a form and its plain call
 
@@ -44,8 +59,8 @@ settled-plain : (img : Bytes) (n : ℕ) (x : Bytes) → Plain img (record { afte
 unfolding plain
 settled-plain img n x = record { answer-is = refl; refused-is = λ z. settled-no n img x z }
 
-pub change-plain : (c : Change) (img : Bytes) → Plain img (perform (plainStep c) img)
-unfolding plainStep perform call add delete compact
+pub change-plain : (c : Change) (img : Bytes) → Plain img (changed c img)
+unfolding changed add delete compact
 change-plain (adds key bytes mode) img = settled-plain img _ _
 change-plain (deletes key) img = settled-plain img _ _
 change-plain compacts img = settled-plain img _ _
@@ -64,16 +79,16 @@ module _ (do′ : Bytes → Outcome Bytes) (img : Bytes) (p : Plain img (do′ i
   abbrev own : ℕ
   own = do′ img .answer .number
 
-  pub listed-plain : allowed ≡ true → outcomeOf (listed do′ img work list) ≡ do′ img
-  unfolding outcomeOf listed workedNumber
+  pub listed-plain : allowed ≡ true → listedOutcome (listed do′ img work list) ≡ do′ img
+  unfolding listedOutcome listed workedNumber
   listed-plain h =
       rw h (
       ap₂ (λ (a : Bytes) (n : Answer). record { after = a; answer = n }) (settled-own img (do′ img) p)
       (sym (p .answer-is))
       )
 
-  pub listed-16 : allowed ≡ false → outcomeOf (listed do′ img work list) ≡ record { after = img; answer = plain 16 }
-  unfolding outcomeOf listed workedNumber settled
+  pub listed-16 : allowed ≡ false → listedOutcome (listed do′ img work list) ≡ record { after = img; answer = plain 16 }
+  unfolding listedOutcome listed workedNumber settled
   listed-16 h = rw h refl
 
 -- of the journaled form, by its number: the plain call's where the working slice is allowed, 17 where that is 0 and the
@@ -140,7 +155,7 @@ module _ (g : Layout) (img : Bytes) (b : Book) (r : Reflects g img b) where
   -- 16, by the image's length or by what the book takes for it
   module _ (c : Change) (asks : ℕ → Bool) where
     abbrev plainly-done : Outcome Book
-    plainly-done = bookStep (plainStep c) b
+    plainly-done = bookChanged c b
 
     abbrev asked : Outcome Book
     asked = guarded b (ask 16 (asks (imageLength (b .terms))) ∷ []) plainly-done
@@ -157,17 +172,17 @@ module _ (g : Layout) (img : Bytes) (b : Book) (r : Reflects g img b) where
     asked-16 h = asked-length ∙ rw h refl
 
   pub same-listing : (c : Change) (work : ℕ) (list : Bytes) (t : Bool)
-      → Same g (performForm (listing c work list) img) (bookForm t (listing c work list) b)
-  unfolding performForm bookForm
+      → Same g (performOn (listing c work list) img) (bookStep t (listing c work list) b)
+  unfolding performOn bookStep
   same-listing c work list t =
       let asks : ℕ → Bool = λ (l : ℕ). listAllowed (length list) && workAllowed l work in
       by-bool (asks (length img))
       (λ h. rw (
-        listed-plain (perform (plainStep c)) img (change-plain c img) work list h,
+        listed-plain (changed c) img (change-plain c img) work list h,
         asked-yes c asks h,
-      ) (step-kept g img b r (plainStep c)))
+      ) (same-changed g img b r c))
       (λ h. rw (
-        listed-16 (perform (plainStep c)) img (change-plain c img) work list h,
+        listed-16 (changed c) img (change-plain c img) work list h,
         asked-16 c asks h,
       ) (record { answer = refl; after = r }))
 
@@ -182,16 +197,16 @@ module _ (g : Layout) (img : Bytes) (b : Book) (r : Reflects g img b) where
 
   module _ (c : Change) (work : ℕ) (j : Bytes) where
     abbrev done : Outcome Bytes
-    done = perform (plainStep c) img
+    done = changed c img
 
     abbrev booked : Outcome Book
-    booked = bookStep (plainStep c) b
+    booked = bookChanged c b
 
     abbrev told : Outcome Bytes → Bool
     told o = eqb (o .answer .number) 17
 
     same-done : Same g done booked
-    same-done = step-kept g img b r (plainStep c)
+    same-done = same-changed g img b r c
 
     book-number : booked .answer .number ≡ done .answer .number
     book-number = ap (λ (x : Answer). x .number) (sym (same-done .answer))
@@ -200,11 +215,11 @@ module _ (g : Layout) (img : Bytes) (b : Book) (r : Reflects g img b) where
     asks l = workAllowed l work
 
     -- once it is known what the file does
-    by-file : (o : Outcome Bytes) → journaledOutcome (journaled (perform (plainStep c)) img work j) ≡ o
+    by-file : (o : Outcome Bytes) → journaledOutcome (journaled (changed c) img work j) ≡ o
         → Same g o (toldNumber (told o) b (asked c asks))
-        → Same g (performForm (journaling c work j) img)
-        (bookForm (told (performForm (journaling c work j) img)) (journaling c work j) b)
-    unfolding performForm bookForm asks
+        → Same g (performOn (journaling c work j) img)
+        (bookStep (told (performOn (journaling c work j) img)) (journaling c work j) b)
+    unfolding performOn bookStep asks
     by-file o e s = rw e s
 
     -- accepted: the book is not told of a 17
@@ -213,60 +228,25 @@ module _ (g : Layout) (img : Bytes) (b : Book) (r : Reflects g img b) where
     not-told z =
         subst (λ (t : Bool). Same g done (toldNumber t b booked)) (sym (ap (λ (n : ℕ). eqb n 17) z)) same-done
 
-    pub same-journaling : Same g (performForm (journaling c work j) img)
-        (bookForm (told (performForm (journaling c work j) img)) (journaling c work j) b)
+    pub same-journaling : Same g (performOn (journaling c work j) img)
+        (bookStep (told (performOn (journaling c work j) img)) (journaling c work j) b)
     unfolding asks plain toldNumber
     same-journaling =
         by-bool (workAllowed (length img) work)
         (λ fits. by-eq (done .answer .number) 0
         (λ z. by-bool (journalAllowed img (done .after) j)
-        (λ h. by-file done (journaled-plain (perform (plainStep c)) img (change-plain c img) work j fits z h)
+        (λ h. by-file done (journaled-plain (changed c) img (change-plain c img) work j fits z h)
         (rw (asked-yes c asks fits) (not-told z)))
-        (λ h. by-file _ (journaled-17 (perform (plainStep c)) img (change-plain c img) work j fits z h)
+        (λ h. by-file _ (journaled-17 (changed c) img (change-plain c img) work j fits z h)
         (rw (asked-yes c asks fits, told-17 booked (book-number ∙ z)) (record { answer = refl; after = r }))))
-        (λ z. by-file done (journaled-refused (perform (plainStep c)) img (change-plain c img) work j fits z)
+        (λ z. by-file done (journaled-refused (changed c) img (change-plain c img) work j fits z)
         (rw (asked-yes c asks fits, told-refused (told done) booked (λ e. z (sym book-number ∙ e))) same-done)))
-        (λ h. by-file _ (journaled-16 (perform (plainStep c)) img (change-plain c img) work j h)
+        (λ h. by-file _ (journaled-16 (changed c) img (change-plain c img) work j h)
         (rw (asked-16 c asks h) (record { answer = refl; after = r })))
 
-  -- what the book is told of a form
-  abbrev pub toldOf : Form → Bool
-  toldOf f = eqb (performForm f img .answer .number) 17
-
-  pub same-form : (f : Form) → Same g (performForm f img) (bookForm (toldOf f) f b)
-  unfolding performForm bookForm
-  same-form (plainly s) = step-kept g img b r s
-  same-form (listing c work list) = same-listing c work list (toldOf (listing c work list))
-  same-form (journaling c work j) = same-journaling c work j
-
--- ---- lists
-
-module _ (img : Bytes) (b : Book) (f : Form) where
-  abbrev next-book : Book
-  next-book = bookForm (eqb (performForm f img .answer .number) 17) f b .after
-
-  reflects-form : Reflected img b → Reflected (performForm f img .after) next-book
-  reflects-form (g, r) = (g, same-form g img b r f .after)
-
-forms-answers : (forms : List Form) (img : Bytes) (b : Book) → Reflected img b
-    → answers performForm forms img ≡ answers bookTold (toldBy forms img) b
-unfolding answers toldBy bookTold
-forms-answers [] img b r = refl
-forms-answers (f ∷ fs) img b (g, r) =
-    ap₂ _∷_ (same-form g img b r f .answer)
-    (forms-answers fs (performForm f img .after) (next-book img b f) (reflects-form img b f (g, r)))
-
-forms-after : (forms : List Form) (img : Bytes) (b : Book) → Reflected img b
-    → Reflected (stateAfter performForm forms img) (stateAfter bookTold (toldBy forms img) b)
-unfolding stateAfter toldBy bookTold
-forms-after [] img b r = r
-forms-after (f ∷ fs) img b r =
-    forms-after fs (performForm f img .after) (next-book img b f) (reflects-form img b f r)
-
-pub agreement-of-forms : AgreementOfForms
-unfolding AgreementOfForms FormsAgree
-agreement-of-forms img b s forms = (
-  forms-answers forms img b (started img b s),
-  λ name. points-agree (stateAfter performForm forms img) (stateAfter bookTold (toldBy forms img) b)
-      (forms-after forms img b (started img b s)) name,
-)
+  pub same-step : (c : Step) → Same g (performOn c img) (bookStep (tells c (alone img)) c b)
+  unfolding performOn bookStep
+  same-step (calling c) = same-call g img b r c
+  same-step compacting = same-compact g img b r
+  same-step (listing c work list) = same-listing c work list (tells (listing c work list) (alone img))
+  same-step (journaling c work j) = unfold tells perform aloneAfter in same-journaling c work j

@@ -19,7 +19,7 @@ use Rattle.spec_file.specs.Create.{drawnBytes, slotsAsked, freshHeader, freshIm
 use Rattle.spec_file.specs.Messages.{headSize}
 use Rattle.spec_file.specs.Questions.{versionKnown}
 use Rattle.spec_book.specs.Book.{newBook}
-use Rattle.spec_book.specs.Demand.{termsOf}
+use Rattle.spec_book.specs.Reopened.{termsOf}
 use Rattle.law_file.proofs.Fresh.{length-drawnBytes}
 use Rattle.law_file.proofs.Tests.{by-bool, by-eq, not-both}
 use Rattle.law_file.proofs.Bytes.{number-digits-fits, length-zeros}

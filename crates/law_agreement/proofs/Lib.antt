@@ -1,4 +1,4 @@
--- Demand 3: file and book agree on every list of calls. The statement is `Agreement` of
+-- Demand 3: file and book agree on every list of calls. The statement is `Demand3` of
 -- crates/spec_book/specs/Demand.antt. To begin with: File (the invariant, and a change to one point), Reflect (the
 -- relation of file and book), Theorem (lists); then Users, what a user is promised. Between them stands, for each
 -- effect, that it is such a change, and for each call, that it keeps the relation with an equal answer.
@@ -28,8 +28,8 @@ pub mod Compact  -- a compacted file
 pub mod Reopened  -- the book read off a file
 pub mod Trimmed  -- the book's entries after a compaction
 pub mod Compacting  -- compaction keeps the relation
+pub mod Forms  -- each step, in its form, keeps the relation
 pub mod Theorem  -- the theorem
-pub mod Forms  -- the theorem with the forms of document 02
 pub mod Reached  -- files that calls have reached
 pub mod Steps  -- what a call does to the book
 pub mod Numbers  -- which numbers a step of the book may answer

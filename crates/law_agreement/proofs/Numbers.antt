@@ -1,5 +1,5 @@
 -- Which numbers a step of the book may answer.
---     add-number       of an add, by the questions that it puts; call-number: of any call
+--     add-number       of an add, by the questions that it puts; step-of: of any step
 --     room-number      of the questions 12 and 13; room-left: not 13 where there is room
 -- Assumes nothing.
 use mathlib.Core.Path.{_≡_, refl}
@@ -15,9 +15,11 @@ use Rattle.spec_file.specs.Bytes.{Bytes}
 use Rattle.spec_file.specs.Messages.{bytesOf}
 use Rattle.spec_file.specs.Questions.{Question, ask, firstNo, nameAllowed, named}
 use Rattle.spec_file.specs.Calls.{Outcome, plain}
-use Rattle.spec_file.specs.Lists.{adding, deleting, looking, counting}
-use Rattle.spec_book.specs.Steps.{Step, calling, compacting}
-use Rattle.spec_book.specs.Book.{Entry, Book, find, stepOf, roomAsks, addAbsent, replace, append, addPresent, addFound, guarded, bookAdd, deleteFound, bookDelete, lookupFound, bookLookup, bookCount, bookCompact, bookCall, bookStep}
+use Rattle.spec_file.specs.Lists.{Call, adding, deleting, looking, counting}
+use Rattle.spec_changes.specs.Changes.{listAllowed, workAllowed}
+use Rattle.spec_book.specs.Steps.{Change, adds, deletes, compacts, Step, calling, compacting, listing, journaling}
+use Rattle.spec_book.specs.Book.{Entry, Book, find, stepOf, roomAsks, addAbsent, replace, append, addPresent, addFound, guarded, bookAdd, deleteFound, bookDelete, lookupFound, bookLookup, bookCount, bookCompact, bookCall}
+use Rattle.spec_book.specs.Told.{bookChanged, imageLength, toldNumber, bookStep}
 use Rattle.law_file.proofs.Tests.{by-bool}
 use Rattle.law_file.proofs.Opened.{firstNo-none, firstNo-yes, firstNo-no}
 
@@ -112,6 +114,17 @@ module _ (P : ℕ → Type 0) where
     fourteen : P (stepOf b (ask 14 false ∷ []) b .answer .number)
     fourteen = step-number b _ b (either 14 false [] absent (none-asked (few 0 (omega arith))))
 
+    sixteen : P 16 → (y : Bool) (s : Outcome Book) → P (s .answer .number)
+        → P (guarded b (ask 16 y ∷ []) s .answer .number)
+    sixteen p₁₆ y s p = guarded-number b _ s (either 16 y [] p₁₆ (none-asked (few 0 (omega arith)))) p
+
+    told-of : P 17 → (t : Bool) (s : Outcome Book) → P (s .answer .number) → P (toldNumber t b s .answer .number)
+    unfolding toldNumber
+    told-of p₁₇ t s p =
+        cond-number (t && eqb (s .answer .number) 0) (stepOf b (ask 17 false ∷ []) b) s
+        (λ h. step-number b _ b (either 17 false [] p₁₇ (none-asked (few 0 (omega arith)))))
+        (λ h. p)
+
     gone-number : (name : Bytes) (f : Option Entry) → P (deleteFound b name f .answer .number)
     unfolding deleteFound
     gone-number name none = fourteen
@@ -122,15 +135,42 @@ module _ (P : ℕ → Type 0) where
     shown-number none = fourteen
     shown-number (some e) = few 0 (omega arith)
 
-    -- of any call, where room's questions answer such a number
-    pub call-number : ((m : ℕ) → P (firstNo (roomAsks b m))) → (c : Step) → P (bookStep c b .answer .number)
-    unfolding bookStep bookCall bookDelete bookLookup bookCount bookCompact plain
-    call-number room (calling (adding name bytes mode)) =
-        add-number b name bytes mode few absent (room (length bytes)) (λ e f n₁ n₂. room _)
-    call-number room (calling (deleting name)) = seven name _ (gone-number name (find name (b .entries)))
-    call-number room (calling (looking name)) = seven name _ (shown-number (find name (b .entries)))
-    call-number room (calling counting) = few 0 (omega arith)
-    call-number room compacting = few 0 (omega arith)
+    -- where room's questions answer such a number
+    module _ (room : (m : ℕ) → P (firstNo (roomAsks b m))) where
+      add-of : (name bytes : Bytes) (mode : ℕ) → P (bookAdd b name bytes mode .answer .number)
+      add-of name bytes mode = add-number b name bytes mode few absent (room (length bytes)) (λ e f n₁ n₂. room _)
+
+      delete-of : (name : Bytes) → P (bookDelete b name .answer .number)
+      unfolding bookDelete
+      delete-of name = seven name _ (gone-number name (find name (b .entries)))
+
+      call-of : (c : Call) → P (bookCall c b .answer .number)
+      unfolding bookCall bookLookup bookCount
+      call-of (adding name bytes mode) = add-of name bytes mode
+      call-of (deleting name) = delete-of name
+      call-of (looking name) = seven name _ (shown-number (find name (b .entries)))
+      call-of counting = few 0 (omega arith)
+
+      compact-of : P (bookCompact b .answer .number)
+      unfolding bookCompact plain
+      compact-of = few 0 (omega arith)
+
+      change-of : (c : Change) → P (bookChanged c b .answer .number)
+      unfolding bookChanged
+      change-of (adds name bytes mode) = add-of name bytes mode
+      change-of (deletes name) = delete-of name
+      change-of compacts = compact-of
+
+      -- of any step
+      pub step-of : P 16 → P 17 → (t : Bool) (c : Step) → P (bookStep t c b .answer .number)
+      unfolding bookStep
+      step-of p₁₆ p₁₇ t (calling c) = call-of c
+      step-of p₁₆ p₁₇ t compacting = compact-of
+      step-of p₁₆ p₁₇ t (listing c work list) =
+          sixteen p₁₆ (listAllowed (length list) && workAllowed (imageLength (b .terms)) work) (bookChanged c b)
+          (change-of c)
+      step-of p₁₆ p₁₇ t (journaling c work j) =
+          told-of p₁₇ t _ (sixteen p₁₆ (workAllowed (imageLength (b .terms)) work) (bookChanged c b) (change-of c))
 
 -- ---- 13
 

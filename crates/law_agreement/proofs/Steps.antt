@@ -2,14 +2,15 @@
 --     Given name text b b′     b′ is b with that text, or none, under the name
 --     Added, book-add          what an add does, by cases; by-put: what they have in common
 --     Deleted, book-delete     what a delete does, by cases
---     Effect, call-effect      what any call does, in one list of all calls; effect-..: what follows from it
---     NotAdding, NotDeleting   the calls that do not add, or delete, a point; Keeping: those that give no space back
+--     asPlain                  the plain call of a step in a form
+--     Effect, step-effect      what any step does, in one list of all steps; effect-..: what follows from it
+--     NotAdding, NotDeleting   the steps that do not add, or delete, a point; Keeping: those that give no space back
 --     compacted-text           a compaction keeps every text
 -- Assumes nothing.
 use mathlib.Core.Path.{_≡_, refl, sym, ap, _∙_}
 use Prim.Native.Nat.{ℕ, suc, _≤_}
 use native.Mathlib.Omega.{arith}
-use mathlib.Core.Bool.{false, _&&_}
+use mathlib.Core.Bool.{Bool, false, _&&_}
 use mathlib.Core.List.{List, [], _∷_, _++_}
 use mathlib.Core.Option.{Option, none, some, Option·none-ne-some}
 use lib.ListN.{length}
@@ -20,8 +21,9 @@ use Rattle.spec_file.specs.Messages.{bytesOf}
 use Rattle.spec_file.specs.Questions.{Question, ask, firstNo, nameAllowed}
 use Rattle.spec_file.specs.Calls.{Outcome, plain}
 use Rattle.spec_file.specs.Lists.{adding, deleting, looking, counting}
-use Rattle.spec_book.specs.Steps.{Step, calling, compacting}
-use Rattle.spec_book.specs.Book.{Entry, Book, find, withEntry, stepOf, guarded, entered, noting, bare, placed, addAbsent, replace, append, withdrawn, addPresent, addFound, bookAdd, deleteFound, bookDelete, lookupFound, bookLookup, bookCount, trimmed, compactedBook, bookCompact, bookCall, bookStep}
+use Rattle.spec_book.specs.Steps.{Change, adds, deletes, compacts, Step, calling, compacting, listing, journaling}
+use Rattle.spec_book.specs.Book.{Entry, Book, find, withEntry, stepOf, guarded, entered, noting, bare, placed, addAbsent, replace, append, withdrawn, addPresent, addFound, bookAdd, deleteFound, bookDelete, lookupFound, bookLookup, bookCount, trimmed, compactedBook, bookCompact, bookCall}
+use Rattle.spec_book.specs.Told.{bookChanged, toldNumber, bookStep}
 use Rattle.spec_book.specs.Demand.{bookText, textOf}
 use Rattle.law_file.proofs.Tests.{by-bool, by-eq}
 use Rattle.law_file.proofs.Bytes.{by-same}
@@ -228,40 +230,82 @@ module _ (b : Book) (name : Bytes) where
       (λ h. rw h (lookup-found (find name (b .entries))))
       (λ h. rw h refl)
 
--- ---- any call, by its effect on the book
+-- ---- any step, by its effect on the book
+
+pub plainStep : Change → Step
+plainStep (adds name bytes mode) = calling (adding name bytes mode)
+plainStep (deletes name) = calling (deleting name)
+plainStep compacts = compacting
+
+-- the plain call of a step in a form
+unfoldable pub asPlain : Step → Step
+asPlain (calling c) = calling c
+asPlain compacting = compacting
+asPlain (listing c work list) = plainStep c
+asPlain (journaling c work j) = plainStep c
 
 -- nothing, or a text is put under the name that it adds, or the entry of the name that it deletes goes, or all entries
 -- are trimmed
 pub data Effect (b : Book) (c : Step) (b′ : Book) : Type 0 where
   nothing : b′ ≡ b → Effect b c b′
-  enters : (name bytes : Bytes) (mode : ℕ) (text : Option Bytes) → c ≡ calling (adding name bytes mode)
+  enters : (name bytes : Bytes) (mode : ℕ) (text : Option Bytes) → asPlain c ≡ calling (adding name bytes mode)
       → Given name text b b′
       → Effect b c b′
-  leaves : (name : Bytes) (e : Entry) → c ≡ calling (deleting name) → find name (b .entries) ≡ some e
+  leaves : (name : Bytes) (e : Entry) → asPlain c ≡ calling (deleting name) → find name (b .entries) ≡ some e
       → b′ ≡ removed name b → Effect b c b′
-  trims : c ≡ compacting → b′ ≡ compactedBook b → Effect b c b′
+  trims : asPlain c ≡ compacting → b′ ≡ compactedBook b → Effect b c b′
 
-delete-effect : {b : Book} {name : Bytes} {o : Outcome Book} → Deleted b name o
-    → Effect b (calling (deleting name)) (o .after)
-delete-effect (refused z q) = nothing q
-delete-effect (gone e f q) = leaves _ e refl f q
+module _ {b : Book} {c : Step} where
+  -- of a step whose plain call is an add, a delete or a compaction
+  add-effect : (name bytes : Bytes) (mode : ℕ) → asPlain c ≡ calling (adding name bytes mode)
+      → Effect b c (bookAdd b name bytes mode .after)
+  add-effect name bytes mode q =
+      by-put (book-add b name bytes mode) (λ e. nothing e) (λ text w. enters name bytes mode text q w)
 
--- the one list of all calls: what follows goes by the effect
-pub call-effect : (c : Step) (b : Book) → Effect b c (bookStep c b .after)
-unfolding bookStep bookCall bookCount bookCompact
-call-effect (calling (adding name bytes mode)) b =
-    by-put (book-add b name bytes mode) (λ q. nothing q) (λ text w. enters name bytes mode text refl w)
-call-effect (calling (deleting name)) b = delete-effect (book-delete b name)
-call-effect (calling (looking name)) b = nothing (book-lookup b name)
-call-effect (calling counting) b = nothing refl
-call-effect compacting b = trims refl refl
+  delete-effect : (name : Bytes) (o : Outcome Book) → asPlain c ≡ calling (deleting name) → Deleted b name o
+      → Effect b c (o .after)
+  delete-effect name o q (refused z e) = nothing e
+  delete-effect name o q (gone e f is) = leaves name e q f is
 
--- the call does not delete, or does not add, a point of that name
+  change-effect : (d : Change) → asPlain c ≡ plainStep d → Effect b c (bookChanged d b .after)
+  unfolding bookChanged plainStep bookCompact
+  change-effect (adds name bytes mode) q = add-effect name bytes mode q
+  change-effect (deletes name) q = delete-effect name _ q (book-delete b name)
+  change-effect compacts q = trims q refl
+
+  -- a form leaves what its plain call does, or the book
+  guarded-effect : (asks : List Question) (o : Outcome Book) → Effect b c (o .after)
+      → Effect b c (guarded b asks o .after)
+  unfolding guarded
+  guarded-effect asks o h =
+      by-bool (eqb (firstNo asks) 0)
+      (λ y. rw y h)
+      (λ n. rw n (nothing (unfold stepOf in rw n refl)))
+
+  told-effect : (t : Bool) (o : Outcome Book) → Effect b c (o .after) → Effect b c (toldNumber t b o .after)
+  unfolding toldNumber
+  told-effect t o h =
+      by-bool (t && eqb (o .answer .number) 0)
+      (λ y. rw y (nothing (unfold stepOf firstNo ask in refl)))
+      (λ n. rw n h)
+
+-- the one list of all steps: what follows goes by the effect
+pub step-effect : (t : Bool) (c : Step) (b : Book) → Effect b c (bookStep t c b .after)
+unfolding bookStep bookCall bookCount bookCompact asPlain
+step-effect t (calling (adding name bytes mode)) b = add-effect name bytes mode refl
+step-effect t (calling (deleting name)) b = delete-effect name _ refl (book-delete b name)
+step-effect t (calling (looking name)) b = nothing (book-lookup b name)
+step-effect t (calling counting) b = nothing refl
+step-effect t compacting b = trims refl refl
+step-effect t (listing c work list) b = guarded-effect _ _ (change-effect c refl)
+step-effect t (journaling c work j) b = told-effect t _ (guarded-effect _ _ (change-effect c refl))
+
+-- the step does not delete, or does not add, a point of that name
 abbrev pub NotDeleting : Bytes → Step → Type 0
-NotDeleting key c = c ≡ calling (deleting key) → ⊥
+NotDeleting key c = asPlain c ≡ calling (deleting key) → ⊥
 
 abbrev pub NotAdding : Bytes → Step → Type 0
-NotAdding key c = (bytes : Bytes) (mode : ℕ) → c ≡ calling (adding key bytes mode) → ⊥
+NotAdding key c = (bytes : Bytes) (mode : ℕ) → asPlain c ≡ calling (adding key bytes mode) → ⊥
 
 -- a point of that name, or none
 abbrev pub Has : Bytes → Book → Type 0
@@ -326,9 +370,9 @@ module _ {b : Book} {c : Step} {b′ : Book} (key : Bytes) where
       ap (λ (x : Book). find key (x .entries)) is ∙ find-without-other name key (b .entries) present ∙ h
   effect-lacks (trims q is) na h = trims-find b b′ key is ∙ ap trimmedOf h
 
--- the call gives no space back: every call but compaction
+-- the step gives no space back: every one except compaction
 abbrev pub Keeping : Step → Type 0
-Keeping c = c ≡ compacting → ⊥
+Keeping c = asPlain c ≡ compacting → ⊥
 
 pub effect-used : {b : Book} {c : Step} {b′ : Book} → Effect b c b′ → Keeping c → b .used ≤ b′ .used
 effect-used (nothing q) k = omega (arith, ap (λ (x : Book). x .used) q)

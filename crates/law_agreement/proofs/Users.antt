@@ -1,6 +1,6 @@
 -- Corollaries in the words of a user: what was added and not deleted is found, what was deleted is not, a call changes
 -- no other point, and C counts. Each is read off the book, which the file agrees with.
---     call-others         a call changes no point but the one that it adds or deletes; so delete-others, add-others
+--     call-others         a call changes no point except the one that it adds or deletes; so delete-others, add-others
 --     added-found, replaced-found    after an accepted add in mode 1 or 2 the point is found with the data as its text,
 --                         also where that is empty
 --     appended-found, appended-new   in mode 3 with the data behind its text; with the data alone where it was absent
@@ -19,6 +19,7 @@
 use mathlib.Core.Path.{_≡_, refl, sym, ap, _∙_, subst}
 use Prim.Native.Nat.{ℕ, suc, _+_, _≤_}
 use native.Mathlib.Omega.{arith}
+use mathlib.Core.Bool.{Bool, true}
 use mathlib.Core.List.{List, [], _∷_, _++_}
 use mathlib.Core.Option.{Option, none, some, Option·none-ne-some, Option·some-injective}
 use lib.ListN.{length, length-append}
@@ -29,17 +30,19 @@ use Rattle.spec_file.specs.Messages.{headSize, bytesOf}
 use Rattle.spec_file.specs.Calls.{Answer, Outcome, plain, add, delete, count}
 use Rattle.spec_compaction.specs.Compact.{compacted, compact}
 use Rattle.spec_file.specs.Lists.{adding, deleting, stateAfter, call}
-use Rattle.spec_book.specs.Steps.{Step, calling, compacting, perform}
-use Rattle.spec_book.specs.Book.{Entry, Terms, Book, find, bookDelete, bookCount, spaceForAll, compactedBook, bookCompact, bookCall, bookStep}
-use Rattle.spec_book.specs.Demand.{fileText, bookText, textOf}
+use Rattle.spec_book.specs.Steps.{Step, calling, compacting, performOn, State, alone, aloneAfter, perform}
+use Rattle.spec_book.specs.Book.{Entry, Terms, Book, find, bookDelete, bookCount, spaceForAll, compactedBook, bookCompact, bookCall}
+use Rattle.spec_book.specs.Told.{bookStep, tells, toldBy, bookTold}
+use Rattle.spec_book.specs.Demand.{fileText, stateText, bookText, textOf, permits, Permitted}
 use Rattle.law_agreement.proofs.Entries.{Distinct, find-without-same, length-without}
 use Rattle.law_agreement.proofs.Reflect.{Reflects, Reflected}
 use Rattle.law_agreement.proofs.Simple.{same-count}
-use Rattle.law_agreement.proofs.Theorem.{step-kept, step, reflects-step, points-agree, reflects-after}
-use Rattle.law_agreement.proofs.Reached.{Reached, reached-reflects, reached-after}
-use Rattle.law_agreement.proofs.Steps.{given-text, given-new, given-old, Added, refused, fresh, bared, replaced, appended, unchanged, withdrew, book-add, by-put, Deleted, gone, book-delete, call-effect, NotDeleting, NotAdding, Has, Lacks, Keeping, effect-other, effect-has, effect-lacks, effect-used, compacted-text}
+use Rattle.law_agreement.proofs.Forms.{same-step}
+use Rattle.law_agreement.proofs.Theorem.{Held, bookAt, bookAfter, same-answer, held-step, held-after, points-agree, texts-agree}
+use Rattle.law_agreement.proofs.Reached.{Reached, reached-held, reached-reflects, reached-step}
+use Rattle.law_agreement.proofs.Steps.{given-text, given-new, given-old, Added, refused, fresh, bared, replaced, appended, unchanged, withdrew, book-add, by-put, Deleted, gone, book-delete, asPlain, step-effect, NotDeleting, NotAdding, Has, Lacks, Keeping, effect-other, effect-has, effect-lacks, effect-used, compacted-text}
 use Rattle.law_agreement.proofs.Compact.{file-compact, compact-after, compact-twice}
-use Rattle.law_agreement.proofs.Numbers.{add-number, call-number, room-number, room-left}
+use Rattle.law_agreement.proofs.Numbers.{add-number, step-of, room-number, room-left}
 
 -- ---- the book's texts
 
@@ -179,42 +182,55 @@ book-gone {b} {name} {o} d (gone e f q) k = (
 
 -- ---- one call on a file that calls have reached
 
-module _ (img : Bytes) (b : Book) (r : Reached img b) where
+module _ (img : Bytes) (b : Book) (r : Reached (alone img) b) where
   rel : Reflected img b
   rel = reached-reflects img b r
 
   book-has : (key : Bytes) (t : Option (Option Bytes)) → fileText img key ≡ t → bookText b key ≡ t
   book-has key t h = sym (points-agree img b rel key) ∙ h
 
-  -- the book accepts too
-  number-too : (c : Step) → perform c img .answer .number ≡ 0 → bookStep c b .answer .number ≡ 0
-  number-too c ok = sym (ap (λ (x : Answer). x .number) (step img b rel c .1 .answer)) ∙ ok
+  -- a step, of the image and of the book
+  abbrev booked : Step → Outcome Book
+  booked c = bookStep (tells c (alone img)) c b
 
-  text-after : (c : Step) (name : Bytes) → fileText (perform c img .after) name ≡ bookText (bookStep c b .after) name
-  text-after c = points-agree _ _ (reflects-step img b rel c)
+  same-now : (c : Step) → performOn c img .answer ≡ booked c .answer
+  unfolding perform aloneAfter Held permits
+  same-now c = same-answer c (alone img) b rel refl
+
+  rel-after : (c : Step) → Reflected (performOn c img .after) (booked c .after)
+  unfolding perform aloneAfter Held permits
+  rel-after c = held-step c (alone img) b rel refl
+
+  -- the book accepts too
+  number-too : (c : Step) → performOn c img .answer .number ≡ 0 → booked c .answer .number ≡ 0
+  number-too c ok = sym (ap (λ (x : Answer). x .number) (same-now c)) ∙ ok
+
+  text-after : (c : Step) (name : Bytes) → fileText (performOn c img .after) name ≡ bookText (booked c .after) name
+  text-after c = points-agree _ _ (rel-after c)
 
   count-now : count img .answer .amount ≡ length (b .entries)
   count-now = count-is img b rel
 
-  count-after : (c : Step) → count (perform c img .after) .answer .amount ≡ length (bookStep c b .after .entries)
-  count-after c = count-is _ _ (reflects-step img b rel c)
+  count-after : (c : Step) → count (performOn c img .after) .answer .amount ≡ length (booked c .after .entries)
+  count-after c = count-is _ _ (rel-after c)
 
   -- a call that neither adds nor deletes a point changes nothing of it
   pub call-others : (c : Step) (other : Bytes) → NotAdding other c → NotDeleting other c
-      → fileText (perform c img .after) other ≡ fileText img other
+      → fileText (performOn c img .after) other ≡ fileText img other
   unfolding bookText
   call-others c other na nd =
-      text-after c other ∙ effect-other other (call-effect c b) na nd ∙ sym (points-agree img b rel other)
+      text-after c other ∙ effect-other other (step-effect (tells c (alone img)) c b) na nd
+      ∙ sym (points-agree img b rel other)
 
   pub delete-others : (key other : Bytes) → (other ≡ key → ⊥)
       → fileText (delete img key .after) other ≡ fileText img other
-  unfolding perform call
+  unfolding performOn call asPlain
   delete-others key other n =
       call-others (calling (deleting key)) other (λ bytes mode q. differ q) (λ q. n (sym (same-deleted q)))
 
   pub add-others : (key bytes other : Bytes) (mode : ℕ) → (other ≡ key → ⊥)
       → fileText (add img key bytes mode .after) other ≡ fileText img other
-  unfolding perform call
+  unfolding performOn call asPlain
   add-others key bytes other mode n =
       call-others (calling (adding key bytes mode)) other (λ bytes′ mode′ q. n (sym (same-added q)))
       (λ q. differ (sym q))
@@ -222,14 +238,14 @@ module _ (img : Bytes) (b : Book) (r : Reached img b) where
   -- an accepted add, in its four modes
   pub added-found : (key bytes : Bytes) → add img key bytes 1 .answer .number ≡ 0
       → fileText (add img key bytes 1 .after) key ≡ some (some bytes)
-  unfolding perform call bookStep bookCall
+  unfolding performOn call bookStep bookCall
   added-found key bytes ok =
       let c = calling (adding key bytes 1) in
       text-after c key ∙ book-added (book-add b key bytes 1) (number-too c ok)
 
   pub replaced-found : (key bytes : Bytes) → add img key bytes 2 .answer .number ≡ 0
       → fileText (add img key bytes 2 .after) key ≡ some (some bytes)
-  unfolding perform call bookStep bookCall
+  unfolding performOn call bookStep bookCall
   replaced-found key bytes ok =
       let c = calling (adding key bytes 2) in
       text-after c key ∙ book-replaced (book-add b key bytes 2) (number-too c ok)
@@ -237,7 +253,7 @@ module _ (img : Bytes) (b : Book) (r : Reached img b) where
   pub appended-found : (key bytes : Bytes) (old : Option Bytes) → (bytes ≡ [] → ⊥) → fileText img key ≡ some old
       → add img key bytes 3 .answer .number ≡ 0
       → fileText (add img key bytes 3 .after) key ≡ some (some (bytesOf old ++ bytes))
-  unfolding perform call bookStep bookCall
+  unfolding performOn call bookStep bookCall
   appended-found key bytes old d h ok =
       let c = calling (adding key bytes 3) in
       text-after c key ∙ book-appended old d (book-has key _ h) (book-add b key bytes 3) (number-too c ok)
@@ -245,14 +261,14 @@ module _ (img : Bytes) (b : Book) (r : Reached img b) where
   -- no data: the text is as it was, or there is none as before
   pub appended-same : (key : Bytes) (old : Option Bytes) → fileText img key ≡ some old
       → fileText (add img key [] 3 .after) key ≡ some old
-  unfolding perform call bookStep bookCall
+  unfolding performOn call bookStep bookCall
   appended-same key old h =
       text-after (calling (adding key [] 3)) key ∙ book-same old refl (book-has key _ h) (book-add b key [] 3)
 
   pub appended-new : (key bytes : Bytes) → (bytes ≡ [] → ⊥) → fileText img key ≡ none
       → add img key bytes 3 .answer .number ≡ 0
       → fileText (add img key bytes 3 .after) key ≡ some (some bytes)
-  unfolding perform call bookStep bookCall
+  unfolding performOn call bookStep bookCall
   appended-new key bytes d h ok =
       let c = calling (adding key bytes 3) in
       text-after c key ∙ book-new (book-has key _ h) (book-add b key bytes 3) (number-too c ok) .0 d
@@ -260,7 +276,7 @@ module _ (img : Bytes) (b : Book) (r : Reached img b) where
   -- no data for a point that was absent: it is found, without a message
   pub appended-bare : (key : Bytes) → fileText img key ≡ none → add img key [] 3 .answer .number ≡ 0
       → fileText (add img key [] 3 .after) key ≡ some none
-  unfolding perform call bookStep bookCall
+  unfolding performOn call bookStep bookCall
   appended-bare key h ok =
       let c = calling (adding key [] 3) in
       text-after c key ∙ book-new (book-has key _ h) (book-add b key [] 3) (number-too c ok) .1 refl
@@ -268,14 +284,14 @@ module _ (img : Bytes) (b : Book) (r : Reached img b) where
   -- whatever the data
   pub withdrawn-found : (key bytes : Bytes) → add img key bytes 4 .answer .number ≡ 0
       → fileText (add img key bytes 4 .after) key ≡ some none
-  unfolding perform call bookStep bookCall
+  unfolding performOn call bookStep bookCall
   withdrawn-found key bytes ok =
       let c = calling (adding key bytes 4) in
       text-after c key ∙ book-withdrawn (book-add b key bytes 4) (number-too c ok)
 
   -- an accepted delete
   pub deleted-gone : (key : Bytes) → delete img key .answer .number ≡ 0 → fileText (delete img key .after) key ≡ none
-  unfolding perform call bookStep bookCall
+  unfolding performOn call bookStep bookCall
   deleted-gone key ok =
       let c = calling (deleting key) in
       text-after c key ∙ book-gone (rel .1 .distinct) (book-delete b key) (number-too c ok) .0
@@ -284,7 +300,7 @@ module _ (img : Bytes) (b : Book) (r : Reached img b) where
   pub count-added : (key bytes : Bytes) (mode : ℕ) → fileText img key ≡ none
       → add img key bytes mode .answer .number ≡ 0
       → count (add img key bytes mode .after) .answer .amount ≡ count img .answer .amount + 1
-  unfolding perform call bookStep bookCall
+  unfolding performOn call bookStep bookCall
   count-added key bytes mode h ok =
       let c = calling (adding key bytes mode) in
       let new = book-more mode (book-has key _ h) (book-add b key bytes mode) (number-too c ok) in
@@ -293,7 +309,7 @@ module _ (img : Bytes) (b : Book) (r : Reached img b) where
   -- accepted or refused
   pub count-replaced : (key bytes : Bytes) (old : Option Bytes) (mode : ℕ) → fileText img key ≡ some old
       → count (add img key bytes mode .after) .answer .amount ≡ count img .answer .amount
-  unfolding perform call bookStep bookCall
+  unfolding performOn call bookStep bookCall
   count-replaced key bytes old mode h =
       let e = found-entry b key old (book-has key _ h) in
       count-after (calling (adding key bytes mode))
@@ -304,7 +320,7 @@ module _ (img : Bytes) (b : Book) (r : Reached img b) where
 
   pub count-deleted : (key : Bytes) → delete img key .answer .number ≡ 0
       → count (delete img key .after) .answer .amount + 1 ≡ count img .answer .amount
-  unfolding perform call bookStep bookCall
+  unfolding performOn call bookStep bookCall
   count-deleted key ok =
       let c = calling (deleting key) in
       let gone = book-gone (rel .1 .distinct) (book-delete b key) (number-too c ok) in
@@ -317,83 +333,98 @@ abbrev pub Each : (Step → Type 0) → List Step → Type 0
 Each p [] = Unit {0}
 Each p (c ∷ cs) = p c × Each p cs
 
--- what each such call keeps, the list keeps
-book-keeps : (p : Step → Type 0) (P : Book → Type 0) → ((c : Step) (b : Book) → p c → P b → P (bookStep c b .after))
-    → (calls : List Step) (b : Book) → Each p calls → P b → P (stateAfter bookStep calls b)
-unfolding stateAfter
-book-keeps p P one [] b a h = h
-book-keeps p P one (c ∷ cs) b a h = book-keeps p P one cs (bookStep c b .after) (a .1) (one c b (a .0) h)
+-- what each such step keeps, the list keeps
+book-keeps : (p : Step → Type 0) (P : Book → Type 0)
+    → ((t : Bool) (c : Step) (b : Book) → p c → P b → P (bookStep t c b .after))
+    → (steps : List Step) (s : State) (b : Book) → Each p steps → P b → P (bookAfter steps s b)
+unfolding stateAfter toldBy bookTold
+book-keeps p P one [] s b a h = h
+book-keeps p P one (c ∷ cs) s b a h =
+    book-keeps p P one cs (perform c s .after) (bookAt c s b) (a .1) (one (tells c s) c b (a .0) h)
 
-free-keeps : (calls : List Step) (img : Bytes) (b : Book) → Reflected img b → Each Keeping calls
-    → field img freeField ≤ field (stateAfter perform calls img) freeField
-unfolding stateAfter
-free-keeps [] img b r k = omega arith
-free-keeps (c ∷ cs) img b (g, r) k =
+-- where new space is taken
+unfoldable pub freeOf : State → ℕ
+freeOf (alone img) = field img freeField
+
+free-step : (c : Step) (s : State) (b : Book) → Held s b → permits c s ≡ true → Keeping c
+    → freeOf s ≤ freeOf (perform c s .after)
+unfolding Held freeOf perform aloneAfter
+free-step c (alone img) b (g, r) p k =
+    omega (arith, r .used, effect-used (step-effect (tells c (alone img)) c b) k, same-step g img b r c .after .used)
+
+free-keeps : (steps : List Step) (s : State) (b : Book) → Held s b → Permitted steps s → Each Keeping steps
+    → freeOf s ≤ freeOf (stateAfter perform steps s)
+unfolding stateAfter Permitted
+free-keeps [] s b h p k = omega arith
+free-keeps (c ∷ cs) s b h p k =
     omega (
       arith,
-      r .used,
-      effect-used (call-effect c b) (k .0),
-      step-kept g img b r c .after .used,
-      free-keeps cs (perform c img .after) (bookStep c b .after) (reflects-step img b (g, r) c) (k .1),
+      free-step c s b h (p .0) (k .0),
+      free-keeps cs (perform c s .after) (bookAt c s b) (held-step c s b h (p .0)) (p .1) (k .1),
     )
 
-module _ (img : Bytes) (b : Book) (r : Reached img b) where
-  text-after-all : (calls : List Step) (name : Bytes)
-      → fileText (stateAfter perform calls img) name ≡ bookText (stateAfter bookStep calls b) name
-  text-after-all calls = points-agree _ _ (reflects-after calls img b (reached-reflects img b r))
+module _ (s : State) (b : Book) (r : Reached s b) where
+  held-text : (key : Bytes) (t : Option (Option Bytes)) → stateText s key ≡ t → bookText b key ≡ t
+  held-text key t h = sym (texts-agree s b (reached-held s b r) key) ∙ h
+
+  text-after-all : (steps : List Step) → Permitted steps s → (name : Bytes)
+      → stateText (stateAfter perform steps s) name ≡ bookText (bookAfter steps s b) name
+  text-after-all steps p = texts-agree _ _ (held-after steps s b (reached-held s b r) p)
 
   -- a point that is found stays found until it is deleted, whatever else is called
-  pub stays-found : (key : Bytes) (text : Option Bytes) → fileText img key ≡ some text → (calls : List Step)
-      → Each (NotDeleting key) calls
-      → (text′ : Option Bytes) × (fileText (stateAfter perform calls img) key ≡ some text′)
-  stays-found key text h calls n =
-      let e = book-keeps (NotDeleting key) (Has key) (λ c x. effect-has key (call-effect c x)) calls b n
-      (found-entry b key text (book-has img b r key _ h)) in
-      (e .0 .text, text-after-all calls key ∙ the-text (stateAfter bookStep calls b) key (e .0) (e .1))
+  pub stays-found : (key : Bytes) (text : Option Bytes) → stateText s key ≡ some text → (steps : List Step)
+      → Permitted steps s → Each (NotDeleting key) steps
+      → (text′ : Option Bytes) × (stateText (stateAfter perform steps s) key ≡ some text′)
+  stays-found key text h steps p n =
+      let e = book-keeps (NotDeleting key) (Has key) (λ t c x. effect-has key (step-effect t c x)) steps s b n
+      (found-entry b key text (held-text key _ h)) in
+      (e .0 .text, text-after-all steps p key ∙ the-text (bookAfter steps s b) key (e .0) (e .1))
 
   -- a point that is not found stays so until it is added
-  pub stays-gone : (key : Bytes) → fileText img key ≡ none → (calls : List Step) → Each (NotAdding key) calls
-      → fileText (stateAfter perform calls img) key ≡ none
-  stays-gone key h calls n =
-      text-after-all calls key
+  pub stays-gone : (key : Bytes) → stateText s key ≡ none → (steps : List Step) → Permitted steps s
+      → Each (NotAdding key) steps
+      → stateText (stateAfter perform steps s) key ≡ none
+  stays-gone key h steps p n =
+      text-after-all steps p key
       ∙ no-text _ key
-      (book-keeps (NotAdding key) (Lacks key) (λ c x. effect-lacks key (call-effect c x)) calls b n
-      (found-no b key (book-has img b r key _ h)))
+      (book-keeps (NotAdding key) (Lacks key) (λ t c x. effect-lacks key (step-effect t c x)) steps s b n
+      (found-no b key (held-text key _ h)))
 
   -- between compactions space once taken is never handed out again: new space is taken at X, and X does not fall
-  pub free-grows : (calls : List Step) → Each Keeping calls
-      → field img freeField ≤ field (stateAfter perform calls img) freeField
-  free-grows calls k = free-keeps calls img b (reached-reflects img b r) k
+  pub free-grows : (steps : List Step) → Permitted steps s → Each Keeping steps
+      → freeOf s ≤ freeOf (stateAfter perform steps s)
+  free-grows steps p k = free-keeps steps s b (reached-held s b r) p k
 
 -- ---- compaction
 
-module _ (img : Bytes) (b : Book) (r : Reached img b) where
+module _ (img : Bytes) (b : Book) (r : Reached (alone img) b) where
   -- "15 .. if the image isn't sound" never comes in a list: compaction is accepted
   pub compact-accepted : compact img .answer .number ≡ 0
-  unfolding perform call bookStep bookCall bookCompact plain
-  compact-accepted = ap (λ (x : Answer). x .number) (step img b (rel img b r) compacting .1 .answer)
+  unfolding performOn call bookStep bookCall bookCompact plain
+  compact-accepted = ap (λ (x : Answer). x .number) (same-now img b r compacting)
 
   -- no call in a list answers 15
-  pub no-fifteen : (c : Step) → perform c img .answer .number ≡ 15 → ⊥
+  pub no-fifteen : (c : Step) → performOn c img .answer .number ≡ 15 → ⊥
   no-fifteen c q =
-      call-number (λ (n : ℕ). n ≡ 15 → ⊥) b (λ n l e. omega arith) (λ e. omega arith)
-      (λ m. room-number (λ (n : ℕ). n ≡ 15 → ⊥) b m (λ e. omega arith) (λ e. omega arith) (λ e. omega arith)) c
-      (ap (λ (x : Answer). x .number) (sym (step img b (rel img b r) c .1 .answer)) ∙ q)
+      step-of (λ (n : ℕ). n ≡ 15 → ⊥) b (λ n l e. omega arith) (λ e. omega arith)
+      (λ m. room-number (λ (n : ℕ). n ≡ 15 → ⊥) b m (λ e. omega arith) (λ e. omega arith) (λ e. omega arith))
+      (λ e. omega arith) (λ e. omega arith) (tells c (alone img)) c
+      (ap (λ (x : Answer). x .number) (sym (same-now img b r c)) ∙ q)
 
   -- it changes no point's text, and finds no other points
   pub compact-texts : (name : Bytes) → fileText (compact img .after) name ≡ fileText img name
-  unfolding perform call bookStep bookCall bookCompact
+  unfolding performOn call bookStep bookCall bookCompact
   compact-texts name =
       text-after img b r compacting name ∙ compacted-text b name ∙ sym (points-agree img b (rel img b r) name)
 
   -- "U the sum of 4 + length" over the texts: so far X stands above D
   pub compact-free : field (compact img .after) freeField
       ≡ layoutOf img .D + spaceForAll (headSize (layoutOf img)) (b .entries)
-  unfolding perform call bookStep bookCall bookCompact compactedBook
+  unfolding performOn call bookStep bookCall bookCompact compactedBook
   compact-free =
       let s = rel img b r .1 in
       let g = rel img b r .0 in
-      step-kept g img b s compacting .after .used
+      same-step g img b s compacting .after .used
       ∙ ap (λ (t : Terms). g .D + spaceForAll (t .head) (b .entries)) (s .terms)
       ∙ ap (λ (l : Layout). l .D + spaceForAll (headSize l) (b .entries)) (sym (s .file .layout))
 
@@ -404,7 +435,7 @@ module _ (img : Bytes) (b : Book) (r : Reached img b) where
       → length (bytesOf text) + length bytes ≤ m)
       → layoutOf img .D + spaceForAll (headSize (layoutOf img)) (b .entries) + headSize (layoutOf img) + m ≤ length img
       → add (compact img .after) key bytes mode .answer .number ≡ 13 → ⊥
-  unfolding perform call bookStep bookCall bookCompact compactedBook
+  unfolding performOn call bookStep bookCall bookCompact compactedBook
   compact-room key bytes mode m short long fits q =
       let b′ = compactedBook b in
       let at-name = calling (adding key bytes mode) in
@@ -415,8 +446,11 @@ module _ (img : Bytes) (b : Book) (r : Reached img b) where
       let t = long (e .text) there n₁ n₂ in
       room-left b′ _ (omega (arith, left, t, length-append (bytesOf (e .text)) bytes)))
       (ap (λ (x : Answer). x .number)
-      (sym (step (compact img .after) b′ (reflects-step img b (rel img b r) compacting) at-name .1 .answer)) ∙ q)
+      (sym (same-step (reached .0) (compact img .after) b′ (reached .1) at-name .answer)) ∙ q)
     where
+      reached : Reflected (compact img .after) (compactedBook b)
+      reached = unfold performOn bookStep bookCompact in rel-after img b r compacting
+
       g : Layout
       g = rel img b r .0
 
@@ -443,10 +477,12 @@ module _ (img : Bytes) (b : Book) (r : Reached img b) where
       ∙ sym first
 
 -- a point that was deleted stays so until it is added again
-pub deleted-stays-gone : (img : Bytes) (b : Book) → Reached img b → (key : Bytes) → delete img key .answer .number ≡ 0
-    → (calls : List Step) → Each (NotAdding key) calls
-    → fileText (stateAfter perform calls (delete img key .after)) key ≡ none
-deleted-stays-gone img b r key ok calls n =
-    stays-gone (delete img key .after) (bookDelete b key .after)
-    (unfold stateAfter perform call bookStep bookCall in reached-after img b r (calling (deleting key) ∷ [])) key
-    (deleted-gone img b r key ok) calls n
+pub deleted-stays-gone : (img : Bytes) (b : Book) → Reached (alone img) b → (key : Bytes)
+    → delete img key .answer .number ≡ 0
+    → (steps : List Step) → Permitted steps (alone (delete img key .after)) → Each (NotAdding key) steps
+    → stateText (stateAfter perform steps (alone (delete img key .after))) key ≡ none
+deleted-stays-gone img b r key ok steps p n =
+    stays-gone (alone (delete img key .after)) (bookDelete b key .after)
+    (unfold perform aloneAfter performOn call bookStep bookCall permits Permitted in
+    reached-step (alone img) b r (calling (deleting key)) (refl, tt)) key
+    (unfold stateText in deleted-gone img b r key ok) steps p n

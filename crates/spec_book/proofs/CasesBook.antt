@@ -9,20 +9,21 @@ use mathlib.Core.List.{List, [], _∷_, _++_}
 use mathlib.Core.Option.{Option, none, some}
 use Rattle.spec_file.specs.Bytes.{Bytes, zeros}
 use Rattle.spec_file.specs.Calls.{Answer, create}
-use Rattle.spec_file.specs.Lists.{Call, adding, deleting, looking, counting, answers, stateAfter}
+use Rattle.spec_file.specs.Lists.{Call, adding, deleting, looking, counting, call, answers, stateAfter}
 use Rattle.spec_file.proofs.CasesBase.{definitions, headed, after, numbers, one, two, done, refused, shows, shows-none, counts}
 use Rattle.spec_file.proofs.Cases.{five, by-three, by-four}
 use Rattle.spec_file.proofs.CasesCalls.{lifeCalls, lifeAnswers, noMessagesCalls, noMessagesAnswers, fullCalls, fullAnswers}
-use Rattle.spec_book.specs.Steps.{Step, perform}
-use Rattle.spec_book.specs.Book.{Terms, Book, newBook, find, without, withEntry, stepOf, roomAsks, entered, noting, bare, placed, addAbsent, replace, append, withdrawn, addPresent, addFound, guarded, bookAdd, deleteFound, bookDelete, lookupFound, bookLookup, bookCount, bookCall, bookStep}
-use Rattle.spec_book.specs.Demand.{fileText, textOf, bookText, termsOf, Agrees, Agreement}
+use Rattle.spec_book.specs.Steps.{performOn, aloneAfter, perform}
+use Rattle.spec_book.specs.Book.{Terms, Book, newBook, find, without, withEntry, stepOf, roomAsks, entered, noting, bare, placed, addAbsent, replace, append, withdrawn, addPresent, addFound, guarded, bookAdd, deleteFound, bookDelete, lookupFound, bookLookup, bookCount, bookCall}
+use Rattle.spec_book.specs.Reopened.{termsOf}
+use Rattle.spec_book.specs.Demand.{fileText, stateText, textOf, bookText, Agreement}
 
 unfoldable pub book-definitions : ℕ
 unfolding definitions
     newBook find without withEntry stepOf roomAsks entered noting bare placed addAbsent replace append withdrawn
     addPresent addFound guarded
-    bookAdd deleteFound bookDelete lookupFound bookLookup bookCount bookCall bookStep perform
-    fileText textOf bookText termsOf Agrees Agreement
+    bookAdd deleteFound bookDelete lookupFound bookLookup bookCount bookCall performOn aloneAfter perform
+    fileText stateText textOf bookText termsOf Agreement
 book-definitions = 0
 
 unfoldable pub booked : List Call → Book → List Answer
@@ -145,10 +146,10 @@ book-terms = refl
 abbrev pub asked-none : Terms
 asked-none = record { K = 2; N = 5507; R = 4096; head = 4; most = 16777215 }
 
-pub agreement-says : Agreement → (calls : List Step)
-    → (answers perform calls (create (zeros 40960) 2 0 7 .after) ≡ answers bookStep calls (newBook asked-none))
-    × ((name : Bytes) → fileText (stateAfter perform calls (create (zeros 40960) 2 0 7 .after)) name
-    ≡ bookText (stateAfter bookStep calls (newBook asked-none)) name)
+pub agreement-says : Agreement → (calls : List Call)
+    → (answers call calls (create (zeros 40960) 2 0 7 .after) ≡ answers bookCall calls (newBook asked-none))
+    × ((name : Bytes) → fileText (stateAfter call calls (create (zeros 40960) 2 0 7 .after)) name
+    ≡ bookText (stateAfter bookCall calls (newBook asked-none)) name)
 unfolding book-definitions
 agreement-says h calls = h (zeros 40960) 2 0 7 refl calls
 

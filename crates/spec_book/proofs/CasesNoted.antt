@@ -4,7 +4,7 @@ use mathlib.Core.List.{[], _∷_, _++_}
 use Rattle.spec_file.proofs.CasesBase.{shows}
 use Rattle.spec_file.proofs.CasesNotes.{notesNewCalls, notesNewAnswers, notesWithdrawnCalls, notesWithdrawnAnswers, notesRefusedCalls, notesRefusedAnswers}
 use Rattle.spec_book.specs.Book.{newBook}
-use Rattle.spec_book.specs.Demand.{termsOf}
+use Rattle.spec_book.specs.Reopened.{termsOf}
 use Rattle.spec_book.proofs.CasesBook.{booked, Books}
 
 pub notes-new-book : Books 8192 4 notesNewCalls notesNewAnswers 12

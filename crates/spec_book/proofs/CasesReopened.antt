@@ -12,10 +12,11 @@ use Rattle.spec_file.specs.Lists.{answers, stateAfter}
 use Rattle.spec_file.specs.Inspect.{check, sound}
 use Rattle.spec_file.proofs.CasesBase.{inspect-definitions, one, two}
 use Rattle.spec_file.proofs.CasesOthers.{others, left}
-use Rattle.spec_book.specs.Steps.{Step, perform}
-use Rattle.spec_book.specs.Book.{Book, bookStep}
-use Rattle.spec_book.specs.Demand.{fileText, bookText}
-use Rattle.spec_book.specs.Reopened.{entryAt, entriesFrom, bookOf, Starts, Reopened, AgreementFrom}
+use Rattle.spec_book.specs.Steps.{Step, performOn}
+use Rattle.spec_book.specs.Book.{Book}
+use Rattle.spec_book.specs.Told.{bookStep}
+use Rattle.spec_book.specs.Reopened.{entryAt, entriesFrom, bookOf, Starts, Reopened}
+use Rattle.spec_book.specs.Demand.{fileText, bookText, AllPlain, AgreementFrom}
 use Rattle.spec_book.proofs.CasesBook.{book-definitions}
 
 -- unfolding it unfolds all that reads a book off an image
@@ -53,10 +54,10 @@ left-book = refl
 -- What `AgreementFrom` says of an image that the check calls sound: it and the book read off it give the same answers,
 -- and find the same texts.
 pub reopened-says : AgreementFrom → (img : Bytes) → ((i : ℕ) → getD img i 0 < 256) → check img ≡ sound
-    → (calls : List Step)
-    → (answers perform calls img ≡ answers bookStep calls (bookOf img))
+    → (steps : List Step) → AllPlain steps
+    → (answers performOn steps img ≡ answers (bookStep false) steps (bookOf img))
     × ((name : Bytes)
-    → fileText (stateAfter perform calls img) name ≡ bookText (stateAfter bookStep calls (bookOf img)) name)
+    → fileText (stateAfter performOn steps img) name ≡ bookText (stateAfter (bookStep false) steps (bookOf img)) name)
 unfolding book-definitions Starts AgreementFrom
-reopened-says h img bytes checked calls =
-    h img (bookOf img) (inr (record { bytes = bytes; checked = checked; book-is = refl })) calls
+reopened-says h img bytes checked steps plain =
+    h img (bookOf img) (inr (record { bytes = bytes; checked = checked; book-is = refl })) steps plain

@@ -10,7 +10,7 @@ use Rattle.spec_file.specs.Lists.{adding, deleting, stateAfter}
 use Rattle.spec_file.proofs.CasesBase.{one, two, done, refused, shows}
 use Rattle.spec_compaction.proofs.CasesCompact.{orderBefore, orderAfter, orderAnswers, mixedBefore, mixedAfter, mixedAnswers}
 use Rattle.spec_book.specs.Book.{Book, newBook, bookCall, trimmed, trimmedAll, spaceFor, spaceForAll, compactedBook, bookCompact}
-use Rattle.spec_book.specs.Demand.{termsOf}
+use Rattle.spec_book.specs.Reopened.{termsOf}
 use Rattle.spec_book.proofs.CasesBook.{book-definitions, booked}
 use Rattle.spec_book.proofs.CasesReopened.{othersBook}
 

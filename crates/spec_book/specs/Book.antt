@@ -13,7 +13,6 @@ use Rattle.spec_file.specs.Messages.{bytesOf, isText}
 use Rattle.spec_file.specs.Questions.{Question, ask, firstNo, nameAllowed, named}
 use Rattle.spec_file.specs.Calls.{Outcome, plain}
 use Rattle.spec_file.specs.Lists.{Call, adding, deleting, looking, counting}
-use Rattle.spec_book.specs.Steps.{Step, calling, compacting}
 
 -- "entries (name, text, held)"; 02: "The book's text is none or a list that may be empty, and an entry notes whether it
 -- has an offset"
@@ -186,7 +185,3 @@ bookCall (adding name data′ mode) b = bookAdd b name data′ mode
 bookCall (deleting name) b = bookDelete b name
 bookCall (looking name) b = bookLookup b name
 bookCall counting b = bookCount b
-
-unfoldable pub bookStep : Step → Book → Outcome Book
-bookStep (calling c) b = bookCall c b
-bookStep compacting b = bookCompact b

@@ -1,6 +1,6 @@
 -- The plain control book, and demand 3: file and book agree on every list of steps.
 pub mod Steps
 pub mod Book
-pub mod Demand
+pub mod Told
 pub mod Reopened
-pub mod Forms
+pub mod Demand

@@ -1,10 +1,10 @@
 -- Document 02, Job 3: "The book to start from is read off a sound image: entries from taken slots, text from active
 -- messages, held from the length at the offset, U = X − D. Every list of calls on such an image then agrees with it."
 --     bookOf img         the book that an image's bytes give
---     Starts img b       where a list of calls may start: an accepted create, the new book; a sound image, its own
---     AgreementFrom      demand 3 from every such start; `Agreement` is its case from create
+--     termsOf            the book's terms of a new file
+--     Starts s b         where a list of calls may start: an accepted create, the new book; a sound image, its own
 -- Assumes nothing.
-use Prim.Native.Nat.{ℕ, zero, suc, _-_, _<_}
+use Prim.Native.Nat.{ℕ, zero, suc, _+_, _-_, _<_}
 use mathlib.Core.Path.{_≡_}
 use mathlib.Core.Bool.{cond, not}
 use mathlib.Core.List.{List, [], _∷_}
@@ -12,15 +12,14 @@ use mathlib.Core.Logic.{_⊎_}
 use lib.ListN.{length, getD}
 use lib.Dec.{eqb}
 use Rattle.spec_file.specs.Bytes.{Bytes}
-use Rattle.spec_file.specs.Limits.{freeField}
-use Rattle.spec_file.specs.Image.{field, Layout, layoutOf, slot, keyOf, offsetOf}
+use Rattle.spec_file.specs.Limits.{freeField, lengthWidth, mostLength}
+use Rattle.spec_file.specs.Image.{field, Layout, layoutOf, dataStart, slot, keyOf, offsetOf}
 use Rattle.spec_file.specs.Create.{slotsAsked}
 use Rattle.spec_file.specs.Messages.{headSize, shown, held}
 use Rattle.spec_file.specs.Calls.{create}
 use Rattle.spec_file.specs.Inspect.{taken, check, sound}
-use Rattle.spec_book.specs.Steps.{Step}
+use Rattle.spec_book.specs.Steps.{State, alone}
 use Rattle.spec_book.specs.Book.{Book, Terms, Entry, newBook}
-use Rattle.spec_book.specs.Demand.{termsOf, Agrees}
 
 -- "text from active messages, held from the length at the offset"; Job 4: "an entry notes whether it has an offset"
 unfoldable pub entryAt : Layout → Bytes → ℕ → Entry
@@ -46,6 +45,10 @@ bookOf img =
 
 -- ---- the two starts
 
+-- "N and K are as created; R = L − D."
+unfoldable pub termsOf : ℕ → ℕ → ℕ → Terms
+termsOf L K N = record { K = K; N = N; R = L - dataStart K N; head = lengthWidth + 1; most = mostLength }
+
 pub record Created (img : Bytes) (b : Book) : Type 0 where
   pub slice : Bytes
   pub K : ℕ
@@ -61,8 +64,5 @@ pub record Reopened (img : Bytes) (b : Book) : Type 0 where
   pub checked : check img ≡ sound
   pub book-is : b ≡ bookOf img
 
-unfoldable pub Starts : Bytes → Book → Type 0
-Starts img b = Created img b ⊎ Reopened img b
-
-unfoldable pub AgreementFrom : Type 0
-AgreementFrom = (img : Bytes) (b : Book) → Starts img b → (calls : List Step) → Agrees img b calls
+unfoldable pub Starts : State → Book → Type 0
+Starts (alone img) b = Created img b ⊎ Reopened img b

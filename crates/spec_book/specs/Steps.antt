@@ -1,18 +1,59 @@
--- What a list of calls may hold: document 01's calls, and those that document 02 adds. The forms that its Jobs 8 and 9
--- give to them are in Forms.
---     Step        a step of a list, with its arguments
---     perform     what it does to a file
+-- What a list of calls may hold, and what each step does to a file: document 01's calls, and those that document 02
+-- adds, each in its form.
+--     Change, changed      a call that has the forms of Jobs 8 and 9, and what it does to an image
+--     Step, performOn      a step of a list, with its arguments, and what it does to an image
+--     State, perform       what a list goes over: one image; what a step does to it
 -- Assumes nothing.
+use Prim.Native.Nat.{ℕ}
 use Rattle.spec_file.specs.Bytes.{Bytes}
-use Rattle.spec_file.specs.Calls.{Outcome}
+use Rattle.spec_file.specs.Calls.{Outcome, plain, add, delete}
 use Rattle.spec_file.specs.Lists.{Call, call}
 use Rattle.spec_compaction.specs.Compact.{compact}
+use Rattle.spec_changes.specs.Changes.{Listed, listed}
+use Rattle.spec_changes.specs.Journal.{Journaled, journaled}
 
--- Job 2, of compaction: "Lists of calls may now contain it"
+-- Job 8: "Add, delete and compaction get a form"; Job 9: "a form of those calls"
+pub data Change : Type 0 where
+  adds : Bytes → Bytes → ℕ → Change
+  deletes : Bytes → Change
+  compacts : Change
+
+unfoldable pub changed : Change → Bytes → Outcome Bytes
+changed (adds key data′ mode) img = add img key data′ mode
+changed (deletes key) img = delete img key
+changed compacts img = compact img
+
+-- Document 01's calls. Job 2, of compaction: "Lists of calls may now contain it". Job 8: "with a working slice that
+-- also fills a lent list": the working slice's length, for its bytes do not matter, and the list. Job 9: "with Job 8's
+-- working slice but no list", and a journal.
 pub data Step : Type 0 where
   calling : Call → Step
   compacting : Step
+  listing : Change → ℕ → Bytes → Step
+  journaling : Change → ℕ → Bytes → Step
 
-unfoldable pub perform : Step → Bytes → Outcome Bytes
-perform (calling c) img = call c img
-perform compacting img = compact img
+-- ---- one image
+
+unfoldable pub listedOutcome : Listed → Outcome Bytes
+listedOutcome l = record { after = l .after; answer = plain (l .number) }
+
+unfoldable pub journaledOutcome : Journaled → Outcome Bytes
+journaledOutcome l = record { after = l .after; answer = plain (l .number) }
+
+unfoldable pub performOn : Step → Bytes → Outcome Bytes
+performOn (calling c) img = call c img
+performOn compacting img = compact img
+performOn (listing c work list) img = listedOutcome (listed (changed c) img work list)
+performOn (journaling c work j) img = journaledOutcome (journaled (changed c) img work j)
+
+-- ---- the state
+
+-- what a list goes over: one image
+pub data State : Type 0 where
+  alone : Bytes → State
+
+unfoldable pub aloneAfter : Outcome Bytes → Outcome State
+aloneAfter o = record { after = alone (o .after); answer = o .answer }
+
+unfoldable pub perform : Step → State → Outcome State
+perform c (alone img) = aloneAfter (performOn c img)

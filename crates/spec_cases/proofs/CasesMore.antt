@@ -12,12 +12,10 @@ use Rattle.spec_file.specs.Lists.{Call, adding, deleting, looking, counting, an
 use Rattle.spec_file.proofs.CasesBase.{inspect-definitions, headed, after, told, filed, Files, one, two, point, done, refused, shows, shows-none, counts}
 use Rattle.spec_file.proofs.CasesOthers.{others}
 use Rattle.spec_book.specs.Book.{Entry, newBook}
-use Rattle.spec_book.specs.Demand.{termsOf}
-use Rattle.spec_book.specs.Reopened.{bookOf, entriesFrom, entryAt}
+use Rattle.spec_book.specs.Reopened.{termsOf, bookOf, entriesFrom, entryAt}
 use Rattle.spec_book.proofs.CasesBook.{booked, Books, Find, fileTexts, bookTexts}
 use Rattle.spec_book.proofs.CasesReopened.{othersBook}
-use Rattle.spec_book.specs.Steps.{perform}
-use Rattle.spec_book.specs.Forms.{outcomeOf, journaledOutcome, performForm}
+use Rattle.spec_book.specs.Steps.{changed, listedOutcome, journaledOutcome, performOn}
 use Rattle.spec_book.proofs.CasesForms.{form-definitions, formsCalls, formsAnswers, journalCalls, journalAnswers}
 use Rattle.spec_compaction.proofs.CasesCompact.{compact-definitions}
 use Rattle.spec_changes.proofs.CasesChanges.{changes, journals}
@@ -153,12 +151,12 @@ others-answers = (refl, refl)
 
 -- ---- document 02, Job 8: the forms in a list of calls
 
-pub forms-file : answers performForm formsCalls (headed 1 4 8192) ≡ formsAnswers
-unfolding compact-definitions form-definitions changes perform outcomeOf performForm headed
+pub forms-file : answers performOn formsCalls (headed 1 4 8192) ≡ formsAnswers
+unfolding compact-definitions form-definitions changes changed listedOutcome performOn headed
 forms-file = refl
 
 -- ---- Job 9
 
-pub journaled-file : answers performForm journalCalls (headed 1 4 8192) ≡ journalAnswers
-unfolding compact-definitions form-definitions journals perform journaledOutcome performForm headed
+pub journaled-file : answers performOn journalCalls (headed 1 4 8192) ≡ journalAnswers
+unfolding compact-definitions form-definitions journals changed journaledOutcome performOn headed
 journaled-file = refl

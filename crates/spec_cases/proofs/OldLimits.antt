@@ -5,7 +5,7 @@
 --     oldPerform       the calls of a list with them; oldCreate, oldWalk, oldCheck
 --     perform-as-before and the others       on an image within the old limits: the same answer, and every byte
 -- Assumes nothing.
-use mathlib.Core.Path.{_≡_, sym, ap, ap₂, _∙_}
+use mathlib.Core.Path.{_≡_, refl, sym, ap, ap₂, _∙_}
 use Prim.Native.Nat.{ℕ, _+_, _%_, _≤_}
 use native.Mathlib.Omega.{arith}
 use mathlib.Core.Bool.{Bool, cond, _&&_}
@@ -23,8 +23,10 @@ use Rattle.spec_file.specs.Messages.{headSize, isActive, held, added}
 use Rattle.spec_file.specs.Delete.{deleted}
 use Rattle.spec_file.specs.Questions.{Question, ask, firstNo, sizeAllowed, keyAllowed, slotsAllowed, tableFits, versionKnown, headerSound, createAsks, opened, addAsks, deleteAsks, lookupAsks, createNumber, openNumber, addNumber, deleteNumber, lookupNumber}
 use Rattle.spec_file.specs.Calls.{Outcome, plain, settled, create, add, delete, lookupOffset, lookupStart, lookupLength, lookupText, lookup, countOf, count}
-use Rattle.spec_file.specs.Lists.{adding, deleting, looking, counting, call}
-use Rattle.spec_book.specs.Steps.{Step, calling, compacting, perform}
+use Rattle.spec_file.specs.Lists.{Call, adding, deleting, looking, counting, call}
+use Rattle.spec_changes.specs.Changes.{listed}
+use Rattle.spec_changes.specs.Journal.{journaledNumber, journaled}
+use Rattle.spec_book.specs.Steps.{Change, adds, deletes, compacts, changed, Step, calling, compacting, listing, journaling, listedOutcome, journaledOutcome, performOn}
 use Rattle.spec_compaction.specs.Compact.{compacted, isSound, compactNumber, compact}
 use Rattle.spec_file.specs.Inspect.{Stop, stopAt, nextTaken, keyWalk, Verdict, tableVerdict, check}
 
@@ -141,16 +143,29 @@ checkBy img n = cond (eqb n 0) (tableVerdict img) (Verdict.refused n)
 pub oldCheck : Bytes → Verdict
 oldCheck img = checkBy img (firstNo (oldOpened img []))
 
-pub oldPerform : Step → Bytes → Outcome Bytes
-oldPerform (calling (adding key data′ mode)) img =
+pub oldCall : Call → Bytes → Outcome Bytes
+oldCall (adding key data′ mode) img =
     addBy img key data′ mode
     (firstNo (oldOpened img (addAsks (layoutOf img) img (search (layoutOf img) img key) key data′ mode)))
-oldPerform (calling (deleting key)) img =
+oldCall (deleting key) img =
     deleteBy img key (firstNo (oldOpened img (deleteAsks (layoutOf img) img (search (layoutOf img) img key) key)))
-oldPerform (calling (looking key)) img =
+oldCall (looking key) img =
     lookupBy img key (firstNo (oldOpened img (lookupAsks (layoutOf img) img (search (layoutOf img) img key) key)))
-oldPerform (calling counting) img = countBy img (firstNo (oldOpened img []))
-oldPerform compacting img = compactBy img (firstNo (oldOpened img (ask 15 (isSound (oldCheck img)) ∷ [])))
+oldCall counting img = countBy img (firstNo (oldOpened img []))
+
+pub oldCompact : Bytes → Outcome Bytes
+oldCompact img = compactBy img (firstNo (oldOpened img (ask 15 (isSound (oldCheck img)) ∷ [])))
+
+pub oldChanged : Change → Bytes → Outcome Bytes
+oldChanged (adds key data′ mode) img = oldCall (adding key data′ mode) img
+oldChanged (deletes key) img = oldCall (deleting key) img
+oldChanged compacts img = oldCompact img
+
+pub oldPerform : Step → Bytes → Outcome Bytes
+oldPerform (calling c) img = oldCall c img
+oldPerform compacting img = oldCompact img
+oldPerform (listing c work list) img = listedOutcome (listed (oldChanged c) img work list)
+oldPerform (journaling c work j) img = journaledOutcome (journaled (oldChanged c) img work j)
 
 -- questions 1 to 4, by the answers to 1 and 3
 createAsksBy : ℕ → ℕ → ℕ → Bool → Bool → List Question
@@ -167,43 +182,68 @@ oldWalk img i = walkBy img i (firstNo (oldOpened img []))
 -- ---- on an image within the old limits
 
 add-as-before : (img key data′ : Bytes) (mode : ℕ) → Within img
-    → add img key data′ mode ≡ oldPerform (calling (adding key data′ mode)) img
-unfolding add oldPerform addNumber addBy
+    → add img key data′ mode ≡ oldCall (adding key data′ mode) img
+unfolding add oldCall addNumber addBy
 add-as-before img key data′ mode w =
     ap (λ (qs : List Question). addBy img key data′ mode (firstNo qs)) (opened-as-before img _ w)
 
-delete-as-before : (img key : Bytes) → Within img → delete img key ≡ oldPerform (calling (deleting key)) img
-unfolding delete oldPerform deleteNumber deleteBy
+delete-as-before : (img key : Bytes) → Within img → delete img key ≡ oldCall (deleting key) img
+unfolding delete oldCall deleteNumber deleteBy
 delete-as-before img key w =
     ap (λ (qs : List Question). deleteBy img key (firstNo qs)) (opened-as-before img _ w)
 
-lookup-as-before : (img key : Bytes) → Within img → lookup img key ≡ oldPerform (calling (looking key)) img
-unfolding lookup oldPerform lookupNumber lookupOffset lookupStart lookupLength lookupText lookupBy offsetBy
+lookup-as-before : (img key : Bytes) → Within img → lookup img key ≡ oldCall (looking key) img
+unfolding lookup oldCall lookupNumber lookupOffset lookupStart lookupLength lookupText lookupBy offsetBy
 lookup-as-before img key w =
     ap (λ (qs : List Question). lookupBy img key (firstNo qs)) (opened-as-before img _ w)
 
-count-as-before : (img : Bytes) → Within img → count img ≡ oldPerform (calling counting) img
-unfolding count oldPerform countOf openNumber countBy
+count-as-before : (img : Bytes) → Within img → count img ≡ oldCall counting img
+unfolding count oldCall countOf openNumber countBy
 count-as-before img w = ap (λ (qs : List Question). countBy img (firstNo qs)) (opened-as-before img [] w)
 
 pub check-as-before : (img : Bytes) → Within img → check img ≡ oldCheck img
 unfolding check oldCheck checkBy openNumber
 check-as-before img w = ap (λ (qs : List Question). checkBy img (firstNo qs)) (opened-as-before img [] w)
 
-compact-as-before : (img : Bytes) → Within img → compact img ≡ oldPerform compacting img
-unfolding compact oldPerform compactNumber compactBy
+compact-as-before : (img : Bytes) → Within img → compact img ≡ oldCompact img
+unfolding compact oldCompact compactNumber compactBy
 compact-as-before img w =
     ap (λ (qs : List Question). compactBy img (firstNo qs))
     (opened-as-before img _ w
     ∙ ap (λ (v : Verdict). oldOpened img (ask 15 (isSound v) ∷ [])) (check-as-before img w))
 
-pub perform-as-before : (c : Step) (img : Bytes) → Within img → perform c img ≡ oldPerform c img
-unfolding perform call
-perform-as-before (calling (adding key data′ mode)) img w = add-as-before img key data′ mode w
-perform-as-before (calling (deleting key)) img w = delete-as-before img key w
-perform-as-before (calling (looking key)) img w = lookup-as-before img key w
-perform-as-before (calling counting) img w = count-as-before img w
+call-as-before : (c : Call) (img : Bytes) → Within img → call c img ≡ oldCall c img
+unfolding call
+call-as-before (adding key data′ mode) img w = add-as-before img key data′ mode w
+call-as-before (deleting key) img w = delete-as-before img key w
+call-as-before (looking key) img w = lookup-as-before img key w
+call-as-before counting img w = count-as-before img w
+
+changed-as-before : (c : Change) (img : Bytes) → Within img → changed c img ≡ oldChanged c img
+unfolding changed oldChanged
+changed-as-before (adds key data′ mode) img w = add-as-before img key data′ mode w
+changed-as-before (deletes key) img w = delete-as-before img key w
+changed-as-before compacts img w = compact-as-before img w
+
+-- a form goes by what its call does to the image that it is lent
+listed-by : (f h : Bytes → Outcome Bytes) (img : Bytes) (work : ℕ) (list : Bytes) → f img ≡ h img
+    → listed f img work list ≡ listed h img work list
+unfolding listed
+listed-by f h img work list e = rw e refl
+
+journaled-by : (f h : Bytes → Outcome Bytes) (img : Bytes) (work : ℕ) (j : Bytes) → f img ≡ h img
+    → journaled f img work j ≡ journaled h img work j
+unfolding journaled journaledNumber
+journaled-by f h img work j e = rw e refl
+
+pub perform-as-before : (c : Step) (img : Bytes) → Within img → performOn c img ≡ oldPerform c img
+unfolding performOn oldPerform
+perform-as-before (calling c) img w = call-as-before c img w
 perform-as-before compacting img w = compact-as-before img w
+perform-as-before (listing c work list) img w =
+    ap listedOutcome (listed-by (changed c) (oldChanged c) img work list (changed-as-before c img w))
+perform-as-before (journaling c work j) img w =
+    ap journaledOutcome (journaled-by (changed c) (oldChanged c) img work j (changed-as-before c img w))
 
 pub create-as-before : (img : Bytes) (K N seed : ℕ) → length img ≤ oldImage → slotsAsked N ≤ oldSlots
     → create img K N seed ≡ oldCreate img K N seed

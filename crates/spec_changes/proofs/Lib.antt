@@ -5,3 +5,4 @@ pub mod Journal  -- what stands in a journal is read back
 pub mod Recovery  -- a cut, and recovery
 pub mod Enough  -- how long a list and a journal always suffice
 pub mod CasesChanges  -- the list of changes, the journal, recovery
+pub mod Statements  -- what the records of promises and contracts say

@@ -20,7 +20,7 @@ ghost use Rattle.spec_compaction.specs.Compact.{compact};
 ghost use Rattle.spec_changes.specs.Journal.{Disk, recoverNumber, recovered};
 ghost use Rattle.spec_changes.specs.Lists.{Lists};
 ghost use Rattle.journal_recover.specs.Updates.{Updates};
-ghost use Rattle.journal_calls.specs.Journals.{Journals};
+ghost use Rattle.spec_changes.specs.Journals.{Journals};
 
 // Makes the slice an empty file: keys of `size` bytes, `slots` slots (0 for 5,507), the scramble of the seed.
 #[no_mangle]

@@ -1,0 +1,175 @@
+/* The commands, and what each is given. */
+#ifndef COMMANDS_H
+#define COMMANDS_H
+
+#include "complain.h"
+#include "image.h"
+#include "typed.h"
+
+#include <stddef.h>
+#include <stdint.h>
+
+/* Options that not every command takes, as bits: one line each. */
+#define OPTION(n) (UINT64_C(1) << (n))
+#define OPTION_KEY_SIZE OPTION(0)
+#define OPTION_SLOTS OPTION(1)
+#define OPTION_SEED OPTION(2)
+#define OPTION_SIZE OPTION(3)
+#define OPTION_REPLACE OPTION(4)
+#define OPTION_APPEND OPTION(5)
+#define OPTION_LONG OPTION(6)
+#define OPTION_CRLF OPTION(7)
+#define OPTION_EASTING OPTION(8)
+#define OPTION_NORTHING OPTION(9)
+#define OPTION_HEIGHT OPTION(10)
+#define OPTION_NOTE OPTION(11)
+#define OPTION_COLUMNS OPTION(12)
+#define OPTION_DELIMITER OPTION(13)
+#define OPTION_DECIMAL OPTION(14)
+#define OPTION_SKIP OPTION(15)
+#define OPTION_ANY_TEXT OPTION(16)
+#define OPTION_DRY_RUN OPTION(17)
+#define OPTION_SLOTS_READ OPTION(18)
+#define OPTION_NO_TEXT OPTION(19)
+#define OPTION_FORMAT OPTION(20)
+#define OPTION_DELTA OPTION(21)
+#define OPTION_NO_SYNC OPTION(22)
+#define OPTION_KEEP_GOING OPTION(23)
+#define OPTION_AGAINST OPTION(32)
+#define OPTION_PAPER OPTION(33)
+#define OPTION_STATION OPTION(34)
+#define OPTION_SIGMA OPTION(35)
+#define OPTION_SVG OPTION(36)
+#define OPTION_BY OPTION(37)
+#define OPTION_TSV OPTION(38)
+#define OPTION_JSON OPTION(39)
+#define OPTION_GSI OPTION(40)
+#define OPTION_LANDXML OPTION(41)
+#define OPTION_DXF OPTION(42)
+
+/* In place of the largest number of words: as many as there are. */
+enum { ANY_NUMBER = -1 };
+
+struct options {
+    char **word;         /* what is no option, in its order */
+    int words;
+    uint64_t given;      /* bits of OPTION */
+    uint64_t key_size;
+    uint64_t slots;
+    uint64_t seed;
+    uint64_t size;
+    uint64_t skip;
+    uint64_t wait;
+    const char *easting;
+    const char *northing;
+    const char *height;
+    const char *note;
+    const char *columns;
+    const char *delimiter;
+    const char *decimal;
+    const char *against;
+    const char *paper;
+    const char *station;
+    const char *sigma;
+    const char *by;
+    const char *format;
+    const char *delta;
+    int quiet;
+    int help;
+    int version;
+};
+
+struct command {
+    const char *name;
+    uint64_t takes;     /* bits of OPTION */
+    int least;          /* words */
+    int most;
+    int (*run)(const struct options *);
+    const char *help;
+};
+
+/* The command of that name, or NULL. */
+const struct command *command_find(const char *name);
+
+/* Prints the overall help, and that of a command. */
+void help_print(FILE *to);
+void help_print_command(const struct command *command, FILE *to);
+
+/* Reads the words behind a command's name: DONE or TROUBLE. The words are put
+ * in another order. */
+int options_read(struct options *o, const struct command *command, int count,
+                 char **words);
+
+/* Each answers an enum status. */
+int run_create(const struct options *o);
+int run_add(const struct options *o);
+int run_withdraw(const struct options *o);
+int run_delete(const struct options *o);
+int run_get(const struct options *o);
+int run_count(const struct options *o);
+int run_list(const struct options *o);
+int run_check(const struct options *o);
+int run_compact(const struct options *o);
+int run_book(const struct options *o);
+int run_stat(const struct options *o);
+int run_import(const struct options *o);
+int run_export(const struct options *o);
+int run_dump(const struct options *o);
+int run_load(const struct options *o);
+int run_delta(const struct options *o);
+int run_apply(const struct options *o);
+int run_diff(const struct options *o);
+int run_plot(const struct options *o);
+int run_figure(const struct options *o);
+int run_scramble(const struct options *o);
+
+/* ---- shared by them ---- */
+
+/* Says why `file` was refused; answers REFUSED. */
+int refuse(const char *file, uint32_t number);
+
+/* The same for a point; the name is as it was typed. `freed` are bytes that
+ * compaction would free if that made room for its text, else 0. */
+int refuse_point(const char *file, const char *name, uint32_t number,
+                 uint32_t key_size, uint64_t freed);
+
+/* Says what is wrong with an accepted image that is not sound, as check does;
+ * answers REFUSED, TROUBLE for no memory, or DONE if it is sound. */
+int say_unsound(FILE *to, const struct buffer *copy, int quiet);
+
+/* With --slots: how many slots the search for a point read. */
+void say_slots(const struct options *o, const char *name, uint32_t slots_read);
+
+/* A key from a typed name, padded with zero bytes to the key size. A longer
+ * name stays longer, and the library refuses it. 0, or -1 for no memory. */
+int key_from(struct buffer *key, const uint8_t *typed, size_t length,
+             uint32_t key_size);
+
+/* How the command line wants its file opened to be changed. */
+struct manner to_change(const struct options *o);
+
+/* Asks questions 1, 5 and 6 and reads the key size. Answers the number. */
+uint32_t ask_header(const uint8_t *bytes, size_t length, uint32_t *key_size);
+
+/* A copy of an accepted file: DONE, or the status after a complaint. */
+int copy_accepted(struct buffer *copy, const struct options *o,
+                  uint32_t *key_size);
+
+/* Says that a point is left out because of its damage; answers REFUSED. The
+ * name is as it is shown. */
+int leave_out(const char *file, const struct buffer *name, uint32_t number);
+
+/* Says that a point has no text; answers REFUSED. */
+int no_text(const struct options *o, const char *name);
+
+/* The last number of the version that --format names: DONE, or TROUBLE after a
+ * complaint. */
+int format_read(const struct options *o, uint8_t *last);
+
+/* get for several points, or in another form. */
+int get_several(const struct options *o);
+
+/* The mode of add: new, replace or append. */
+uint32_t mode_of(const struct options *o);
+
+#endif

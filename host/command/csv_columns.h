@@ -1,0 +1,45 @@
+/* Which field of a CSV file is what. */
+#ifndef CSV_COLUMNS_H
+#define CSV_COLUMNS_H
+
+#include "point.h"
+
+/* The fields of a point's text, and what stands beside them. */
+enum {
+    COLUMN_NAME = POINT_FIELDS,
+    COLUMN_TEXT,    /* the whole text, byte for byte */
+    COLUMN_EMPTY,   /* yes: the text is empty, which is not none */
+    COLUMNS,
+    COLUMN_SKIPPED = COLUMNS, /* a field that is not wanted */
+    COLUMN_X,       /* easting or northing: only their order tells */
+    COLUMN_Y,
+    COLUMN_UNKNOWN
+};
+
+struct columns {
+    int at[COLUMNS]; /* the field that holds it; -1: there is none */
+    size_t fields;   /* in each record; 0: not known yet */
+};
+
+extern const char *const column_words[COLUMNS];
+
+/* What the word says, in capitals or not, with blanks and a unit in brackets
+ * or without. */
+int column_of(struct piece word);
+
+/* From the value of --columns: DONE, or TROUBLE after a complaint. */
+int columns_from_option(struct columns *c, const char *value);
+
+/* Is the record a heading? It has no number and no empty field, and at least
+ * two words that name columns. */
+int is_heading(const struct record *r);
+
+/* From a heading, or, if *c is known, compared with it: DONE, or TROUBLE after
+ * a complaint that begins with `place`. */
+int columns_from_heading(struct columns *c, const struct record *r,
+                         const char *place);
+
+/* The columns as --columns takes them: 0, or -1 for no memory. */
+int columns_show(const struct columns *c, struct buffer *to);
+
+#endif

@@ -1,0 +1,347 @@
+/* The table of commands, and their help.
+ *
+ * In a help, {slots}, {image}, {key} and the like stand for the limits of
+ * bhtf.h and command_limits.h. */
+#include "commands.h"
+
+#include "command_limits.h"
+
+#include <string.h>
+
+#define NAMES \
+    "\nNames shorter than the file's key size are padded with zero bytes;\n" \
+    "longer ones are refused. \\xHH in a name stands for one byte.\n"
+
+#define WAITING \
+    "  -w, --wait S       seconds to wait while others use the file; {wait}\n" \
+    "                     unless given\n"
+
+#define SLOTS_READ \
+    "      --slots        say on standard error how many slots were read\n"
+
+#define DELTA \
+    "      --delta FILE   append what changed to FILE, for bhtf apply\n"
+
+#define NO_SYNC \
+    "      --no-sync      do not wait for the disk: faster, and safe if the\n" \
+    "                     command is killed, but not if the power fails\n"
+
+#define QUIET "  -q, --quiet        say nothing but errors and warnings\n"
+
+static const struct command commands[] = {
+    { "create", OPTION_KEY_SIZE | OPTION_SLOTS | OPTION_SEED | OPTION_SIZE |
+                OPTION_FORMAT | OPTION_NO_SYNC, 1, 1, run_create,
+      "bhtf create FILE [--key-size K] [--slots N] [--seed S] [--size BYTES] "
+      "..\n"
+      "Makes an empty file. An existing file is never overwritten.\n"
+      "  -k, --key-size K   bytes in a name, from 1 to {key}; {key_usual} "
+      "unless given\n"
+      "  -s, --slots N      points that it can hold, at most {slots}; 0, also "
+      "if\n"
+      "                     not given, for {slots_usual}\n"
+      "      --seed S       number from 0 to 4294967295 by which names are\n"
+      "                     scattered; 0 unless given\n"
+      "  -S, --size BYTES   length of the file, a multiple of {page} up to\n"
+      "                     {image}, also as 64K or 16M; unless given, the\n"
+      "                     table and {slot_bytes} bytes a slot\n"
+      "      --format V     1.0.2 unless given; 1.0.1 for a station that refuses\n"
+      "                     1.0.2 (5), until an empty text is stored\n" NO_SYNC },
+    { "add", OPTION_REPLACE | OPTION_APPEND | OPTION_EASTING |
+             OPTION_NORTHING | OPTION_HEIGHT | OPTION_NOTE |
+             OPTION_NO_TEXT | OPTION_SLOTS_READ | OPTION_DELTA |
+             OPTION_NO_SYNC, 2, 3, run_add,
+      "bhtf add FILE NAME [TEXT] [--replace | --append] [--slots] ..\n"
+      "bhtf add FILE NAME --easting E --northing N [--height H] [--note TEXT]\n"
+      "bhtf add FILE NAME --no-text\n"
+      "Stores a point with a text: TEXT, or all of standard input, or one of\n"
+      "  -E, --easting E    a number, with a decimal point\n"
+      "  -N, --northing N\n"
+      "  -H, --height H\n"
+      "  -t, --note TEXT    whatever is to be said of the point\n"
+      "An empty text is a text, as for a point that was visited; a file with "
+      "one is\n"
+      "of version 1.0.2, which stations that know only 1.0.1 refuse (5).\n"
+      "      --no-text      store the point without a text\n"
+      "A point that is already there is refused, but for\n"
+      "  -r, --replace      put the text in place of its own\n"
+      "  -a, --append       put the text behind its own\n"
+      SLOTS_READ DELTA NO_SYNC QUIET WAITING NAMES },
+    { "withdraw", OPTION_SLOTS_READ | OPTION_DELTA | OPTION_NO_SYNC, 2, 2,
+      run_withdraw,
+      "bhtf withdraw FILE NAME [--slots] [--delta FILE]\n"
+      "Takes a point's text away; the point stays, without a text.\n"
+      SLOTS_READ DELTA NO_SYNC WAITING NAMES },
+    { "delete", OPTION_SLOTS_READ | OPTION_DELTA | OPTION_NO_SYNC, 2, 2,
+      run_delete,
+      "bhtf delete FILE NAME [--slots] [--delta FILE]\n"
+      "Takes a point out.\n"
+      SLOTS_READ DELTA NO_SYNC WAITING NAMES },
+    { "get", OPTION_TSV | OPTION_JSON | OPTION_SLOTS_READ, 2, ANY_NUMBER,
+      run_get,
+      "bhtf get FILE NAME.. [--tsv | --json] [--slots]\n"
+      "Prints a point's text, byte for byte. Of several points, each on a "
+      "line\n"
+      "behind its name and a tab. Status 1 if one is not there, or has no "
+      "text;\n"
+      "an empty text is printed as one.\n"
+      "      --tsv          fields with tabs between them, as list prints them\n"
+      "      --json         an object a line, as list prints them\n"
+      SLOTS_READ
+      "                     for each point; fields and objects have it, too\n"
+      QUIET WAITING NAMES },
+    { "count", 0, 1, 1, run_count,
+      "bhtf count FILE\n"
+      "Prints the number of points.\n"
+      WAITING },
+    { "list", OPTION_LONG | OPTION_BY | OPTION_TSV | OPTION_JSON, 1, ANY_NUMBER,
+      run_list,
+      "bhtf list FILE [PATTERN..] [--by name | --by slot] [--long | --tsv | "
+      "--json]\n"
+      "Prints the names, one a line, in the order of their slots: without "
+      "their\n"
+      "padding; bytes that do not print, the backslash, and blanks at either\n"
+      "end as \\xHH. With patterns, the names that match one of them: * stands "
+      "for\n"
+      "anything, ? for one character, [..] for one of several.\n"
+      "  -b, --by ORDER     name, in the order of the names' bytes; or slot\n"
+      "  -l, --long         slot and length of the text in front of each; - if\n"
+      "                     there is no text\n"
+      "      --tsv          name, slot, easting, northing, height and note "
+      "with\n"
+      "                     tabs between them, under a heading; \\N for the "
+      "note\n"
+      "                     if there is no text\n"
+      "      --json         the same, an object a line\n"
+      WAITING },
+    { "check", 0, 1, 1, run_check,
+      "bhtf check FILE\n"
+      "Says whether the file is sound: status 0 if so, 1 if not. If so it says "
+      "the\n"
+      "number of points, the version and how many bytes are dead; if not, "
+      "where,\n"
+      "which two points share bytes, and what to do about that.\n"
+      QUIET WAITING },
+    { "compact", OPTION_DRY_RUN | OPTION_DELTA | OPTION_NO_SYNC, 1, 1,
+      run_compact,
+      "bhtf compact FILE [--dry-run] [--delta FILE]\n"
+      "Gives the bytes of texts that were replaced, withdrawn or deleted back, "
+      "and\n"
+      "says how much is used before and after. A file that is not sound is left "
+      "as\n"
+      "it is, with the words of check and status 1.\n"
+      "  -n, --dry-run      change nothing; say what would be\n"
+      DELTA NO_SYNC QUIET WAITING },
+    { "book", 0, 1, 1, run_book,
+      "bhtf book FILE\n"
+      "Prints the book that calls on a sound file start from: its terms, and "
+      "of each\n"
+      "point the name, the bytes held and the text, in the order of slots; a "
+      "minus\n"
+      "for what there is not.\n"
+      WAITING },
+    { "stat", 0, 1, 1, run_stat,
+      "bhtf stat FILE\n"
+      "Prints how full the file is, how many slots are read to find its points "
+      "and\n"
+      "where a name is not there, how many bytes of its data are dead, and how "
+      "many\n"
+      "bhtf compact would free.\n"
+      WAITING },
+    { "import", OPTION_REPLACE | OPTION_COLUMNS | OPTION_DELIMITER |
+                OPTION_DECIMAL | OPTION_SKIP | OPTION_ANY_TEXT |
+                OPTION_DRY_RUN | OPTION_GSI | OPTION_LANDXML |
+                OPTION_DELTA | OPTION_NO_SYNC | OPTION_KEEP_GOING, 2, 2,
+      run_import,
+      "bhtf import FILE CSV [--columns ORDER] [--replace] [--dry-run] ..\n"
+      "Stores a point for each line of a CSV file; of standard input if CSV is "
+      "-.\n"
+      "A heading says which column is which: name, easting, northing, height,\n"
+      "note or the usual other words, in any order. All of it is stored, or, "
+      "if a\n"
+      "line is refused, nothing. A line of empty fields is a point without a "
+      "text;\n"
+      "yes in a column empty makes it one with an empty text.\n"
+      "  -c, --columns ORDER  the columns of a file without a heading: PNEZD,\n"
+      "                     PENZD, or words as above, with commas between "
+      "them;\n"
+      "                     - for one to pass over\n"
+      "  -d, --delimiter D  comma, semicolon or tab; found out unless given\n"
+      "      --decimal C    , where numbers have a decimal comma\n"
+      "      --skip N       pass over the first N lines\n"
+      "      --any-text     take coordinates that are not numbers\n"
+      "  -r, --replace      replace points that are already there\n"
+      "      --keep-going   store the other lines if some are refused\n"
+      "  -n, --dry-run      store nothing; say what would happen, and every\n"
+      "                     line that would be refused\n"
+      "      --gsi          CSV is a Leica GSI-16 file\n"
+      "      --landxml      CSV is a LandXML file; its CgPoints are read\n"
+      DELTA NO_SYNC QUIET WAITING NAMES },
+    { "export", OPTION_CRLF | OPTION_GSI | OPTION_LANDXML | OPTION_DXF, 1, 1,
+      run_export,
+      "bhtf export FILE [--crlf | --gsi | --landxml | --dxf]\n"
+      "Prints the points as import reads them, with a heading. Texts that are "
+      "not\n"
+      "easting,northing,height,note stand in a column text; an empty text is a "
+      "yes\n"
+      "in a column empty.\n"
+      "      --crlf         end lines with carriage return and line feed\n"
+      "      --gsi          as Leica GSI-16\n"
+      "      --landxml      as CgPoints of LandXML 1.2\n"
+      "      --dxf          as points and names of DXF, release 12\n"
+      QUIET WAITING },
+    { "dump", 0, 1, 1, run_dump,
+      "bhtf dump FILE\n"
+      "Prints all of a file as text, a line for each point in the order of "
+      "their\n"
+      "names. load makes an equal file of it.\n"
+      QUIET WAITING },
+    { "load", OPTION_KEY_SIZE | OPTION_SLOTS | OPTION_SEED | OPTION_SIZE |
+              OPTION_FORMAT | OPTION_NO_SYNC, 1, 2, run_load,
+      "bhtf load FILE [DUMP] [--size BYTES] [--slots N] ..\n"
+      "Makes a file of what dump printed; of standard input if DUMP is - or "
+      "not\n"
+      "given. An existing file is never overwritten. In place of what the dump "
+      "says:\n"
+      "  -k, --key-size K   bytes in a name\n"
+      "  -s, --slots N      points that it can hold\n"
+      "      --seed S       number by which names are scattered\n"
+      "  -S, --size BYTES   length of the file\n"
+      "      --format V     its version; 1.0.1 for a station that refuses 1.0.2 "
+      "(5).\n"
+      "                     An empty text then has no place\n"
+      NO_SYNC QUIET },
+    { "delta", 0, 2, 2, run_delta,
+      "bhtf delta OLD NEW > CHANGES\n"
+      "Prints, for bhtf apply, what changed from OLD to NEW: a record of bytes, "
+      "with\n"
+      "check sums of both. Both files have the same length.\n"
+      QUIET WAITING },
+    { "apply", OPTION_DRY_RUN | OPTION_NO_SYNC, 1, 2, run_apply,
+      "bhtf apply COPY [CHANGES] [--dry-run]\n"
+      "Makes of COPY what the office's file became: CHANGES, or standard input "
+      "if\n"
+      "that is - or not given, is what delta printed or --delta wrote. Records "
+      "that\n"
+      "the copy already has are passed over. If one is missing, out of order or "
+      "for\n"
+      "another file the status is 1; if one is cut short or damaged it is 2; "
+      "COPY is\n"
+      "then as it was.\n"
+      "  -n, --dry-run      change nothing; say what would be\n"
+      NO_SYNC QUIET WAITING },
+    { "diff", OPTION_TSV, 2, 2, run_diff,
+      "bhtf diff OLD NEW [--tsv]\n"
+      "Says point by point what became of OLD in NEW: new, gone, moved by how\n"
+      "many millimetres, or another text. Status 0 if nothing did, 1 if "
+      "something.\n"
+      "      --tsv          fields with tabs between them, under a heading\n"
+      QUIET WAITING },
+    { "plot", OPTION_AGAINST | OPTION_PAPER, 1, 1, run_plot,
+      "bhtf plot FILE [--against OLD] [--paper SIZE] > PLAN.svg\n"
+      "Prints a plan of the points to scale as SVG, with names, grid, north\n"
+      "and a scale bar.\n"
+      "      --against OLD  also show what is new, gone and moved since that "
+      "file\n"
+      "  -p, --paper SIZE   A4, A3, A2, A1 or A0; unless given, the smallest "
+      "on\n"
+      "                     which the names have room beside their points\n"
+      WAITING },
+    { "figure", OPTION_STATION | OPTION_SIGMA | OPTION_SVG, 2, ANY_NUMBER,
+      run_figure,
+      "bhtf figure FILE --station E,N NAME NAME NAME .. [--sigma MGON] "
+      "[--svg]\n"
+      "Says how well directions from a station at easting E and northing N to\n"
+      "the named points would determine it: good (status 0), weak or not\n"
+      "determined (status 1), and why. Geometry alone is judged.\n"
+      "  -s, --station E,N  where the station is, or will be, in metres\n"
+      "      --sigma MGON   standard deviation of a direction; 1 unless given\n"
+      "      --svg          print a picture instead of words\n"
+      WAITING NAMES },
+    { "scramble", 0, 1, 1, run_scramble,
+      "bhtf scramble SEED\n"
+      "Prints the 95 numbers, one a line, by which names are scattered in a "
+      "file\n"
+      "that is made with this seed, a number from 0 to 4294967295.\n" },
+};
+
+const struct command *command_find(const char *name)
+{
+    for (size_t i = 0; i < sizeof commands / sizeof commands[0]; i++)
+        if (strcmp(commands[i].name, name) == 0)
+            return &commands[i];
+    return NULL;
+}
+
+/* Prints a limit that stands in braces, and answers what is behind it. */
+static const char *print_limit(const char *at, FILE *to)
+{
+    static const struct {
+        const char *name;
+        unsigned long value;
+    } all[] = {
+        { "{key}", BHTF_KEY_MAX },
+        { "{key_usual}", KEY_SIZE_USUAL },
+        { "{slots}", BHTF_SLOTS_MAX },
+        { "{slots_usual}", BHTF_SLOTS_DEFAULT },
+        { "{page}", BHTF_PAGE },
+        { "{image}", BHTF_IMAGE_MAX },
+        { "{slot_bytes}", BYTES_A_SLOT },
+        { "{wait}", WAIT_USUAL }
+    };
+
+    for (size_t i = 0; i < sizeof all / sizeof all[0]; i++)
+        if (strncmp(at, all[i].name, strlen(all[i].name)) == 0) {
+            fprintf(to, "%lu", all[i].value);
+            return at + strlen(all[i].name);
+        }
+    fputc(*at, to);
+    return at + 1;
+}
+
+void help_print_command(const struct command *command, FILE *to)
+{
+    const char *at = command->help;
+
+    while (*at != '\0') {
+        size_t plain = strcspn(at, "{");
+
+        fwrite(at, 1, plain, to);
+        at += plain;
+        if (*at != '\0')
+            at = print_limit(at, to);
+    }
+}
+
+void help_print(FILE *to)
+{
+    fputs("bhtf keeps named control points with their texts in one file.\n"
+          "\n"
+          "  bhtf create FILE            make an empty file\n"
+          "  bhtf add FILE NAME [TEXT]   store a point\n"
+          "  bhtf withdraw FILE NAME     take a point's text away\n"
+          "  bhtf delete FILE NAME       take a point out\n"
+          "  bhtf get FILE NAME..        print texts of points\n"
+          "  bhtf count FILE             print the number of points\n"
+          "  bhtf list FILE              print the names\n"
+          "  bhtf check FILE             say whether the file is sound\n"
+          "  bhtf compact FILE           give the space of dead texts back\n"
+          "  bhtf book FILE              print the book that a file starts from\n"
+          "  bhtf stat FILE              load, searches and dead bytes\n"
+          "  bhtf import FILE CSV        store points from a CSV file\n"
+          "  bhtf export FILE            print all points as CSV\n"
+          "  bhtf dump FILE              print all of it as text\n"
+          "  bhtf load FILE DUMP         make a file of such a text\n"
+          "  bhtf delta OLD NEW          print what changed, for a copy\n"
+          "  bhtf apply COPY             bring a copy up to date with that\n"
+          "  bhtf diff OLD NEW           say what became of the points\n"
+          "  bhtf plot FILE              print a plan as SVG\n"
+          "  bhtf figure FILE --station E,N NAME..\n"
+          "                              judge the figure of a resection\n"
+          "  bhtf scramble SEED          print the numbers of a seed\n"
+          "\n"
+          "bhtf help COMMAND says more about one of them; bhtf --version says "
+          "which\n"
+          "this is. Status: 0 done; 1 refused, no such point, or not sound; 2 "
+          "wrong\n"
+          "usage, input that is wrong, or the system failed.\n", to);
+}
