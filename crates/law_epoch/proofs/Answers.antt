@@ -1,7 +1,7 @@
 -- What the call answers, case by case, on any image bytes; and the text that it shows.
 --     number-closed, number-23, number-7, number-on      the call's number, question by question
 --     Accepted, accepted      what an accepted call found; refused-is, accepted-is: its answer
---     at-part, at-shown, at-inside, at-length      the text is the part of the image from the start on; none is told from
+--     at-part, at-shown, at-inside, at-length, at-small      the text is the part of the image from the start on; none is told from
 --                             an empty one by the start
 -- Assumes nothing.
 use mathlib.Core.Path.{_≡_, refl, sym, ap, _∙_, subst}
@@ -13,6 +13,7 @@ use lib.ListN.{length}
 use lib.Dec.{eqb}
 use borrow.Author.Tests.{leb-true, lt-leb, eqb-true, eq-eqb, ne-eqb}
 use Rattle.spec_file.specs.Bytes.{Bytes, part}
+use Rattle.spec_file.specs.Limits.{mostImage}
 use Rattle.spec_file.specs.Image.{Layout, layoutOf, slot, offsetOf}
 use Rattle.spec_file.specs.Search.{Probe, met, empty, exhausted, isMet, slotOf}
 use Rattle.spec_file.specs.Messages.{headSize, lengthAt, textAt, isActive, shown, shownLength, bytesOf, isText}
@@ -165,3 +166,16 @@ module _ (img name : Bytes) (t : ℕ) where
   pub at-length : length (bytesOf (atEpoch img name t .text)) ≡ atEpoch img name t .length
   at-length =
       ap length (sym at-part) ∙ part-length img (atEpoch img name t .start) (atEpoch img name t .length) at-inside
+
+  -- both fit 32 bits
+  pub at-small : atEpoch img name t .start + atEpoch img name t .length ≤ mostImage
+  unfolding refusedDated
+  at-small =
+      by-eq (atEpochNumber img name t) 0
+      (λ e. omega (arith, at-inside, opened-facts img (accepted e .opened) .size-high))
+      (λ z.
+      omega (
+        arith,
+        ap (λ (d : Dated). d .start) (refused-is _ refl z),
+        ap (λ (d : Dated). d .length) (refused-is _ refl z),
+      ))
