@@ -14,7 +14,7 @@ use borrow.Author.Tests.{le-leb, lt-leb, eq-eqb, ne-eqb}
 use Rattle.spec_file.specs.Bytes.{Bytes}
 use Rattle.spec_file.specs.Image.{Layout, layoutOf, slot, offsetOf}
 use Rattle.spec_file.specs.Search.{Probe, met, empty, exhausted, isMet, slotOf}
-use Rattle.spec_file.specs.Messages.{headSize, lengthAt, isActive, held, shownLength}
+use Rattle.spec_file.specs.Messages.{headSize, isActive, held, shownLength}
 use Rattle.spec_file.specs.Questions.{firstNo, shownAsks, openNumber}
 use Rattle.law_file.proofs.Tests.{by-bool, zero-yes, zero-no}
 use Rattle.law_file.proofs.Opened.{firstNo-head}
@@ -22,7 +22,7 @@ use Rattle.law_file.proofs.Effects.{active-some}
 use Rattle.law_file.proofs.Stretch.{held-none, held-some}
 use Rattle.spec_epoch.specs.Epochs.{epochSize, leastKey, epochAt, chosen, keyDated, prismAllowed, atEpochNumber, Dated, shownAt, refusedDated, atEpoch}
 use Rattle.law_epoch.proofs.Choice.{Leads, chosen-leads}
-use Rattle.law_epoch.proofs.Answers.{number-on, refused-is, accepted-is}
+use Rattle.law_epoch.proofs.Answers.{number-on, refused-is}
 use Rattle.header_layout.specs.Shapes.{shapeOf}
 use Rattle.header_layout.specs.declared.shape.Shape.{Shape}
 use Rattle.table_search.specs.Probes.{probeOf, Within}
@@ -64,7 +64,9 @@ module _ (img : Bytes) (s : Probe) (r : code.Dated)
 
     offset-is : shownOffset g img s ≡ cond (isActive img at) at 0
     unfolding shownOffset
-    offset-is = ap (λ (b : Bool). cond (b && isActive img at) at 0) (eq-eqb (firstNo (shownAsks g img s)) 0 none-refused)
+    offset-is =
+        ap (λ (b : Bool). cond (b && isActive img at) at 0)
+        (eq-eqb (firstNo (shownAsks g img s)) 0 none-refused)
 
     start-is : r .located .start .0 ≡ shownAt g img (slotOf s) .start
     unfolding shownAt
@@ -104,12 +106,13 @@ module _ (img name : Bytes) (s : Shape) (is : s ≡ shapeOf img) where
   unfolding keyDated
   key-long l = le-leb leastKey (layoutOf img .K) (omega (arith, layout-key img s is))
 
-  pub name-other : (length name ≡ s .keylen - epochSize → ⊥) → prismAllowed (layoutOf img .K) name ≡ false
+  pub name-other : leastKey ≤ s .keylen → (length name + epochSize ≡ s .keylen → ⊥)
+      → prismAllowed (layoutOf img .K) name ≡ false
   unfolding prismAllowed
-  name-other z =
+  name-other l z =
       ne-eqb (length name) (layoutOf img .K - epochSize) (λ q. z (omega (arith, q, layout-key img s is)))
 
-  pub name-is : length name ≡ s .keylen - epochSize → prismAllowed (layoutOf img .K) name ≡ true
+  pub name-is : length name + epochSize ≡ s .keylen → prismAllowed (layoutOf img .K) name ≡ true
   unfolding prismAllowed
   name-is q = eq-eqb (length name) (layoutOf img .K - epochSize) (omega (arith, q, layout-key img s is))
 

@@ -67,7 +67,7 @@ pub fn locate_at(image: &[u8], name: &[u8], t: u32) -> Dated
     if size < LEAST_KEY {
         return refused(23);
     }
-    if name.len() != size - EPOCH_SIZE {
+    if name.len() + EPOCH_SIZE != size {
         return refused(7);
     }
     show(image, shape, choose(image, shape, name, t))

@@ -7,7 +7,7 @@
 use mathlib.Core.Path.{_≡_, refl, sym, ap, ap₂, _∙_, subst}
 use Prim.Native.Nat.{ℕ, _+_, _-_, _≤_, _<_}
 use native.Mathlib.Omega.{arith}
-use mathlib.Core.Bool.{Bool, true, false, cond, _&&_, true≢false, false≢true}
+use mathlib.Core.Bool.{Bool, true, false, cond, _&&_, false≢true}
 use lib.Dec.{leb}
 use borrow.Author.Tests.{le-leb, lt-leb}
 use Rattle.spec_file.specs.Bytes.{Bytes}
@@ -104,7 +104,8 @@ module _ (img name : Bytes) (t : ℕ) (i : Slot) (best : Chosen) (k : Kept img b
 -- ---- the loop
 pub record Passes (img name : Bytes) (t slots i : ℕ) (best : Chosen) : Type 0 where
   pub low : i ≤ slots
-  pub chooses : chosen (layoutOf img) img name t ≡ latest (layoutOf img) img name t (slots - i) i (probeOf (best .found))
+  pub chooses : chosen (layoutOf img) img name t
+      ≡ latest (layoutOf img) img name t (slots - i) i (probeOf (best .found))
   pub kept : Kept img best
 
 pub passes-start : (img name : Bytes) (t slots : ℕ) → layoutOf img .N ≡ slots

@@ -14,7 +14,7 @@ use lib.Seq.{length-take-le, take-length}
 use lib.Dec.{leb}
 use borrow.Author.Tests.{le-leb, lt-leb}
 use Rattle.spec_file.specs.Bytes.{Bytes, part, number, same, allZero}
-use Rattle.spec_file.specs.Image.{field, layoutOf, slot, keyOf, vacant}
+use Rattle.spec_file.specs.Image.{field, layoutOf, vacant}
 use Rattle.spec_file.specs.Inspect.{taken}
 use Rattle.law_file.proofs.Tests.{by-bool}
 use Rattle.law_file.proofs.Bytes.{part-part, same-true}
@@ -39,7 +39,8 @@ pub mark-other : (key name : Bytes) (end block x : ℕ) → length name ≤ leng
     → x ≡ little (part (take end key) (length (take end key) - 4) 4) → (x ≡ block → ⊥)
     → false ≡ same (take (length name) key) name
 mark-other key name end block x l m e is other =
-    by-bool (same (take (length name) key) name) (λ s. absurd (other (alike (same-true (take (length name) key) name s)))) sym
+    by-bool (same (take (length name) key) name)
+    (λ s. absurd (other (alike (same-true (take (length name) key) name s)))) sym
   where
     alike : take (length name) key ≡ name → x ≡ block
     alike q =

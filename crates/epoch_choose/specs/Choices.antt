@@ -27,7 +27,8 @@ Kept img best =
 
 pub record Looked (img name : Bytes) (t i : ℕ) (best r : Chosen) : Type 0 where
   pub found : probeOf (r .found)
-      ≡ cond (eligible (layoutOf img) img name t i) (later (layoutOf img) img (probeOf (best .found)) i) (probeOf (best .found))
+      ≡ cond (eligible (layoutOf img) img name t i) (later (layoutOf img) img (probeOf (best .found)) i)
+      (probeOf (best .found))
   pub kept : Kept img r
 
 pub record Chooses (img name : Bytes) (t : ℕ) (r : Chosen) : Type 0 where

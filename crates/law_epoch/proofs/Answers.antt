@@ -1,17 +1,17 @@
 -- What the call answers, case by case, on any image bytes; and the text that it shows.
 --     number-closed, number-23, number-7, number-on      the call's number, question by question
 --     Accepted, accepted      what an accepted call found; refused-is, accepted-is: its answer
---     at-part, at-shown, at-inside, at-length, at-small      the text is the part of the image from the start on; none is told from
---                             an empty one by the start
+--     at-part, at-shown, at-inside, at-length, at-small      the text is the part of the image from the start on, and
+--                             none is told from an empty one by the start
 -- Assumes nothing.
 use mathlib.Core.Path.{_≡_, refl, sym, ap, _∙_, subst}
-use Prim.Native.Nat.{ℕ, _+_, _-_, _≤_, _<_}
+use Prim.Native.Nat.{ℕ, _+_, _-_, _≤_}
 use native.Mathlib.Omega.{arith}
-use mathlib.Core.Bool.{Bool, true, false, cond, not}
+use mathlib.Core.Bool.{true, false, not}
 use mathlib.Core.List.{_∷_}
 use lib.ListN.{length}
 use lib.Dec.{eqb}
-use borrow.Author.Tests.{leb-true, lt-leb, eqb-true, eq-eqb, ne-eqb}
+use borrow.Author.Tests.{leb-true, eqb-true, ne-eqb}
 use Rattle.spec_file.specs.Bytes.{Bytes, part}
 use Rattle.spec_file.specs.Limits.{mostImage}
 use Rattle.spec_file.specs.Image.{Layout, layoutOf, slot, offsetOf}
@@ -20,7 +20,7 @@ use Rattle.spec_file.specs.Messages.{headSize, lengthAt, textAt, isActive, show
 use Rattle.spec_file.specs.Questions.{ask, firstNo, shownAsks, messageSound, metMessageSound, openNumber}
 use Rattle.law_file.proofs.Tests.{by-bool, by-eq, zero-yes, zero-no}
 use Rattle.law_file.proofs.Bytes.{part-length}
-use Rattle.law_file.proofs.Opened.{Opened, opened-facts, firstNo-yes, firstNo-no, firstNo-head, firstNo-tail, firstNo-opened, firstNo-refused}
+use Rattle.law_file.proofs.Opened.{opened-facts, firstNo-yes, firstNo-no, firstNo-head, firstNo-tail, firstNo-opened, firstNo-refused}
 use Rattle.law_file.proofs.Effects.{message-end, active-some}
 use Rattle.spec_epoch.specs.Epochs.{epochSize, leastKey, chosen, keyDated, prismAllowed, atEpochAsks, atEpochNumber, Dated, shownAt, refusedDated, atEpoch}
 
@@ -123,7 +123,8 @@ module _ (img name : Bytes) (t : ℕ) where
       let is = met-slot picked (firstNo-head 14 (isMet picked) _ (λ z. omega arith) after-7) in
       record {
         opened = h;
-        dated = leb-true leastKey (g .K) (firstNo-head 23 (keyDated (g .K)) _ (λ z. omega arith) asks);
+        dated =
+            leb-true leastKey (g .K) (firstNo-head 23 (keyDated (g .K)) _ (λ z. omega arith) asks);
         named =
             eqb-true (length name) (g .K - epochSize)
             (firstNo-head 7 (prismAllowed (g .K) name) _ (λ z. omega arith) after-23);

@@ -5,14 +5,14 @@
 --     chosen-leads    so of all N, the chosen one
 --     leads-one       no other slot is so
 -- Assumes nothing.
-use mathlib.Core.Path.{_≡_, refl, sym, ap, _∙_, subst}
+use mathlib.Core.Path.{_≡_, sym, ap, _∙_, subst}
 use Prim.Native.Nat.{ℕ, zero, suc, _+_, _-_, _≤_, _<_}
 use native.Mathlib.Omega.{arith}
-use mathlib.Core.Bool.{Bool, true, false, cond, not, _&&_}
+use mathlib.Core.Bool.{Bool, true, false, cond, not}
 use lib.Dec.{leb}
-use borrow.Author.Tests.{leb-true, le-leb, lt-leb, not-true, not-false}
+use borrow.Author.Tests.{leb-true, le-leb, lt-leb, not-true}
 use Rattle.spec_file.specs.Bytes.{Bytes, same}
-use Rattle.spec_file.specs.Image.{Layout, slot, keyOf, vacant}
+use Rattle.spec_file.specs.Image.{Layout, slot, vacant}
 use Rattle.spec_file.specs.Search.{Probe, met, empty, exhausted, isMet, slotOf}
 use Rattle.spec_file.specs.Inspect.{taken}
 use Rattle.law_file.proofs.Tests.{by-bool, by-le, by-eq, and-left, and-right, and-true, not-both}
@@ -34,7 +34,8 @@ module _ (K : ℕ) (name : Bytes) (t : ℕ) (key : Bytes) where
   pub dated-yes : prismOf K key ≡ name → epochOf K key ≤ t → datedBy K name t key ≡ true
   unfolding datedBy
   dated-yes e l =
-      and-true (same (prismOf K key) name) (leb (epochOf K key) t) (ap (same (prismOf K key)) (sym e) ∙ same-refl (prismOf K key))
+      and-true (same (prismOf K key) name) (leb (epochOf K key) t)
+      (ap (same (prismOf K key)) (sym e) ∙ same-refl (prismOf K key))
       (le-leb (epochOf K key) t l)
 
 module _ (g : Layout) (img name : Bytes) (t : ℕ) where

@@ -9,24 +9,24 @@
 use mathlib.Core.Path.{_≡_, refl, sym, ap, _∙_, subst}
 use Prim.Native.Nat.{ℕ, _-_, _≤_, _<_}
 use native.Mathlib.Omega.{arith}
-use mathlib.Core.Bool.{Bool, true, false, not, _&&_}
+use mathlib.Core.Bool.{true, not}
 use lib.ListN.{length}
 use lib.Dec.{eqb}
 use borrow.Author.Tests.{le-leb, eq-eqb}
 use Rattle.spec_file.specs.Bytes.{Bytes, allZero}
-use Rattle.spec_file.specs.Image.{Layout, layoutOf, slot, keyOf, offsetOf, vacant}
+use Rattle.spec_file.specs.Image.{Layout, layoutOf, slot, offsetOf, vacant}
 use Rattle.spec_file.specs.Search.{Probe, met, empty, exhausted, isMet, slotOf}
 use Rattle.spec_file.specs.Messages.{shown, bytesOf}
 use Rattle.spec_file.specs.Questions.{firstNo, shownAsks, messageSound, nameAllowed, openNumber}
 use Rattle.spec_file.specs.Calls.{lookup}
 use Rattle.spec_file.specs.Inspect.{check, sound}
-use Rattle.law_file.proofs.Tests.{by-bool, by-le, by-eq, and-true, not-both}
+use Rattle.law_file.proofs.Tests.{by-bool, by-le, and-true, not-both}
 use Rattle.law_file.proofs.Slots.{length-slot, length-keyOf}
 use Rattle.law_file.proofs.Table.{Taken, keyAt}
 use Rattle.law_file.proofs.Opened.{opened-facts, opened-room}
 use Rattle.law_file.proofs.Outcomes.{shown-14, shown-11, shown-0, lookup-shows}
 use Rattle.law_file.proofs.Verdict.{check-searches}
-use Rattle.spec_epoch.specs.Epochs.{epochSize, leastKey, prismOf, epochAt, eligible, chosen, keyDated, prismAllowed, atEpochNumber, Dated, shownAt, atEpoch}
+use Rattle.spec_epoch.specs.Epochs.{epochSize, leastKey, prismOf, epochAt, eligible, chosen, keyDated, prismAllowed, Dated, shownAt, atEpoch}
 use Rattle.law_epoch.proofs.Choice.{eligible-taken, eligible-name, eligible-at-most, eligible-yes, Latest, Leads, chosen-leads}
 use Rattle.law_epoch.proofs.Answers.{number-on, number-is, Accepted, accepted, accepted-is}
 

@@ -7,7 +7,7 @@ use mathlib.Core.Bool.{not}
 use lib.ListN.{length}
 use lib.Dec.{eqb}
 use borrow.Author.Needs.{needs}
-use Rattle.spec_file.specs.Bytes.{Bytes, part}
+use Rattle.spec_file.specs.Bytes.{part}
 use Rattle.spec_epoch.specs.Epochs.{atEpoch}
 use Rattle.law_file.proofs.Stores.{part-lent}
 use Rattle.law_epoch.proofs.Answers.{at-part, at-shown, at-inside, at-length}
@@ -61,7 +61,8 @@ returns c =
       (
         l .ensures .epoch,
         (
-          ap (λ (n : ℕ). not (eqb n 0)) (P .at .ensures ∙ l .ensures .start) ∙ at-shown (A .image .now) (A .name .now) (A .t),
+          ap (λ (n : ℕ). not (eqb n 0)) (P .at .ensures ∙ l .ensures .start)
+              ∙ at-shown (A .image .now) (A .name .now) (A .t),
           (text, ap length text ∙ at-length (A .image .now) (A .name .now) (A .t)),
         ),
       ),

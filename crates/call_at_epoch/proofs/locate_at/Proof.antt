@@ -57,8 +57,8 @@ returns-2 c =
     (key-short (img E) (name E) (R .read-shape .result) (R .read-shape .ensures) (c .before .if2 .taken)))
     (λ z. omega arith) (c .refused2 .ensures)
 
-sub-if3 : tie.Need-sub-if3
-sub-if3 c = search needs
+add-if3 : tie.Need-add-if3
+add-if3 c = search needs
 
 refused-requires-3 : tie.Need-refused-requires-3
 refused-requires-3 c κs = search needs
@@ -72,7 +72,7 @@ returns-3 c =
     let s = R .read-shape in
     answer-refused (img E) (name E) t _ 7
     (number-7 (img E) (name E) t (is-open E) (key-long (img E) (name E) (s .result) (s .ensures) (L .if2 .left))
-    (name-other (img E) (name E) (s .result) (s .ensures) (c .before .if3 .taken)))
+    (name-other (img E) (name E) (s .result) (s .ensures) (L .if2 .left) (c .before .if3 .taken)))
     (λ z. omega arith) (c .refused3 .ensures)
 
 choose-requires : tie.Need-choose-requires
@@ -85,7 +85,8 @@ show-requires c κs =
     let s = R .read-shape in (
       record { accepted = is-open E; shape = s .ensures },
       chosen-within (img E) (name E) (started E .args .t) (s .result .slots)
-          (layout-slots (img E) (s .result) (s .ensures)) (probeOf (c .choose .result .found)) (c .choose .ensures .found),
+          (layout-slots (img E) (s .result) (s .ensures)) (probeOf (c .choose .result .found))
+          (c .choose .ensures .found),
       c .choose .ensures .kept,
     )
 
@@ -112,7 +113,7 @@ locate-at-spec =
     read-shape-requires
     refused-requires-2
     returns-2
-    sub-if3
+    add-if3
     refused-requires-3
     returns-3
     choose-requires

@@ -1,7 +1,6 @@
 -- `epoch_choose::choose` meets its contract: the best of the slots below i is kept. Assumes nothing.
 use Prim.Native.Nat.{_-_}
 use native.Mathlib.Omega.{arith}
-use mathlib.Core.Path.{_∙_}
 use borrow.Author.Needs.{needs}
 use Rattle.table_search.proofs.Headers.{header, layout-slots}
 use Rattle.epoch_choose.proofs.Best.{Passes, passes-start, passes-on, passes-all}

@@ -1,5 +1,4 @@
 -- `epoch_choose::is_eligible` meets its contract: the name, the epoch, and that the slot is not empty. Assumes nothing.
-use mathlib.Core.Path.{sym, _∙_}
 use borrow.Author.Needs.{needs}
 use Rattle.law_file.proofs.Tests.{was-no, was-yes}
 use Rattle.epoch_choose.proofs.Keys.{key-long, name-short, eligible-other, eligible-later, eligible-here}

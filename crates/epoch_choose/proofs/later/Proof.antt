@@ -1,5 +1,6 @@
--- `epoch_choose::later` meets its contract: slot i where there is none yet, or where its epoch is larger. Assumes nothing.
-use mathlib.Core.Path.{ap, _∙_}
+-- `epoch_choose::later` meets its contract: slot i where there is none yet, or where its epoch is larger.
+-- Assumes nothing.
+use mathlib.Core.Path.{ap}
 use borrow.Author.Needs.{needs}
 use Rattle.spec_file.specs.Search.{isMet}
 use Rattle.table_search.proofs.Taken.{other-met, met-is}
@@ -19,7 +20,8 @@ returns-2 : tie.Need-returns-2
 unfolding isMet
 returns-2 c =
     let A = c .before .before .before .before .before .args in
-    kept-best (A .best) (A .i) (A .epoch) (ap isMet (met-is (c .before .before .before .found .given .1))) (c .if1 .taken)
+    kept-best (A .best) (A .i) (A .epoch) (ap isMet (met-is (c .before .before .before .found .given .1)))
+    (c .if1 .taken)
 
 returns-3 : tie.Need-returns-3
 unfolding isMet
