@@ -9,13 +9,21 @@ pub const VERSION: u32 = 0x76010002;
 
 pub const OLDEST_VERSION: u32 = 0x76010000;
 
+// The version bytes that create writes, one by one.
+pub const MAJOR: u8 = 1;
+
+pub const MINOR: u8 = 0;
+
+pub const PATCH: u8 = 2;
+
 // Where the header's numbers stand.
 pub const MAGIC_FIELD: usize = 0;
 
-pub const VERSION_FIELD: usize = 4;
+// The letter v and the version's three bytes, as one word.
+pub const VERSION_WORD: usize = 4;
 
-// The version's three bytes, behind the letter.
-pub const VERSION_BYTES: usize = 5;
+// The version's three bytes, after the letter.
+pub const VERSION_FIELD: usize = 5;
 
 pub const KEY_FIELD: usize = 12;
 
@@ -69,3 +77,13 @@ pub const MOST_CHARACTER: u32 = 255;
 pub const HEAD: usize = 4;
 
 pub const MOST_LENGTH: usize = 16777215;
+
+// A journal: its mark when it is to be carried out; after the pair count its pairs of an offset and a length, where the
+// first of each begins, and how long a pair is.
+pub const MARKED: u8 = 165;
+
+pub const PAIRS_START: usize = 4;
+
+pub const LENGTHS_START: usize = 8;
+
+pub const PAIR_SIZE: usize = 8;

@@ -1,5 +1,10 @@
 // Add, in its four modes: all questions are put before the first byte is written.
-use bytes_words::limits::VERSION_BYTES;
+use bytes_words::answers::NEW;
+use bytes_words::answers::REPLACE;
+use bytes_words::limits::MAJOR;
+use bytes_words::limits::MINOR;
+use bytes_words::limits::PATCH;
+use bytes_words::limits::VERSION_FIELD;
 use call_add_absent::add_absent;
 use call_add_present::add_present;
 use header_layout::shape::Shape;
@@ -28,9 +33,9 @@ fn write_version(part: &mut [u8])
     requires { ⌜ length (now part) ≡ 3 ⌝ }
     ensures { λ _. ⌜ now (part .exit) ≡ major ∷ minor ∷ patch ∷ [] ⌝ }
 {
-    part[0] = 1;
-    part[1] = 0;
-    part[2] = 2;
+    part[0] = MAJOR;
+    part[1] = MINOR;
+    part[2] = PATCH;
 }
 
 // An empty message, that is no bytes in mode 1 or 2, makes the file's version 1.0.2.
@@ -38,8 +43,8 @@ fn note_version(image: &mut [u8], bytes: &[u8], mode: u32)
     requires { ⌜ versionField + 3 ≤ length (now image) ⌝ }
     ensures { λ _. ⌜ now (image .exit) ≡ noted (now (bytes .entry)) mode (now (image .entry)) ⌝ }
 {
-    if (bytes.len() == 0) & ((mode == 1) | (mode == 2)) {
-        write_version(&mut image[VERSION_BYTES..VERSION_BYTES + 3]);
+    if (bytes.len() == 0) & ((mode == NEW) | (mode == REPLACE)) {
+        write_version(&mut image[VERSION_FIELD..VERSION_FIELD + 3]);
     }
 }
 

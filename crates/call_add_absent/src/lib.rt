@@ -1,4 +1,8 @@
 // A point that is absent: its entry goes to the empty slot where the search ended, its message to new space.
+use bytes_words::answers::ABSENT;
+use bytes_words::answers::APPEND;
+use bytes_words::answers::TABLE_FULL;
+use bytes_words::answers::WITHDRAW;
 use bytes_words::fields::read_u32;
 use bytes_words::fields::write_u32;
 use bytes_words::limits::FREE_FIELD;
@@ -66,7 +70,7 @@ fn insert_fresh(
         (inserted (layoutOf (now (image .entry))) (now (image .entry)) (slot .0) (now (key .entry))
         (freshText (now (bytes .entry)) mode))) ⌝ }
 {
-    if (mode == 3) & (bytes.len() == 0) {
+    if (mode == APPEND) & (bytes.len() == 0) {
         enter(image, shape, slot, key, Offset::new(0));
         return 0;
     }
@@ -96,15 +100,15 @@ pub fn add_absent(
         (addedAt (layoutOf (now (image .entry))) (now (image .entry)) (probeOf found) (now (key .entry))
         (now (bytes .entry)) mode)) ⌝ }
 {
-    if mode == 4 {
-        return 14;
+    if mode == WITHDRAW {
+        return ABSENT;
     }
     let Found::Empty(slot) = found else {
-        return 10;
+        return TABLE_FULL;
     };
     let slots = shape.slots;
     if slots <= read_u32(image, POINTS_FIELD) as usize {
-        return 10;
+        return TABLE_FULL;
     }
     insert_fresh(image, shape, slot, key, bytes, mode)
 }

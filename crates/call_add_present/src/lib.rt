@@ -1,4 +1,9 @@
 // A point that is present: its message is replaced or made longer, in place where the bytes fit, else in new space.
+use bytes_words::answers::DAMAGED;
+use bytes_words::answers::NEW;
+use bytes_words::answers::PRESENT;
+use bytes_words::answers::REPLACE;
+use bytes_words::answers::WITHDRAW;
 use bytes_words::fields::read_u32;
 use bytes_words::limits::FREE_FIELD;
 use header_layout::places::Offset;
@@ -106,17 +111,17 @@ pub fn add_present(image: &mut [u8], shape: Shape, slot: Slot, bytes: &[u8], mod
         (addedAt (layoutOf (now (image .entry))) (now (image .entry)) (met (slot .0))
         (keyIn (now (image .entry)) (slot .0)) (now (bytes .entry)) mode)) ⌝ }
 {
-    if mode == 1 {
-        return 9;
+    if mode == NEW {
+        return PRESENT;
     }
     let o = offset_of(image, shape, slot);
     if !message_sound(image, shape, o) {
-        return 11;
+        return DAMAGED;
     }
-    if mode == 2 {
+    if mode == REPLACE {
         return replace(image, shape, slot, o, bytes);
     }
-    if mode == 4 {
+    if mode == WITHDRAW {
         retire(image, o);
         return 0;
     }

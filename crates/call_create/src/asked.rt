@@ -1,4 +1,8 @@
 // Create's questions, 1 to 4.
+use bytes_words::answers::BAD_KEY_SIZE;
+use bytes_words::answers::BAD_LENGTH;
+use bytes_words::answers::BAD_SLOTS;
+use bytes_words::answers::TABLE_TOO_BIG;
 use header_sizes::data_start;
 use header_sizes::key_allowed;
 use header_sizes::size_allowed;
@@ -19,16 +23,16 @@ pub fn create_number(len: usize, size: u32, slots: u32) -> u32
     ensures { λ r. ⌜ r ≡ createNumber len size slots ⌝ }
 {
     if !size_allowed(len) {
-        return 1;
+        return BAD_LENGTH;
     }
     if !key_allowed(size) {
-        return 2;
+        return BAD_KEY_SIZE;
     }
     if !slots_allowed(slots) {
-        return 3;
+        return BAD_SLOTS;
     }
     if len < data_start(size as usize, slots as usize) {
-        return 4;
+        return TABLE_TOO_BIG;
     }
     0
 }

@@ -8,6 +8,7 @@ use header_sizes::data_start;
 ghost use mathlib.Core.Path.{_≡_};
 ghost use Prim.Native.Nat.{_≤_};
 ghost use lib.ListN.{length};
+ghost use Rattle.spec_file.specs.Limits.{headerSize};
 ghost use Rattle.spec_file.specs.Bytes.{store};
 ghost use Rattle.spec_file.specs.Image.{dataStart};
 ghost use Rattle.spec_file.specs.Create.{freshHeader, freshImage};
@@ -16,7 +17,7 @@ ghost use Rattle.spec_file.specs.Questions.{createNumber};
 // Writes the header of an empty table; start is D. In the header's order: "BHTF", v and version, serial, K, N, C,
 // multiplier, start value, F, E, scramble and table offsets, D, X = D, M = -1.
 fn write_header(image: &mut [u8], size: u32, slots: u32, start: u32)
-    requires { ⌜ (60 ≤ length (now image)) × (start ≡ dataStart size slots) ⌝ }
+    requires { ⌜ (headerSize ≤ length (now image)) × (start ≡ dataStart size slots) ⌝ }
     ensures { λ _. ⌜ now (image .exit) ≡ store (now (image .entry)) 0 (freshHeader size slots) ⌝ }
 {
     let numbers = [

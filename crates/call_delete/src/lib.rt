@@ -1,4 +1,6 @@
 // Delete: a point's message becomes inactive, C falls by 1, and the gap in the table is closed.
+use bytes_words::answers::ABSENT;
+use bytes_words::answers::DAMAGED;
 use bytes_words::fields::read_u32;
 use bytes_words::fields::write_u32;
 use bytes_words::limits::POINTS_FIELD;
@@ -50,15 +52,15 @@ fn delete_found(image: &mut [u8], shape: Shape, found: Found) -> u32
         (deleted (layoutOf (now (image .entry))) (now (image .entry)) (probeOf found))) ⌝ }
 {
     let Found::Met(slot) = found else {
-        return 14;
+        return ABSENT;
     };
     let o = offset_of(image, shape, slot);
     if !message_sound(image, shape, o) {
-        return 11;
+        return DAMAGED;
     }
     let points = read_u32(image, POINTS_FIELD);
     if points == 0 {
-        return 11;
+        return DAMAGED;
     }
     remove(image, shape, slot, o, points);
     0

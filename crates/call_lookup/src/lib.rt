@@ -2,6 +2,8 @@
 //     count    the number of points held
 //     locate   where a point's active message stands, as numbers; locate_slots, with how many slots the search read
 //     lookup   the message as a part of the lent image
+use bytes_words::answers::ABSENT;
+use bytes_words::answers::DAMAGED;
 use bytes_words::fields::read_u32;
 use bytes_words::limits::POINTS_FIELD;
 use header_layout::places::Offset;
@@ -76,11 +78,11 @@ pub fn locate_found(image: &[u8], shape: Shape, found: Found) -> Located
         (r .number) (r .start .0) (r .length) ⌝ }
 {
     let Found::Met(slot) = found else {
-        return nothing(14);
+        return nothing(ABSENT);
     };
     let o = offset_of(image, shape, slot);
     if !message_sound(image, shape, o) {
-        return nothing(11);
+        return nothing(DAMAGED);
     }
     if !is_active(image, o) {
         return nothing(0);

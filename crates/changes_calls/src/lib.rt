@@ -3,6 +3,7 @@
 //     packed    compaction in this form
 pub mod packed;
 
+use bytes_words::answers::SHORT_SLICE;
 use call_add::add;
 use call_delete::delete;
 use changes_bytes::keep;
@@ -31,7 +32,7 @@ pub fn add_listed(
 {
     *pairs = 0;
     if !slices_allowed(image.len(), work.len(), list.len()) {
-        return 16;
+        return SHORT_SLICE;
     }
     let windows = of_add(image, key, bytes, mode);
     keep(work, image, windows);
@@ -57,7 +58,7 @@ pub fn delete_listed(
 {
     *pairs = 0;
     if !slices_allowed(image.len(), work.len(), list.len()) {
-        return 16;
+        return SHORT_SLICE;
     }
     let windows = of_delete(image, key);
     keep(work, image, windows);

@@ -1,4 +1,5 @@
 // Compaction in the form that also lists what it changed.
+use bytes_words::answers::SHORT_SLICE;
 use call_compact::compact;
 use changes_bytes::fill_list;
 use changes_bytes::put_part;
@@ -16,7 +17,7 @@ pub fn compact_listed(image: &mut [u8], work: &mut [u8], list: &mut [u8], pairs:
     *pairs = 0;
     let size = image.len();
     if !slices_allowed(size, work.len(), list.len()) {
-        return 16;
+        return SHORT_SLICE;
     }
     put_part(work, 0, image, 0, size);
     let number = compact(image);

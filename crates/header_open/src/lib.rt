@@ -1,6 +1,11 @@
 // Questions 1, 5 and 6 in turn, as every call but create puts them; 7 of a name and 8 of a mode. In constant time but
 // for the name's bytes.
 use bytes_compare::all_zero;
+use bytes_words::answers::BAD_HEADER;
+use bytes_words::answers::BAD_LENGTH;
+use bytes_words::answers::BAD_VERSION;
+use bytes_words::answers::NEW;
+use bytes_words::answers::WITHDRAW;
 use header_questions::header_sound;
 use header_questions::version_known;
 use header_sizes::size_allowed;
@@ -12,13 +17,13 @@ pub fn open_number(image: &[u8]) -> u32
     ensures { λ r. ⌜ r ≡ openNumber (now (image .entry)) ⌝ }
 {
     if !size_allowed(image.len()) {
-        return 1;
+        return BAD_LENGTH;
     }
     if !version_known(image) {
-        return 5;
+        return BAD_VERSION;
     }
     if !header_sound(image) {
-        return 6;
+        return BAD_HEADER;
     }
     0
 }
@@ -37,5 +42,5 @@ pub fn name_allowed(key: &[u8], size: usize) -> bool
 pub fn mode_known(mode: u32) -> bool
     ensures { λ r. ⌜ r ≡ modeKnown mode ⌝ }
 {
-    (1 <= mode) & (mode <= 4)
+    (NEW <= mode) & (mode <= WITHDRAW)
 }

@@ -17,28 +17,29 @@ use bytes_words::limits::SLOTS_FIELD;
 use bytes_words::limits::TABLE_FIELD;
 use bytes_words::limits::TABLE_OFFSET;
 use bytes_words::limits::VERSION;
-use bytes_words::limits::VERSION_FIELD;
+use bytes_words::limits::VERSION_WORD;
 use header_sizes::data_start;
 use header_sizes::key_allowed;
 use header_sizes::table_allowed;
 ghost use mathlib.Core.Path.{_≡_};
 ghost use Prim.Native.Nat.{_≤_};
 ghost use lib.ListN.{length};
+ghost use Rattle.spec_file.specs.Limits.{headerSize};
 ghost use Rattle.spec_file.specs.Questions.{versionKnown, headerSound};
 ghost use Rattle.header_questions.specs.Ranges.{rangesSound};
 
-// Question 5, of eight bytes as two numbers: the last of them may differ in its lowest bit alone.
+// Question 5, of eight bytes as two numbers: from 1.0.0 to 1.0.2.
 pub fn version_known(image: &[u8]) -> bool
     requires { ⌜ 8 ≤ length (now image) ⌝ }
     ensures { λ r. ⌜ r ≡ versionKnown (now (image .entry)) ⌝ }
 {
-    let version = read_u32(image, VERSION_FIELD);
+    let version = read_u32(image, VERSION_WORD);
     (read_u32(image, MAGIC_FIELD) == MAGIC) & ((OLDEST_VERSION <= version) & (version <= VERSION))
 }
 
 // Question 6 up to the offsets: the fields that are compared with each other or with a fixed number.
 fn ranges_sound(image: &[u8]) -> bool
-    requires { ⌜ 60 ≤ length (now image) ⌝ }
+    requires { ⌜ headerSize ≤ length (now image) ⌝ }
     ensures { λ r. ⌜ r ≡ rangesSound (now (image .entry)) ⌝ }
 {
     let key = read_u32(image, KEY_FIELD);
@@ -57,7 +58,7 @@ fn ranges_sound(image: &[u8]) -> bool
 
 // Question 6.
 pub fn header_sound(image: &[u8]) -> bool
-    requires { ⌜ 60 ≤ length (now image) ⌝ }
+    requires { ⌜ headerSize ≤ length (now image) ⌝ }
     ensures { λ r. ⌜ r ≡ headerSound (now (image .entry)) ⌝ }
 {
     if !ranges_sound(image) {

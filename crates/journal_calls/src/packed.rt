@@ -1,4 +1,5 @@
 // Compaction in the form that a cut does not harm.
+use bytes_words::answers::SHORT_SLICE;
 use call_compact::compact;
 use changes_bytes::put_part;
 use journal_commit::update;
@@ -14,7 +15,7 @@ pub fn compact_journaled(image: &mut [u8], work: &mut [u8], journal: &mut [u8]) 
 {
     let size = image.len();
     if work.len() < size {
-        return 16;
+        return SHORT_SLICE;
     }
     put_part(work, 0, image, 0, size);
     let number = compact(&mut work[0..size]);

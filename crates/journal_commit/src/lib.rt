@@ -1,5 +1,9 @@
 // An update by way of the journal: content, mark, and what the marked journal asks for.
+use bytes_words::answers::BAD_JOURNAL;
 use bytes_words::fields::write_u32;
+use bytes_words::limits::MARKED;
+use bytes_words::limits::PAIR_SIZE;
+use bytes_words::limits::PAIRS_START;
 use changes_bytes::measure;
 use changes_bytes::write_bytes;
 use changes_bytes::write_pairs;
@@ -24,8 +28,8 @@ fn write_content(journal: &mut [u8], old: &[u8], new: &[u8], pairs: usize)
         ≡ store (now (journal .entry)) 0 (content (runs 0 (now (old .entry)) (now (new .entry))) (now (new .entry))) ⌝ }
 {
     write_u32(journal, 0, pairs as u32);
-    write_pairs(journal, 4, old, new);
-    write_bytes(journal, 4 + 8 * pairs, old, new);
+    write_pairs(journal, PAIRS_START, old, new);
+    write_bytes(journal, PAIRS_START + PAIR_SIZE * pairs, old, new);
 }
 
 // Carries out the first n writes of an update: content, mark, and what the marked journal asks for. The calls have it
@@ -48,7 +52,7 @@ fn carry_out(image: &mut [u8], new: &[u8], journal: &mut [u8], pairs: usize, n: 
         return;
     }
     let last = journal.len() - 1;
-    journal[last] = 165;
+    journal[last] = MARKED;
     settle(image, journal, pairs, n - 2);
 }
 
@@ -66,13 +70,13 @@ pub fn update(image: &mut [u8], new: &[u8], journal: &mut [u8]) -> u32
     let pairs = tally.pairs;
     let bytes = tally.bytes;
     let end = journal.len();
-    let content = 4 + 8 * pairs + bytes;
+    let content = PAIRS_START + PAIR_SIZE * pairs + bytes;
     if end <= content {
-        return 17;
+        return BAD_JOURNAL;
     }
     let last = end - 1;
     if journal[last] != 0 {
-        return 17;
+        return BAD_JOURNAL;
     }
     carry_out(image, new, journal, pairs, pairs + 3);
     0

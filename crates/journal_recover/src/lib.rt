@@ -1,5 +1,10 @@
 // The journal: the image written from it, and recovery. One function ends an update and is recovery.
+use bytes_words::answers::UNRECOVERABLE;
 use bytes_words::fields::read_u32;
+use bytes_words::limits::LENGTHS_START;
+use bytes_words::limits::MARKED;
+use bytes_words::limits::PAIR_SIZE;
+use bytes_words::limits::PAIRS_START;
 use changes_bytes::put_part;
 ghost use mathlib.Core.Path.{_≡_};
 ghost use mathlib.Core.Bool.{true};
@@ -14,11 +19,11 @@ fn write_back(image: &mut [u8], journal: &[u8], n: usize)
     ensures { λ _. ⌜ now (image .exit) ≡ putAll (now (image .entry)) (take n (blocksOf (now (journal .entry)))) ⌝ }
 {
     let pairs = read_u32(journal, 0) as usize;
-    let mut from = 4 + 8 * pairs;
+    let mut from = PAIRS_START + PAIR_SIZE * pairs;
     let mut i = 0;
     while i < n {
-        let at = read_u32(journal, 4 + 8 * i) as usize;
-        let size = read_u32(journal, 8 + 8 * i) as usize;
+        let at = read_u32(journal, PAIRS_START + PAIR_SIZE * i) as usize;
+        let size = read_u32(journal, LENGTHS_START + PAIR_SIZE * i) as usize;
         let end = from + size;
         put_part(image, at, journal, from, end);
         from = end;
@@ -53,15 +58,15 @@ fn journal_sound(size: usize, journal: &[u8]) -> bool
         return false;
     }
     let pairs = read_u32(journal, 0) as usize;
-    let mut from = 4 + 8 * pairs;
+    let mut from = PAIRS_START + PAIR_SIZE * pairs;
     if end <= from {
         return false;
     }
     let mut last = 0;
     let mut i = 0;
     while i < pairs {
-        let at = read_u32(journal, 4 + 8 * i) as usize;
-        let bytes = read_u32(journal, 8 + 8 * i) as usize;
+        let at = read_u32(journal, PAIRS_START + PAIR_SIZE * i) as usize;
+        let bytes = read_u32(journal, LENGTHS_START + PAIR_SIZE * i) as usize;
         if at < last {
             return false;
         }
@@ -88,15 +93,15 @@ pub fn recover(image: &mut [u8], journal: &mut [u8]) -> u32
 {
     let end = journal.len();
     if end == 0 {
-        return 18;
+        return UNRECOVERABLE;
     }
     let last = end - 1;
-    if journal[last] != 165 {
+    if journal[last] != MARKED {
         journal[last] = 0;
         return 0;
     }
     if !journal_sound(image.len(), journal) {
-        return 18;
+        return UNRECOVERABLE;
     }
     let pairs = read_u32(journal, 0) as usize;
     settle(image, journal, pairs, pairs + 1);

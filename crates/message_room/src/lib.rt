@@ -1,4 +1,6 @@
 // Questions 12 and 13: whether a message has room behind the last one.
+use bytes_words::answers::NO_ROOM;
+use bytes_words::answers::TOO_LONG;
 use bytes_words::fields::read_u32;
 use bytes_words::limits::FREE_FIELD;
 use header_layout::shape::Shape;
@@ -17,11 +19,11 @@ pub fn room_number(image: &[u8], shape: Shape, m: usize) -> u32
         → r ≡ placeNumber (layoutOf (now (image .entry))) (now (image .entry)) (some t)) ⌝ }
 {
     if shape.most < m {
-        return 12;
+        return TOO_LONG;
     }
     let free = read_u32(image, FREE_FIELD) as usize;
     if image.len() < free + shape.head + m {
-        return 13;
+        return NO_ROOM;
     }
     0
 }

@@ -1,4 +1,6 @@
 // What every call on a named point does first: questions 1, 5, 6 and 7, add's 8, and the search for the key.
+use bytes_words::answers::BAD_KEY;
+use bytes_words::answers::BAD_MODE;
 use header_layout::shape::Shape;
 use header_layout::shape::read_shape;
 use header_open::name_allowed;
@@ -31,10 +33,10 @@ pub fn seek(image: &[u8], key: &[u8], known: bool) -> Sought
     }
     let shape = read_shape(image);
     if !name_allowed(key, shape.keylen) {
-        return Sought::Refused(7);
+        return Sought::Refused(BAD_KEY);
     }
     if !known {
-        return Sought::Refused(8);
+        return Sought::Refused(BAD_MODE);
     }
     let probed = search(image, shape, key);
     let found = probed.found;
