@@ -39,6 +39,8 @@ pub const BAD_JOURNAL: u32 = 17;
 
 pub const UNRECOVERABLE: u32 = 18;
 
+pub const NO_EPOCHS: u32 = 23;
+
 // Add's modes.
 pub const NEW: u32 = 1;
 

@@ -1,6 +1,8 @@
 // The entry of a prism at an epoch: its epoch and its message.
 //     locate_at   the epoch, and where the active message stands, as numbers
 //     at_epoch    the message as a part of the lent image
+use bytes_words::answers::BAD_KEY;
+use bytes_words::answers::NO_EPOCHS;
 use call_lookup::Located;
 use call_lookup::locate_found;
 use call_lookup::nothing;
@@ -65,10 +67,10 @@ pub fn locate_at(image: &[u8], name: &[u8], t: u32) -> Dated
     let shape = read_shape(image);
     let size = shape.keylen;
     if size < LEAST_KEY {
-        return refused(23);
+        return refused(NO_EPOCHS);
     }
     if name.len() + EPOCH_SIZE != size {
-        return refused(7);
+        return refused(BAD_KEY);
     }
     show(image, shape, choose(image, shape, name, t))
 }

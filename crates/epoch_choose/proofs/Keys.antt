@@ -5,7 +5,7 @@
 --     slot-epoch       so of slot i
 --     eligible-other, eligible-later, eligible-here      what an entry is, test by test
 -- Assumes nothing.
-use mathlib.Core.Path.{_≡_, refl, sym, ap, ap₂, _∙_}
+use mathlib.Core.Path.{_≡_, refl, sym, ap, ap₂, _∙_, subst}
 use Prim.Native.Nat.{ℕ, _+_, _-_, _≤_, _<_}
 use native.Mathlib.Omega.{arith}
 use mathlib.Core.Bool.{Bool, true, false, not, _&&_}
@@ -17,8 +17,9 @@ use Rattle.spec_file.specs.Bytes.{Bytes, part, number, same, allZero}
 use Rattle.spec_file.specs.Image.{field, layoutOf, vacant}
 use Rattle.spec_file.specs.Inspect.{taken}
 use Rattle.law_file.proofs.Tests.{by-bool}
-use Rattle.law_file.proofs.Bytes.{part-part, same-true}
-use Rattle.spec_epoch.specs.Epochs.{epochSize, prismOf, epochOf, datedBy, epochAt, eligible}
+use Rattle.law_file.proofs.Bytes.{AreBytes, part-part, same-true}
+use Rattle.spec_epoch.specs.Epochs.{epochSize, epochOf, datedKey, datedBy, epochAt, eligible}
+use Rattle.law_epoch.proofs.Choice.{named-key, key-bytes}
 use Rattle.bytes_compare.specs.Little.{little}
 use Rattle.header_layout.specs.Shapes.{Open}
 use Rattle.header_layout.specs.declared.shape.Shape.{Shape}
@@ -79,44 +80,47 @@ module _ (img : Bytes) (s : Shape) (o : Open img s) (name : Bytes) (t i : ℕ) (
   unfolding epochAt
   slot-epoch = ap₂ epochOf (sym long) (sym is)
 
-  named : Bool
-  named = same (take (length name) k) name
+  -- of an image of bytes
+  module _ (bytes : AreBytes img) where
+    named : Bool
+    named = same (take (length name) k) name
 
-  slot-named : same (prismOf (layoutOf img .K) (keyIn img i)) name ≡ named
-  unfolding prismOf named
-  slot-named =
-      let q : layoutOf img .K - epochSize ≡ length name = omega (arith, layout-key img s (o .shape)) in
-      ap₂ (λ (n : ℕ) (b : Bytes). same (take n b) name) q (sym is)
-
-  slot-eligible : (n d : Bool) → named ≡ n → leb (epochOf (length k) k) t ≡ d
-      → eligible (layoutOf img) img name t i ≡ (taken (layoutOf img) img i && (n && d))
-  unfolding eligible datedBy epochAt
-  slot-eligible n d en ed =
-      ap₂ (λ (a b : Bool). taken (layoutOf img) img i && (a && b)) (slot-named ∙ en)
-      (ap (λ (e : ℕ). leb e t) slot-epoch ∙ ed)
-
-  no-last : (a : Bool) → (a && false) ≡ false
-  no-last true = refl
-  no-last false = refl
-
-  yes-last : (a : Bool) → (a && true) ≡ a
-  yes-last true = refl
-  yes-last false = refl
-
-  pub eligible-other : same (take (length name) k) name ≡ false → false ≡ eligible (layoutOf img) img name t i
-  unfolding named
-  eligible-other h = sym (slot-eligible false _ h refl ∙ no-last (taken (layoutOf img) img i))
-
-  module _ (h : same (take (length name) k) name ≡ true) (e : ℕ) (q : e ≡ epochOf (length k) k) where
-    pub eligible-later : t < e → false ≡ eligible (layoutOf img) img name t i
+    slot-named : same (keyIn img i) (datedKey name (epochAt (layoutOf img) img i)) ≡ named
     unfolding named
-    eligible-later m =
-        sym (slot-eligible true false h (lt-leb (epochOf (length k) k) t (omega arith))
-        ∙ no-last (taken (layoutOf img) img i))
+    slot-named =
+        ap₂ (λ (b : Bytes) (e : ℕ). same b (datedKey name e)) (sym is) slot-epoch
+        ∙ named-key k name (subst AreBytes (sym is) (key-bytes (layoutOf img) img bytes i))
+        (omega (arith, stored-length img s o i l k is))
 
-    pub eligible-here : e ≤ t → (z : Bool) → z ≡ allZero k → not z ≡ eligible (layoutOf img) img name t i
-    unfolding named taken vacant
-    eligible-here m z a =
-        ap not (a ∙ ap allZero is)
-        ∙ sym (slot-eligible true true h (le-leb (epochOf (length k) k) t (omega arith))
-        ∙ yes-last (taken (layoutOf img) img i))
+    slot-eligible : (n d : Bool) → named ≡ n → leb (epochOf (length k) k) t ≡ d
+        → eligible (layoutOf img) img name t i ≡ (taken (layoutOf img) img i && (n && d))
+    unfolding eligible datedBy epochAt
+    slot-eligible n d en ed =
+        ap₂ (λ (a b : Bool). taken (layoutOf img) img i && (a && b)) (slot-named ∙ en)
+        (ap (λ (e : ℕ). leb e t) slot-epoch ∙ ed)
+
+    no-last : (a : Bool) → (a && false) ≡ false
+    no-last true = refl
+    no-last false = refl
+
+    yes-last : (a : Bool) → (a && true) ≡ a
+    yes-last true = refl
+    yes-last false = refl
+
+    pub eligible-other : same (take (length name) k) name ≡ false → false ≡ eligible (layoutOf img) img name t i
+    unfolding named
+    eligible-other h = sym (slot-eligible false _ h refl ∙ no-last (taken (layoutOf img) img i))
+
+    module _ (h : same (take (length name) k) name ≡ true) (e : ℕ) (q : e ≡ epochOf (length k) k) where
+      pub eligible-later : t < e → false ≡ eligible (layoutOf img) img name t i
+      unfolding named
+      eligible-later m =
+          sym (slot-eligible true false h (lt-leb (epochOf (length k) k) t (omega arith))
+          ∙ no-last (taken (layoutOf img) img i))
+
+      pub eligible-here : e ≤ t → (z : Bool) → z ≡ allZero k → not z ≡ eligible (layoutOf img) img name t i
+      unfolding named taken vacant
+      eligible-here m z a =
+          ap not (a ∙ ap allZero is)
+          ∙ sym (slot-eligible true true h (le-leb (epochOf (length k) k) t (omega arith))
+          ∙ yes-last (taken (layoutOf img) img i))

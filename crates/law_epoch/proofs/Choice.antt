@@ -1,42 +1,95 @@
 -- Which slot is chosen, on any image bytes.
---     eligible-taken, eligible-name, eligible-at-most, eligible-yes      an entry of the name with an epoch at most t
+--     named-key, key-bytes      a key of bytes is the name with its own epoch if and only if it begins with the name;
+--                     the keys of an image of bytes are such
+--     eligible-taken, eligible-key, eligible-at-most, eligible-yes      an entry of the name with an epoch at most t
 --     latest-on, latest-end      one slot looked at, as a loop from i up to n has it
 --     Leads n s       of the slots below n, s is the one with the largest epoch, the lowest if two; or there is none
 --     chosen-leads    so of all N, the chosen one
 --     leads-one       no other slot is so
 -- Assumes nothing.
-use mathlib.Core.Path.{_≡_, sym, ap, _∙_, subst}
+use mathlib.Core.Path.{_≡_, refl, sym, ap, ap₂, _∙_, subst}
 use Prim.Native.Nat.{ℕ, zero, suc, _+_, _-_, _≤_, _<_}
 use native.Mathlib.Omega.{arith}
 use mathlib.Core.Bool.{Bool, true, false, cond, not}
+use mathlib.Core.List.{_++_}
+use lib.ListN.{length, take, drop, length-drop, take-append-drop}
+use lib.Seq.{take-at}
 use lib.Dec.{leb}
 use borrow.Author.Tests.{leb-true, le-leb, lt-leb, not-true}
-use Rattle.spec_file.specs.Bytes.{Bytes, same}
-use Rattle.spec_file.specs.Image.{Layout, slot, vacant}
+use Rattle.spec_file.specs.Bytes.{Bytes, part, number, digits, same}
+use Rattle.spec_file.specs.Image.{Layout, slotSize, slotStart, slot, keyOf, vacant}
 use Rattle.spec_file.specs.Search.{Probe, met, empty, exhausted, isMet, slotOf}
 use Rattle.spec_file.specs.Inspect.{taken}
 use Rattle.law_file.proofs.Tests.{by-bool, by-le, by-eq, and-left, and-right, and-true, not-both}
-use Rattle.law_file.proofs.Bytes.{same-true, same-refl}
+use Rattle.law_file.proofs.Bytes.{AreBytes, digits-number, take-bytes, drop-bytes, same-true, same-refl, by-same}
 use Rattle.law_file.proofs.Table.{Taken, keyAt}
-use Rattle.spec_epoch.specs.Epochs.{prismOf, epochOf, datedBy, epochAt, eligible, later, latest, chosen}
+use Rattle.spec_epoch.specs.Epochs.{epochSize, epochOf, datedKey, datedBy, epochAt, eligible, later, latest, chosen}
 
 -- ---- keys
 
+-- a key of bytes is the name with its own epoch if and only if it begins with the name
+pub named-key : (key name : Bytes) → AreBytes key → length key ≡ length name + epochSize
+    → same key (datedKey name (epochOf (length key) key)) ≡ same (take (length name) key) name
+unfolding datedKey epochOf
+named-key key name h l =
+    by-same (take (length name) key) name
+    (λ q.
+    same-yes key (name ++ digits epochSize (number rest)) (sym split ∙ ap₂ _++_ q (sym rest-is))
+    ∙ sym (same-yes (take (length name) key) name q))
+    (λ z.
+    same-no key (name ++ digits epochSize (number rest))
+    (λ q. z (ap (take (length name)) q ∙ take-at name (digits epochSize (number rest)) (length name) refl))
+    ∙ sym (same-no (take (length name) key) name z))
+  where
+    after′ : length key - epochSize ≡ length name
+    after′ = omega arith
+
+    rest : Bytes
+    rest = drop (length key - epochSize) key
+
+    split : take (length name) key ++ rest ≡ key
+    split =
+        ap (λ (n : ℕ). take (length name) key ++ drop n key) after′ ∙ take-append-drop (length name) key
+
+    four : length rest ≡ epochSize
+    four = length-drop (length key - epochSize) key ∙ omega arith
+
+    rest-is : digits epochSize (number rest) ≡ rest
+    rest-is =
+        ap (λ (n : ℕ). digits n (number rest)) (sym four)
+        ∙ digits-number rest (drop-bytes (length key - epochSize) key h)
+
+    same-yes : (x y : Bytes) → x ≡ y → same x y ≡ true
+    same-yes x y q = ap (same x) (sym q) ∙ same-refl x
+
+    same-no : (x y : Bytes) → (x ≡ y → ⊥) → same x y ≡ false
+    same-no x y z = by-bool (same x y) (λ t. absurd (z (same-true x y t))) (λ t. t)
+
+-- the keys of an image of bytes are bytes
+pub key-bytes : (g : Layout) (img : Bytes) → AreBytes img → (i : ℕ) → AreBytes (keyAt g img i)
+unfolding keyOf slot part
+key-bytes g img h i =
+    take-bytes (g .K) (slot g img i)
+    (take-bytes (slotSize g) (drop (slotStart g i) img) (drop-bytes (slotStart g i) img h))
+
 module _ (K : ℕ) (name : Bytes) (t : ℕ) (key : Bytes) where
-  pub dated-name : datedBy K name t key ≡ true → prismOf K key ≡ name
+  pub dated-key : datedBy K name t key ≡ true → key ≡ datedKey name (epochOf K key)
   unfolding datedBy
-  dated-name h = same-true (prismOf K key) name (and-left (same (prismOf K key) name) (leb (epochOf K key) t) h)
+  dated-key h =
+      same-true key (datedKey name (epochOf K key))
+      (and-left (same key (datedKey name (epochOf K key))) (leb (epochOf K key) t) h)
 
   pub dated-at-most : datedBy K name t key ≡ true → epochOf K key ≤ t
   unfolding datedBy
-  dated-at-most h = leb-true (epochOf K key) t (and-right (same (prismOf K key) name) (leb (epochOf K key) t) h)
+  dated-at-most h =
+      leb-true (epochOf K key) t
+      (and-right (same key (datedKey name (epochOf K key))) (leb (epochOf K key) t) h)
 
-  pub dated-yes : prismOf K key ≡ name → epochOf K key ≤ t → datedBy K name t key ≡ true
+  pub dated-yes : key ≡ datedKey name (epochOf K key) → epochOf K key ≤ t → datedBy K name t key ≡ true
   unfolding datedBy
   dated-yes e l =
-      and-true (same (prismOf K key) name) (leb (epochOf K key) t)
-      (ap (same (prismOf K key)) (sym e) ∙ same-refl (prismOf K key))
-      (le-leb (epochOf K key) t l)
+      and-true (same key (datedKey name (epochOf K key))) (leb (epochOf K key) t)
+      (ap (same key) (sym e) ∙ same-refl key) (le-leb (epochOf K key) t l)
 
 module _ (g : Layout) (img name : Bytes) (t : ℕ) where
   -- ---- entries of the name with an epoch at most t
@@ -50,14 +103,15 @@ module _ (g : Layout) (img name : Bytes) (t : ℕ) where
     unfolding eligible
     eligible-dated h = and-right (taken g img i) (datedBy (g .K) name t (keyAt g img i)) h
 
-    pub eligible-name : eligible g img name t i ≡ true → prismOf (g .K) (keyAt g img i) ≡ name
-    eligible-name h = dated-name (g .K) name t (keyAt g img i) (eligible-dated h)
+    pub eligible-key : eligible g img name t i ≡ true → keyAt g img i ≡ datedKey name (epochAt g img i)
+    unfolding epochAt
+    eligible-key h = dated-key (g .K) name t (keyAt g img i) (eligible-dated h)
 
     pub eligible-at-most : eligible g img name t i ≡ true → epochAt g img i ≤ t
     unfolding epochAt
     eligible-at-most h = dated-at-most (g .K) name t (keyAt g img i) (eligible-dated h)
 
-    pub eligible-yes : Taken g img i → prismOf (g .K) (keyAt g img i) ≡ name → epochAt g img i ≤ t
+    pub eligible-yes : Taken g img i → keyAt g img i ≡ datedKey name (epochAt g img i) → epochAt g img i ≤ t
         → eligible g img name t i ≡ true
     unfolding eligible epochAt taken
     eligible-yes v e l =

@@ -115,14 +115,15 @@ lookupBy img key n =
     let start : ℕ = cond (eqb o 0) 0 (o + headSize (layoutOf img)) in
     record {
       after = img;
-      answer = record { number = n; amount = m; text = cond (eqb o 0) none (some (part img start m)) };
+      answer =
+          record { number = n; amount = m; text = cond (eqb o 0) none (some (part img start m)); epoch = 0 };
     }
 
 countBy : Bytes → ℕ → Outcome Bytes
 countBy img n =
     record {
       after = img;
-      answer = record { number = n; amount = cond (eqb n 0) (field img pointsField) 0; text = none };
+      answer = record { number = n; amount = cond (eqb n 0) (field img pointsField) 0; text = none; epoch = 0 };
     }
 
 createBy : Bytes → ℕ → ℕ → ℕ → ℕ → Outcome Bytes

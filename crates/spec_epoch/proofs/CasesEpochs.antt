@@ -12,11 +12,11 @@ use Rattle.spec_file.specs.Bytes.{Bytes, store}
 use Rattle.spec_file.specs.Limits.{pointsField, freeField}
 use Rattle.spec_file.specs.Image.{setField, slotBytes}
 use Rattle.spec_file.proofs.CasesBase.{inspect-definitions, headed}
-use Rattle.spec_epoch.specs.Epochs.{prismOf, epochOf, datedBy, epochAt, eligible, later, latest, chosen, keyDated, prismAllowed, atEpochAsks, atEpochNumber, Dated, shownAt, refusedDated, atEpoch}
+use Rattle.spec_epoch.specs.Epochs.{epochOf, datedKey, datedBy, epochAt, eligible, later, latest, chosen, keyDated, prismAllowed, atEpochAsks, atEpochNumber, Dated, shownAt, refusedDated, atEpoch}
 
 unfoldable pub epoch-definitions : ℕ
 unfolding inspect-definitions
-    prismOf epochOf datedBy epochAt eligible later latest chosen keyDated prismAllowed atEpochAsks atEpochNumber
+    epochOf datedKey datedBy epochAt eligible later latest chosen keyDated prismAllowed atEpochAsks atEpochNumber
     shownAt refusedDated atEpoch
 epoch-definitions = 0
 

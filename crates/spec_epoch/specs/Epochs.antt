@@ -1,18 +1,18 @@
 -- Document 02, Job 14, "Epochs of monitoring prisms": "The last 4 key bytes become an epoch number, most significant
 -- byte first. A new call takes a name of K − 4 bytes and an epoch t, and shows epoch and message of the entry of that
 -- name with the largest epoch at most t (the lowest slot if two), or 14 when none has one." The name is the prism's.
---     prismOf K key, epochOf K key     a key taken apart: the prism's name, and the epoch
+--     datedKey name e, epochOf K key   the key of a prism's entry with epoch e, and a key's epoch
 --     chosen g img name t              that entry's slot, as a search ends: all N slots are looked at, wherever the
 --                                      entries' homes are, so that it is the same for a damaged table
 --     atEpoch img name t               the call's answer; it changes no byte
 -- Assumes nothing.
 use Prim.Native.Nat.{ℕ, zero, suc, _+_, _-_}
 use mathlib.Core.Bool.{Bool, cond, _&&_}
-use mathlib.Core.List.{List, _∷_}
+use mathlib.Core.List.{List, _∷_, _++_}
 use mathlib.Core.Option.{Option, none}
-use lib.ListN.{length, take, drop}
+use lib.ListN.{length, drop}
 use lib.Dec.{leb, eqb}
-use Rattle.spec_file.specs.Bytes.{Bytes, number, same}
+use Rattle.spec_file.specs.Bytes.{Bytes, number, digits, same}
 use Rattle.spec_file.specs.Image.{Layout, layoutOf, slot, keyOf, offsetOf}
 use Rattle.spec_file.specs.Search.{Probe, met, exhausted, isMet, slotOf}
 use Rattle.spec_file.specs.Messages.{headSize, isActive, shown, shownLength}
@@ -28,15 +28,17 @@ epochSize = 4
 abbrev pub leastKey : ℕ
 leastKey = 5
 
-unfoldable pub prismOf : ℕ → Bytes → Bytes
-prismOf K key = take (K - epochSize) key
-
 unfoldable pub epochOf : ℕ → Bytes → ℕ
 epochOf K key = number (drop (K - epochSize) key)
 
--- an entry "of that name" with an epoch "at most t", by its key; of the file and of the book alike
+-- the name, and the epoch's bytes after it
+unfoldable pub datedKey : Bytes → ℕ → Bytes
+datedKey name e = name ++ digits epochSize e
+
+-- The entry "of that name" with its own epoch, and that "at most t", by its key; of the file and of the book alike. A
+-- key of bytes is so if and only if it begins with the name: `named-key` of crates/law_epoch/proofs/Choice.antt.
 unfoldable pub datedBy : ℕ → Bytes → ℕ → Bytes → Bool
-datedBy K name t key = same (prismOf K key) name && leb (epochOf K key) t
+datedBy K name t key = same key (datedKey name (epochOf K key)) && leb (epochOf K key) t
 
 -- ---- the choice
 

@@ -1,9 +1,15 @@
 -- `epoch_choose::is_eligible` meets its contract: the name, the epoch, and that the slot is not empty. Assumes nothing.
+use native.Mathlib.Omega.{arith}
 use borrow.Author.Needs.{needs}
 use Rattle.law_file.proofs.Tests.{was-no, was-yes}
+use Rattle.law_file.proofs.Bytes.{AreBytes}
 use Rattle.epoch_choose.proofs.Keys.{key-long, name-short, eligible-other, eligible-later, eligible-here}
 use Rattle.epoch_choose.proofs.is_eligible.Statement.{statement}
 use Rattle.epoch_choose.proofs.is_eligible.Tie as tie
+
+-- the image is bytes
+are-bytes : (c : tie.After-key-of) → AreBytes (c .before .before .before .args .image .now)
+are-bytes c i = omega (arith, c .before .before .shared-slice-known .given i)
 
 key-of-requires : tie.Need-key-of-requires
 key-of-requires c κs = search needs
@@ -23,7 +29,7 @@ returns c =
     let S = K .before .before .before in
     let A = S .args in
     eligible-other (A .image .now) (A .shape) (S .pre .0) (A .name .now) (A .t) (A .i .0) (S .pre .1) (S .pre .2)
-    (K .key-of .result .now) (K .key-of .ensures) (was-no (c .before .is-named .ensures) (c .if1 .taken))
+    (K .key-of .result .now) (K .key-of .ensures) (are-bytes K) (was-no (c .before .is-named .ensures) (c .if1 .taken))
 
 epoch-of-requires : tie.Need-epoch-of-requires
 epoch-of-requires c κs =
@@ -40,7 +46,7 @@ returns-2 c =
     let S = K .before .before .before in
     let A = S .args in
     eligible-later (A .image .now) (A .shape) (S .pre .0) (A .name .now) (A .t) (A .i .0) (S .pre .1) (S .pre .2)
-    (K .key-of .result .now) (K .key-of .ensures) (was-yes (E .before .is-named .ensures) (E .if1 .left))
+    (K .key-of .result .now) (K .key-of .ensures) (are-bytes K) (was-yes (E .before .is-named .ensures) (E .if1 .left))
     (c .before .epoch-of .result) (c .before .epoch-of .ensures) (c .if2 .taken)
 
 all-zero-requires : tie.Need-all-zero-requires
@@ -54,7 +60,7 @@ returns-3 c =
     let S = K .before .before .before in
     let A = S .args in
     eligible-here (A .image .now) (A .shape) (S .pre .0) (A .name .now) (A .t) (A .i .0) (S .pre .1) (S .pre .2)
-    (K .key-of .result .now) (K .key-of .ensures) (was-yes (E .before .is-named .ensures) (E .if1 .left))
+    (K .key-of .result .now) (K .key-of .ensures) (are-bytes K) (was-yes (E .before .is-named .ensures) (E .if1 .left))
     (T .before .epoch-of .result) (T .before .epoch-of .ensures) (T .if2 .left)
     (c .all-zero .result) (c .all-zero .ensures)
 
