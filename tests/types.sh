@@ -31,8 +31,8 @@ refused() {
   fi
 }
 
-refused table lib.rt 'Slot::new((h as usize) % slots)' 'Offset::new((h as usize) % slots)'
-refused lookup lib.rt 'message_sound(image, shape, o)' 'message_sound(image, shape, slot)'
-refused delete lib.rt 'close(image, shape, i)' 'close(image, shape, o)'
+refused table_search lib.rt 'Slot::new((h as usize) % slots)' 'Offset::new((h as usize) % slots)'
+refused call_lookup lib.rt 'message_sound(image, shape, o)' 'message_sound(image, shape, slot)'
+refused call_delete lib.rt 'close(image, shape, i)' 'close(image, shape, o)'
 
 tally
