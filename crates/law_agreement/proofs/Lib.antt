@@ -17,6 +17,7 @@ pub mod Remove  -- a point gone
 pub mod Noted  -- the version written beside an empty message
 -- ---- each call keeps the relation
 pub mod Simple  -- count, lookup and delete
+pub mod Dating  -- the entry of a prism at an epoch
 pub mod Place  -- a message placed in new space
 pub mod Present  -- add of a point that is present
 pub mod Absent  -- add of a point that is absent

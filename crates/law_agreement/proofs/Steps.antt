@@ -21,8 +21,9 @@ use Rattle.spec_file.specs.Messages.{bytesOf}
 use Rattle.spec_file.specs.Questions.{Question, ask, firstNo, nameAllowed}
 use Rattle.spec_file.specs.Calls.{Outcome, plain}
 use Rattle.spec_file.specs.Lists.{adding, deleting, looking, counting}
-use Rattle.spec_book.specs.Steps.{Change, adds, deletes, compacts, Step, calling, compacting, listing, journaling}
-use Rattle.spec_book.specs.Book.{Entry, Book, find, withEntry, stepOf, guarded, entered, noting, bare, placed, addAbsent, replace, append, withdrawn, addPresent, addFound, bookAdd, deleteFound, bookDelete, lookupFound, bookLookup, bookCount, trimmed, compactedBook, bookCompact, bookCall}
+use Rattle.spec_book.specs.Steps.{Change, adds, deletes, compacts, Step, calling, compacting, listing, journaling, dating}
+use Rattle.spec_epoch.specs.Epochs.{keyDated, prismAllowed}
+use Rattle.spec_book.specs.Book.{Entry, Book, find, withEntry, stepOf, guarded, entered, noting, bare, placed, addAbsent, replace, append, withdrawn, addPresent, addFound, bookAdd, deleteFound, bookDelete, lookupFound, bookLookup, bookCount, trimmed, compactedBook, bookCompact, bookCall, latestEntry, datedFound, bookAtEpoch}
 use Rattle.spec_book.specs.Told.{bookChanged, toldNumber, bookStep}
 use Rattle.spec_book.specs.Demand.{bookText, textOf}
 use Rattle.law_file.proofs.Tests.{by-bool, by-eq}
@@ -230,6 +231,18 @@ module _ (b : Book) (name : Bytes) where
       (λ h. rw h (lookup-found (find name (b .entries))))
       (λ h. rw h refl)
 
+  dated-found : (f : Option Entry) → datedFound b f .after ≡ b
+  unfolding datedFound stepOf
+  dated-found none = rw (firstNo-no 14 false [] refl) refl
+  dated-found (some e) = refl
+
+  pub book-dated : (t : ℕ) → bookAtEpoch b name t .after ≡ b
+  unfolding bookAtEpoch guarded stepOf
+  book-dated t =
+      by-bool (eqb (firstNo (ask 23 (keyDated (b .terms .K)) ∷ ask 7 (prismAllowed (b .terms .K) name) ∷ [])) 0)
+      (λ h. rw h (dated-found (latestEntry (b .terms .K) name t (b .entries))))
+      (λ h. rw h refl)
+
 -- ---- any step, by its effect on the book
 
 pub plainStep : Change → Step
@@ -243,6 +256,7 @@ asPlain (calling c) = calling c
 asPlain compacting = compacting
 asPlain (listing c work list) = plainStep c
 asPlain (journaling c work j) = plainStep c
+asPlain (dating name t) = dating name t
 
 -- nothing, or a text is put under the name that it adds, or the entry of the name that it deletes goes, or all entries
 -- are trimmed
@@ -299,6 +313,7 @@ step-effect t (calling counting) b = nothing refl
 step-effect t compacting b = trims refl refl
 step-effect t (listing c work list) b = guarded-effect _ _ (change-effect c refl)
 step-effect t (journaling c work j) b = told-effect t _ (guarded-effect _ _ (change-effect c refl))
+step-effect t (dating name e) b = nothing (book-dated b name e)
 
 -- the step does not delete, or does not add, a point of that name
 abbrev pub NotDeleting : Bytes → Step → Type 0

@@ -24,7 +24,7 @@ use Rattle.spec_file.specs.Questions.{nameAllowed, createNumber}
 use Rattle.spec_file.specs.Create.{slotsAsked, freshImage}
 use Rattle.spec_file.specs.Calls.{Answer, Outcome, plain, create, lookup}
 use Rattle.spec_file.specs.Lists.{Call, call, answers, stateAfter}
-use Rattle.spec_book.specs.Steps.{Step, calling, compacting, listing, journaling, performOn, State, alone, aloneAfter, perform}
+use Rattle.spec_book.specs.Steps.{Step, calling, compacting, listing, journaling, dating, performOn, State, alone, aloneAfter, perform}
 use Rattle.spec_book.specs.Book.{Book, newBook, bookCall}
 use Rattle.spec_book.specs.Told.{bookStep, tells, toldBy, bookTold}
 use Rattle.spec_book.specs.Reopened.{termsOf, Starts}
@@ -166,6 +166,7 @@ plain-told (calling c) p t b = refl
 plain-told compacting p t b = refl
 plain-told (listing c work list) p t b = absurd (not-both false p refl)
 plain-told (journaling c work j) p t b = absurd (not-both false p refl)
+plain-told (dating name e) p t b = refl
 
 plain-answers : (steps : List Step) → AllPlain steps → (s : State) (b : Book)
     → answers bookTold (toldBy steps s) b ≡ answers (bookStep false) steps b

@@ -11,6 +11,7 @@ use Rattle.spec_file.specs.Lists.{Call, call}
 use Rattle.spec_compaction.specs.Compact.{compact}
 use Rattle.spec_changes.specs.Changes.{Listed, listed}
 use Rattle.spec_changes.specs.Journal.{Journaled, journaled}
+use Rattle.spec_epoch.specs.Epochs.{Dated, atEpoch}
 
 -- Job 8: "Add, delete and compaction get a form"; Job 9: "a form of those calls"
 pub data Change : Type 0 where
@@ -25,12 +26,14 @@ changed compacts img = compact img
 
 -- Document 01's calls. Job 2, of compaction: "Lists of calls may now contain it". Job 8: "with a working slice that
 -- also fills a lent list": the working slice's length, for its bytes do not matter, and the list. Job 9: "with Job 8's
--- working slice but no list", and a journal.
+-- working slice but no list", and a journal. Job 14: "After every list of calls this is the book's own choice": of a
+-- prism's name, of any length, and an epoch, any number.
 pub data Step : Type 0 where
   calling : Call → Step
   compacting : Step
   listing : Change → ℕ → Bytes → Step
   journaling : Change → ℕ → Bytes → Step
+  dating : Bytes → ℕ → Step
 
 -- ---- one image
 
@@ -40,11 +43,19 @@ listedOutcome l = record { after = l .after; answer = plain (l .number) }
 unfoldable pub journaledOutcome : Journaled → Outcome Bytes
 journaledOutcome l = record { after = l .after; answer = plain (l .number) }
 
+unfoldable pub datedOutcome : Bytes → Dated → Outcome Bytes
+datedOutcome img d =
+    record {
+      after = img;
+      answer = record { number = d .number; amount = d .length; text = d .text; epoch = d .epoch };
+    }
+
 unfoldable pub performOn : Step → Bytes → Outcome Bytes
 performOn (calling c) img = call c img
 performOn compacting img = compact img
 performOn (listing c work list) img = listedOutcome (listed (changed c) img work list)
 performOn (journaling c work j) img = journaledOutcome (journaled (changed c) img work j)
+performOn (dating name t) img = datedOutcome img (atEpoch img name t)
 
 -- ---- the state
 

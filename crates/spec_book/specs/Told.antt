@@ -14,8 +14,8 @@ use Rattle.spec_file.specs.Image.{dataStart}
 use Rattle.spec_file.specs.Questions.{ask}
 use Rattle.spec_file.specs.Calls.{Outcome}
 use Rattle.spec_changes.specs.Changes.{listAllowed, workAllowed}
-use Rattle.spec_book.specs.Steps.{Change, adds, deletes, compacts, Step, calling, compacting, listing, journaling, State, perform}
-use Rattle.spec_book.specs.Book.{Terms, Book, stepOf, guarded, bookAdd, bookDelete, bookCompact, bookCall}
+use Rattle.spec_book.specs.Steps.{Change, adds, deletes, compacts, Step, calling, compacting, listing, journaling, dating, State, perform}
+use Rattle.spec_book.specs.Book.{Terms, Book, stepOf, guarded, bookAdd, bookDelete, bookCompact, bookAtEpoch, bookCall}
 
 unfoldable pub bookChanged : Change → Book → Outcome Book
 bookChanged (adds name data′ mode) b = bookAdd b name data′ mode
@@ -38,6 +38,7 @@ bookStep seventeen (listing c work list) b =
 bookStep seventeen (journaling c work j) b =
     toldNumber seventeen b
     (guarded b (ask 16 (workAllowed (imageLength (b .terms)) work) ∷ []) (bookChanged c b))
+bookStep seventeen (dating name t) b = bookAtEpoch b name t
 
 -- ---- what the book is told
 
