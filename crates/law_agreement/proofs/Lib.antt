@@ -35,4 +35,5 @@ pub mod Reached  -- files that calls have reached
 pub mod Steps  -- what a call does to the book
 pub mod Numbers  -- which numbers a step of the book may answer
 pub mod Users  -- corollaries in the words of a user
+pub mod Epochs  -- the entry of a prism at an epoch, of files that calls have reached
 pub mod Area  -- the bytes below X that a call leaves as they were, of any image

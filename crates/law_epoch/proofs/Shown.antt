@@ -1,5 +1,5 @@
--- Document 02's sentence, on any image of bytes: an accepted call "shows epoch and message of the entry of that name with
--- the largest epoch at most t (the lowest slot if two), or 14 when none has one".
+-- Document 02's sentence, on any image of bytes: an accepted call "shows epoch and message of the entry of that name
+-- with the largest epoch at most t (the lowest slot if two), or 14 when none has one".
 --     Entry g img name j    slot j holds an entry of that name
 --     Shows img name t      the entry that is shown, and what is shown of it
 --     at-epoch-shows        so of every accepted call

@@ -1,5 +1,5 @@
--- Document 02, Job 14, of the book: its own choice in a list of calls, by computation; and what a file tells. The file's
--- answers to the same list stand in crates/spec_cases/proofs/CasesMore.antt.
+-- Document 02, Job 14, of the book: its own choice in a list of calls, by computation; and what a file tells. The
+-- file's answers to the same list stand in crates/spec_cases/proofs/CasesMore.antt.
 -- Assumes nothing.
 use mathlib.Core.Path.{_≡_, refl}
 use Prim.Native.Nat.{ℕ}
@@ -34,8 +34,8 @@ abbrev pub tells-note : ℕ → Answer
 tells-note e = record { number = 0; amount = 0; text = some []; epoch = e }
 
 -- Prism 7 gets epochs 3, 9, 1 and 2 in turn, of which 9 has an empty note and 1 no message, and prism 8 gets epoch 5.
--- "the largest epoch at most t", and not the last one added; "or 14 when none has one". A name of other than K − 4 bytes
--- is answered 7. Epoch 9 is deleted.
+-- "the largest epoch at most t", and not the last one added; "or 14 when none has one". A name of other than K − 4
+-- bytes is answered 7. Epoch 9 is deleted.
 abbrev pub datedCalls : List Step
 datedCalls =
     calling (adding (7 ∷ 0 ∷ 0 ∷ 0 ∷ 3 ∷ []) (80 ∷ []) 1) ∷ calling (adding (7 ∷ 0 ∷ 0 ∷ 0 ∷ 9 ∷ []) [] 1)

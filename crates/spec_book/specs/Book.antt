@@ -1,6 +1,6 @@
--- Document 01, "The plain control book", as document 02 changes it (Job 4), with its step for compaction (Job 2) and its
--- choice by epoch (Job 14): entries with distinct names, which its steps keep so, and the space used. It knows nothing of slots or bytes of an
--- image: "Each step is fed its call's arguments and nothing from the file."
+-- Document 01, "The plain control book", as document 02 changes it (Job 4), with its step for compaction (Job 2) and
+-- its choice by epoch (Job 14): entries with distinct names, which its steps keep so, and the space used. It knows
+-- nothing of slots or bytes of an image: "Each step is fed its call's arguments and nothing from the file."
 -- Assumes nothing.
 use Prim.Native.Nat.{ℕ, _+_}
 use mathlib.Core.Bool.{Bool, true, false, cond, _&&_}

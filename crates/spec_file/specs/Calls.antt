@@ -1,6 +1,6 @@
 -- The calls, each as a function from the image's bytes and the arguments to the answer and every byte afterwards.
---     Answer        what a call answers: its number; count's C or lookup's length; lookup's text, or none; and the epoch of
---                   the entry that a call of document 02, Job 14, shows, 0 of every other call
+--     Answer        what a call answers: its number; count's C or lookup's length; lookup's text, or none; the epoch of
+--                   what is shown, where a call shows one (document 02, Job 14), else 0
 --     Outcome S     the state afterwards (a file's: the image), and the answer
 --     create, add, delete, lookup, count     for any bytes, names, data and modes
 --     addRead, deleteRead, lookupRead        how many slots a call's search read
