@@ -15,10 +15,8 @@ ghost use mathlib.Core.Path.{_≡_};
 ghost use lib.ListN.{length};
 ghost use Rattle.spec_file.specs.Messages.{bytesOf, isText};
 ghost use Rattle.spec_epoch.specs.Epochs.{refusedDated, atEpoch};
-ghost use Rattle.header_layout.specs.Shapes.{Open};
-ghost use Rattle.table_search.specs.Probes.{probeOf, Within};
-ghost use Rattle.epoch_choose.specs.Choices.{Kept};
-ghost use Rattle.call_at_epoch.specs.Answers.{Answers, shownOf};
+ghost use Rattle.table_search.specs.Probes.{probeOf};
+ghost use Rattle.call_at_epoch.specs.Answers.{Answers, Picked, shownOf};
 
 // The shortest key that has a name beside an epoch, and the bytes of an epoch.
 const LEAST_KEY: usize = 5;
@@ -42,7 +40,7 @@ fn refused(number: u32) -> Dated
 
 // What is shown of the entry that was chosen: questions 14 and 11.
 fn show(image: &[u8], shape: Shape, chosen: Chosen) -> Dated
-    requires { ⌜ Open (now image) shape × Within (shape .slots) (probeOf (chosen .found)) × Kept (now image) chosen ⌝ }
+    requires { ⌜ Picked (now image) shape chosen ⌝ }
     ensures { λ r. ⌜ Answers (shownOf (now (image .entry)) (probeOf (chosen .found))) r ⌝ }
 {
     let found = chosen.found;

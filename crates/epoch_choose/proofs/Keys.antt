@@ -26,7 +26,8 @@ use Rattle.header_layout.specs.declared.shape.Shape.{Shape}
 use Rattle.table_search.specs.Slots.{keyIn}
 use Rattle.table_search.proofs.Headers.{layout-key}
 use Rattle.table_search.proofs.Turns.{stored-length}
-use Rattle.epoch_choose.specs.Marks.{Marks}
+use Rattle.epoch_choose.specs.declared.Mark.{Mark}
+use Rattle.epoch_choose.specs.Marks.{Told, SlotAt}
 
 -- ---- four bytes of a name
 
@@ -36,21 +37,27 @@ part-take b n q m h =
     let z : 0 + q ≡ q = omega arith in
     part-part b 0 n q m h ∙ ap (λ (p : ℕ). take m (drop p b)) z
 
-pub mark-other : (key name : Bytes) (end block x : ℕ) → length name ≤ length key → Marks name end block → 4 ≤ end
-    → x ≡ little (part (take end key) (length (take end key) - 4) 4) → (x ≡ block → ⊥)
+pub mark-other : (key name : Bytes) (m : Mark) (x : ℕ) → Told key name m → 4 ≤ m .end
+    → x ≡ little (part (take (m .end) key) (length (take (m .end) key) - 4) 4) → (x ≡ m .block → ⊥)
     → false ≡ same (take (length name) key) name
-mark-other key name end block x l m e is other =
+mark-other key name m x w e is other =
     by-bool (same (take (length name) key) name)
     (λ s. absurd (other (alike (same-true (take (length name) key) name s)))) sym
   where
-    alike : take (length name) key ≡ name → x ≡ block
+    end : ℕ
+    end = m .end
+
+    ends : m .end ≤ length name
+    ends = w .marks .ends
+
+    alike : take (length name) key ≡ name → x ≡ m .block
     alike q =
-        is ∙ ap (λ (n : ℕ). little (part (take end key) (n - 4) 4)) (length-take-le end key (omega (arith, m .ends)))
+        is ∙ ap (λ (n : ℕ). little (part (take end key) (n - 4) 4)) (length-take-le end key (omega (arith, ends, w .room)))
         ∙ ap little
         (part-take key end (end - 4) 4 (omega arith)
-        ∙ sym (part-take key (length name) (end - 4) 4 (omega (arith, m .ends)))
+        ∙ sym (part-take key (length name) (end - 4) 4 (omega (arith, ends)))
         ∙ ap (λ (b : Bytes). part b (end - 4) 4) q)
-        ∙ sym (m .is e)
+        ∙ sym (w .marks .is e)
 
 -- ---- the epoch
 
@@ -64,17 +71,23 @@ epoch-read key l =
     four = length-drop (length key - 4) key ∙ omega arith
 
 -- ---- slot i, with its key k, of an image whose keys have a name's length and an epoch's
-module _ (img : Bytes) (s : Shape) (o : Open img s) (name : Bytes) (t i : ℕ) (l : i < s .slots)
-    (size : length name + epochSize ≡ s .keylen) (k : Bytes) (is : k ≡ keyIn img i) where
+module _ (img : Bytes) (s : Shape) (name : Bytes) (t i : ℕ) (m : Mark) (w : SlotAt img s name m i) (k : Bytes)
+    (is : k ≡ keyIn img i) where
+  o : Open img s
+  o = w .named .opened
+
+  stored : length k ≡ s .keylen
+  stored = stored-length img s o i (w .below) k is
+
   -- the layout's K
   long : length k ≡ layoutOf img .K
-  long = stored-length img s o i l k is ∙ sym (layout-key img s (o .shape))
+  long = stored ∙ sym (layout-key img s (o .shape))
 
   pub key-long : epochSize ≤ length k
-  key-long = omega (arith, stored-length img s o i l k is)
+  key-long = omega (arith, stored, w .named .size)
 
   pub name-short : length name ≤ length k
-  name-short = omega (arith, stored-length img s o i l k is)
+  name-short = omega (arith, stored, w .named .size)
 
   pub slot-epoch : epochAt (layoutOf img) img i ≡ epochOf (length k) k
   unfolding epochAt
@@ -90,7 +103,7 @@ module _ (img : Bytes) (s : Shape) (o : Open img s) (name : Bytes) (t i : ℕ) (
     slot-named =
         ap₂ (λ (b : Bytes) (e : ℕ). same b (datedKey name e)) (sym is) slot-epoch
         ∙ named-key k name (subst AreBytes (sym is) (key-bytes (layoutOf img) img bytes i))
-        (omega (arith, stored-length img s o i l k is))
+        (omega (arith, stored, w .named .size))
 
     slot-eligible : (n d : Bool) → named ≡ n → leb (epochOf (length k) k) t ≡ d
         → eligible (layoutOf img) img name t i ≡ (taken (layoutOf img) img i && (n && d))

@@ -1,7 +1,8 @@
 -- The best slot so far as the code keeps it: how it was found, and its epoch.
 --     keptOf best i e        the best so far, or slot i with epoch e if that is larger
 --     Kept img best          its epoch is that of its slot
---     Looked img name t i best r      after slot i is looked at
+--     Looking img s name m i best     before slot i is looked at
+--     Looked img name t i best r      after it
 --     Chooses img name t r   after all slots
 -- Assumes nothing.
 use mathlib.Core.Path.{_≡_}
@@ -13,9 +14,12 @@ use Rattle.spec_file.specs.Image.{layoutOf}
 use Rattle.spec_file.specs.Search.{isMet, slotOf}
 use Rattle.spec_epoch.specs.Epochs.{epochAt, eligible, later, chosen}
 use Rattle.header_layout.specs.declared.places.Slot.{Slot}
+use Rattle.header_layout.specs.declared.shape.Shape.{Shape}
 use Rattle.table_search.specs.declared.Found.the-variants.{Met}
 use Rattle.table_search.specs.Probes.{probeOf}
 use Rattle.epoch_choose.specs.declared.Chosen.{Chosen}
+use Rattle.epoch_choose.specs.declared.Mark.{Mark}
+use Rattle.epoch_choose.specs.Marks.{SlotAt}
 
 unfoldable pub keptOf : Chosen → Slot → ℕ → Chosen
 keptOf best i e =
@@ -24,6 +28,10 @@ keptOf best i e =
 unfoldable pub Kept : Bytes → Chosen → Type 0
 Kept img best =
     isMet (probeOf (best .found)) ≡ true → best .epoch ≡ epochAt (layoutOf img) img (slotOf (probeOf (best .found)))
+
+pub record Looking (img : Bytes) (s : Shape) (name : Bytes) (m : Mark) (i : ℕ) (best : Chosen) : Type 0 where
+  pub slot : SlotAt img s name m i
+  pub kept : Kept img best
 
 pub record Looked (img name : Bytes) (t i : ℕ) (best r : Chosen) : Type 0 where
   pub found : probeOf (r .found)

@@ -10,14 +10,13 @@ use header_layout::shape::Shape;
 use table_search::Found;
 use table_search::key_of;
 ghost use mathlib.Core.Path.{_≡_};
-ghost use Prim.Native.Nat.{_+_, _≤_, _<_};
+ghost use Prim.Native.Nat.{_≤_};
 ghost use lib.ListN.{length, take};
 ghost use Rattle.spec_file.specs.Bytes.{same};
 ghost use Rattle.spec_file.specs.Image.{layoutOf};
 ghost use Rattle.spec_epoch.specs.Epochs.{epochSize, epochOf, eligible};
-ghost use Rattle.header_layout.specs.Shapes.{Open};
-ghost use Rattle.epoch_choose.specs.Marks.{Marks};
-ghost use Rattle.epoch_choose.specs.Choices.{keptOf, Kept, Looked, Chooses};
+ghost use Rattle.epoch_choose.specs.Marks.{Marks, Told, Named, SlotAt};
+ghost use Rattle.epoch_choose.specs.Choices.{keptOf, Looking, Looked, Chooses};
 
 // Four bytes of a prism's name by which other prisms are told, and where they end; 0 bytes of a name below four.
 pub struct Mark {
@@ -48,7 +47,7 @@ fn filled(name: &[u8]) -> usize
 
 // The last four bytes of a name, zeros after it aside.
 fn mark_of(name: &[u8]) -> Mark
-    ensures { λ r. ⌜ Marks (now (name .entry)) (r .end) (r .block) ⌝ }
+    ensures { λ r. ⌜ Marks (now (name .entry)) r ⌝ }
 {
     let end = filled(name);
     if end < 4 {
@@ -60,7 +59,7 @@ fn mark_of(name: &[u8]) -> Mark
 
 // Whether a key begins with the name.
 fn is_named(key: &[u8], name: &[u8], mark: Mark) -> bool
-    requires { ⌜ (length (now name) ≤ length (now key)) × Marks (now name) (mark .end) (mark .block) ⌝ }
+    requires { ⌜ Told (now key) (now name) mark ⌝ }
     ensures { λ r. ⌜ r ≡ same (take (length (now (name .entry))) (now (key .entry))) (now (name .entry)) ⌝ }
 {
     let end = mark.end;
@@ -84,8 +83,7 @@ fn epoch_of(key: &[u8]) -> u32
 
 // Whether slot i holds an entry of the name with an epoch at most t.
 fn is_eligible(image: &[u8], shape: Shape, name: &[u8], mark: Mark, t: u32, i: Slot) -> bool
-    requires { ⌜ Open (now image) shape × (i .0 < shape .slots) × (length (now name) + epochSize ≡ shape .keylen)
-        × Marks (now name) (mark .end) (mark .block) ⌝ }
+    requires { ⌜ SlotAt (now image) shape (now name) mark (i .0) ⌝ }
     ensures { λ r. ⌜ r ≡ eligible (layoutOf (now (image .entry))) (now (image .entry)) (now (name .entry)) t (i .0) ⌝ }
 {
     let key = key_of(image, shape, i);
@@ -128,8 +126,7 @@ fn look(
     i: Slot,
     best: Chosen,
 ) -> Chosen
-    requires { ⌜ Open (now image) shape × (i .0 < shape .slots) × (length (now name) + epochSize ≡ shape .keylen)
-        × Marks (now name) (mark .end) (mark .block) × Kept (now image) best ⌝ }
+    requires { ⌜ Looking (now image) shape (now name) mark (i .0) best ⌝ }
     ensures { λ r. ⌜ Looked (now (image .entry)) (now (name .entry)) t (i .0) best r ⌝ }
 {
     if !is_eligible(image, shape, name, mark, t, i) {
@@ -140,7 +137,7 @@ fn look(
 
 // The slot of the entry of the name with the largest epoch at most t.
 pub fn choose(image: &[u8], shape: Shape, name: &[u8], t: u32) -> Chosen
-    requires { ⌜ Open (now image) shape × (length (now name) + epochSize ≡ shape .keylen) ⌝ }
+    requires { ⌜ Named (now image) shape (now name) ⌝ }
     ensures { λ r. ⌜ Chooses (now (image .entry)) (now (name .entry)) t r ⌝ }
 {
     let slots = shape.slots;

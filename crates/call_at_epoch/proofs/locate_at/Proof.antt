@@ -6,6 +6,7 @@ use Rattle.spec_file.specs.Bytes.{Bytes}
 use Rattle.spec_file.specs.Questions.{openNumber}
 use Rattle.law_file.proofs.Opened.{opened-facts}
 use Rattle.law_epoch.proofs.Answers.{number-closed, number-23, number-7}
+use Rattle.header_layout.specs.Shapes.{Open}
 use Rattle.table_search.specs.Probes.{probeOf}
 use Rattle.table_search.proofs.Headers.{layout-slots}
 use Rattle.call_at_epoch.proofs.Showing.{answer-refused, answer-on, chosen-within, key-short, key-long, name-other, name-is}
@@ -75,20 +76,25 @@ returns-3 c =
     (name-other (img E) (name E) (s .result) (s .ensures) (L .if2 .left) (c .before .if3 .taken)))
     (λ z. omega arith) (c .refused3 .ensures)
 
+is-opened : (c : tie.After-read-shape) → Open (img (c .before)) (c .read-shape .result)
+is-opened c = record { accepted = is-open (c .before); shape = c .read-shape .ensures }
+
 choose-requires : tie.Need-choose-requires
-choose-requires c κs = search needs
+choose-requires c κs = record { opened = is-opened (c .before .before); size = c .if3 .left }
 
 show-requires : tie.Need-show-requires
 show-requires c κs =
     let R = c .before .before .before in
     let E = R .before in
-    let s = R .read-shape in (
-      record { accepted = is-open E; shape = s .ensures },
-      chosen-within (img E) (name E) (started E .args .t) (s .result .slots)
+    let s = R .read-shape in
+    record {
+      opened = is-opened R;
+      within =
+          chosen-within (img E) (name E) (started E .args .t) (s .result .slots)
           (layout-slots (img E) (s .result) (s .ensures)) (probeOf (c .choose .result .found))
-          (c .choose .ensures .found),
-      c .choose .ensures .kept,
-    )
+          (c .choose .ensures .found);
+      kept = c .choose .ensures .kept;
+    }
 
 returns-4 : tie.Need-returns-4
 returns-4 c =

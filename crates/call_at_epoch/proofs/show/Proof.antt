@@ -7,7 +7,7 @@ use Rattle.call_at_epoch.proofs.show.Statement.{statement}
 use Rattle.call_at_epoch.proofs.show.Tie as tie
 
 locate-found-requires : tie.Need-locate-found-requires
-locate-found-requires c κs = search needs
+locate-found-requires c κs = let S = c .before in (S .pre .opened, S .pre .within)
 
 returns : tie.Need-returns
 returns c =
@@ -21,7 +21,7 @@ returns-2 c =
     let S = F .before .before in
     let A = S .args in
     showing (A .image .now) (probeOf (A .chosen .found)) _ (F .locate-found .ensures) (c .if1 .left) (A .chosen) refl
-    (S .pre .2) refl
+    (S .pre .kept) refl
 
 pub show-spec : {M : Type 1} → statement M
 show-spec = tie.close (tie.spec locate-found-requires returns returns-2)

@@ -21,7 +21,7 @@ loop-holds c =
     let S = c .before .before .before in
     let A = S .args in
     passes-start (A .image .now) (A .name .now) (A .t) (A .shape .slots)
-    (layout-slots (A .image .now) (A .shape) (S .pre .0 .shape))
+    (layout-slots (A .image .now) (A .shape) (S .pre .opened .shape))
 
 new-requires : tie.Need-new-requires Inv-loop μ-loop
 new-requires c κs = search needs
@@ -30,19 +30,21 @@ look-requires : tie.Need-look-requires Inv-loop μ-loop
 look-requires c κs =
     let L = c .before .before in
     let M = L .before in
-    let S = M .before .before .before in (
-      S .pre .0,
-      omega (arith, c .new .ensures, c .before .loop-test .taken),
-      S .pre .1,
-      M .mark-of .ensures,
-      L .loop .inv .kept,
-    )
+    record {
+      slot =
+          record {
+            named = M .before .before .before .pre;
+            below = omega (arith, c .new .ensures, c .before .loop-test .taken);
+            marks = M .mark-of .ensures;
+          };
+      kept = L .loop .inv .kept;
+    }
 
 add-i : tie.Need-add-i Inv-loop μ-loop
 add-i c =
     let L = c .before .before .before in
     let S = L .before .before .before .before in
-    omega (arith, L .loop .inv .low, header (S .args .image .now) (S .args .shape) (S .pre .0) .slots-high)
+    omega (arith, L .loop .inv .low, header (S .args .image .now) (S .args .shape) (S .pre .opened) .slots-high)
 
 loop-less : tie.Need-loop-less Inv-loop μ-loop
 loop-less c = omega (arith, c .before .before .loop-test .taken)

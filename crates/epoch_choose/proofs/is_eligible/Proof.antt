@@ -12,23 +12,25 @@ are-bytes : (c : tie.After-key-of) → AreBytes (c .before .before .before .args
 are-bytes c i = omega (arith, c .before .before .shared-slice-known .given i)
 
 key-of-requires : tie.Need-key-of-requires
-key-of-requires c κs = search needs
+key-of-requires c κs = let S = c .before .before in (S .pre .named .opened, S .pre .below)
 
 is-named-requires : tie.Need-is-named-requires
 is-named-requires c κs =
     let S = c .before .before .before in
-    let A = S .args in (
-      name-short (A .image .now) (A .shape) (S .pre .0) (A .name .now) (A .t) (A .i .0) (S .pre .1) (S .pre .2)
-          (c .key-of .result .now) (c .key-of .ensures),
-      S .pre .3,
-    )
+    let A = S .args in
+    record {
+      room =
+          name-short (A .image .now) (A .shape) (A .name .now) (A .t) (A .i .0) (A .mark) (S .pre)
+          (c .key-of .result .now) (c .key-of .ensures);
+      marks = S .pre .marks;
+    }
 
 returns : tie.Need-returns
 returns c =
     let K = c .before .before in
     let S = K .before .before .before in
     let A = S .args in
-    eligible-other (A .image .now) (A .shape) (S .pre .0) (A .name .now) (A .t) (A .i .0) (S .pre .1) (S .pre .2)
+    eligible-other (A .image .now) (A .shape) (A .name .now) (A .t) (A .i .0) (A .mark) (S .pre)
     (K .key-of .result .now) (K .key-of .ensures) (are-bytes K) (was-no (c .before .is-named .ensures) (c .if1 .taken))
 
 epoch-of-requires : tie.Need-epoch-of-requires
@@ -36,7 +38,7 @@ epoch-of-requires c κs =
     let K = c .before .before in
     let S = K .before .before .before in
     let A = S .args in
-    key-long (A .image .now) (A .shape) (S .pre .0) (A .name .now) (A .t) (A .i .0) (S .pre .1) (S .pre .2)
+    key-long (A .image .now) (A .shape) (A .name .now) (A .t) (A .i .0) (A .mark) (S .pre)
     (K .key-of .result .now) (K .key-of .ensures)
 
 returns-2 : tie.Need-returns-2
@@ -45,7 +47,7 @@ returns-2 c =
     let K = E .before .before in
     let S = K .before .before .before in
     let A = S .args in
-    eligible-later (A .image .now) (A .shape) (S .pre .0) (A .name .now) (A .t) (A .i .0) (S .pre .1) (S .pre .2)
+    eligible-later (A .image .now) (A .shape) (A .name .now) (A .t) (A .i .0) (A .mark) (S .pre)
     (K .key-of .result .now) (K .key-of .ensures) (are-bytes K) (was-yes (E .before .is-named .ensures) (E .if1 .left))
     (c .before .epoch-of .result) (c .before .epoch-of .ensures) (c .if2 .taken)
 
@@ -59,7 +61,7 @@ returns-3 c =
     let K = E .before .before in
     let S = K .before .before .before in
     let A = S .args in
-    eligible-here (A .image .now) (A .shape) (S .pre .0) (A .name .now) (A .t) (A .i .0) (S .pre .1) (S .pre .2)
+    eligible-here (A .image .now) (A .shape) (A .name .now) (A .t) (A .i .0) (A .mark) (S .pre)
     (K .key-of .result .now) (K .key-of .ensures) (are-bytes K) (was-yes (E .before .is-named .ensures) (E .if1 .left))
     (T .before .epoch-of .result) (T .before .epoch-of .ensures) (T .if2 .left)
     (c .all-zero .result) (c .all-zero .ensures)

@@ -10,25 +10,25 @@ use Rattle.epoch_choose.proofs.is_named.Tie as tie
 slice-aggregate-tail : tie.Need-slice-aggregate-tail
 slice-aggregate-tail c =
     let S = c .before .before .before .before in
-    sym (length-take-le (S .args .mark .end) (S .args .key .now) (omega (arith, S .pre .0, S .pre .1 .ends)))
+    sym (length-take-le (S .args .mark .end) (S .args .key .now) (omega (arith, S .pre .room, S .pre .marks .ends)))
 
 tail-requires : tie.Need-tail-requires
 tail-requires c κs =
     let S = c .before .before .before .before in
-    let l = length-take-le (S .args .mark .end) (S .args .key .now) (omega (arith, S .pre .0, S .pre .1 .ends)) in
+    let l = length-take-le (S .args .mark .end) (S .args .key .now) (omega (arith, S .pre .room, S .pre .marks .ends)) in
     omega (arith, l, c .before .if1 .taken)
 
 returns : tie.Need-returns
 returns c =
     let S = c .before .before .before .before .before .before .before in
     let A = S .args in
-    mark-other (A .key .now) (A .name .now) (A .mark .end) (A .mark .block) _ (S .pre .0) (S .pre .1)
+    mark-other (A .key .now) (A .name .now) (A .mark) _ (S .pre)
     (c .before .before .before .before .if1 .taken) (c .before .before .tail .ensures) (c .if2 .taken)
 
 slice-aggregate-same-bytes : tie.Need-slice-aggregate-same-bytes
 slice-aggregate-same-bytes c =
     let S = c .before .before .before .before in
-    sym (length-take-le _ (S .args .key .now) (S .pre .0))
+    sym (length-take-le _ (S .args .key .now) (S .pre .room))
 
 same-bytes-requires : tie.Need-same-bytes-requires
 same-bytes-requires c κs = search needs

@@ -8,23 +8,25 @@ use Rattle.epoch_choose.proofs.look.Statement.{statement}
 use Rattle.epoch_choose.proofs.look.Tie as tie
 
 is-eligible-requires : tie.Need-is-eligible-requires
-is-eligible-requires c κs = search needs
+is-eligible-requires c κs = c .before .before .pre .slot
 
 returns : tie.Need-returns
 returns c =
     let S = c .before .before .before .before in
     let A = S .args in
-    looked-over (A .image .now) (A .name .now) (A .t) (A .i) (A .best) (S .pre .4)
+    looked-over (A .image .now) (A .name .now) (A .t) (A .i) (A .best) (S .pre .kept)
     (was-no (c .before .is-eligible .ensures) (c .if1 .taken))
 
 key-of-requires : tie.Need-key-of-requires
-key-of-requires c κs = search needs
+key-of-requires c κs =
+    let S = c .before .before .before .before in
+    (S .pre .slot .named .opened, S .pre .slot .below)
 
 epoch-of-requires : tie.Need-epoch-of-requires
 epoch-of-requires c κs =
     let S = c .before .before .before .before .before in
     let A = S .args in
-    key-long (A .image .now) (A .shape) (S .pre .0) (A .name .now) (A .t) (A .i .0) (S .pre .1) (S .pre .2)
+    key-long (A .image .now) (A .shape) (A .name .now) (A .t) (A .i .0) (A .mark) (S .pre .slot)
     (c .key-of .result .now) (c .key-of .ensures)
 
 later-requires : tie.Need-later-requires
@@ -38,9 +40,9 @@ returns-2 c =
     let S = T .before .before .before .before in
     let A = S .args in
     let epoch =
-    slot-epoch (A .image .now) (A .shape) (S .pre .0) (A .name .now) (A .t) (A .i .0) (S .pre .1) (S .pre .2)
+    slot-epoch (A .image .now) (A .shape) (A .name .now) (A .t) (A .i .0) (A .mark) (S .pre .slot)
     (K .key-of .result .now) (K .key-of .ensures) in
-    looked-at (A .image .now) (A .name .now) (A .t) (A .i) (A .best) (S .pre .4) (E .epoch-of .result)
+    looked-at (A .image .now) (A .name .now) (A .t) (A .i) (A .best) (S .pre .kept) (E .epoch-of .result)
     (E .epoch-of .ensures ∙ sym epoch) (was-yes (T .before .is-eligible .ensures) (T .if1 .left))
     (c .later .result) (c .later .ensures)
 
