@@ -52,7 +52,9 @@ mark-other key name m x w e is other =
 
     alike : take (length name) key ≡ name → x ≡ m .block
     alike q =
-        is ∙ ap (λ (n : ℕ). little (part (take end key) (n - 4) 4)) (length-take-le end key (omega (arith, ends, w .room)))
+        is
+        ∙ ap (λ (n : ℕ). little (part (take end key) (n - 4) 4))
+        (length-take-le end key (omega (arith, ends, w .room)))
         ∙ ap little
         (part-take key end (end - 4) 4 (omega arith)
         ∙ sym (part-take key (length name) (end - 4) 4 (omega (arith, ends)))

@@ -15,7 +15,8 @@ slice-aggregate-tail c =
 tail-requires : tie.Need-tail-requires
 tail-requires c κs =
     let S = c .before .before .before .before in
-    let l = length-take-le (S .args .mark .end) (S .args .key .now) (omega (arith, S .pre .room, S .pre .marks .ends)) in
+    let l =
+    length-take-le (S .args .mark .end) (S .args .key .now) (omega (arith, S .pre .room, S .pre .marks .ends)) in
     omega (arith, l, c .before .if1 .taken)
 
 returns : tie.Need-returns
