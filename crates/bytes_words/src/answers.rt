@@ -41,6 +41,7 @@ pub const UNRECOVERABLE: u32 = 18;
 
 pub const BAD_RECORDS: u32 = 19;
 pub const BAD_RANGES: u32 = 22;
+pub const NO_EPOCHS: u32 = 23;
 
 // Add's modes.
 pub const NEW: u32 = 1;
