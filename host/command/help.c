@@ -219,6 +219,18 @@ static const struct command commands[] = {
       "      --tsv          name, slot, easting, northing, height, note\n"
       "      --json         one object a line\n"
       "      --csv          as export writes it\n" QUIET WAITING },
+    { "at", OPTION_EPOCH_UNIT, 3, 3, run_at,
+      "bhtf at FILE NAME EPOCH [--epoch-unit day | week]\n"
+      "The text of a point at an epoch, or at the last one before it, with that\n"
+      "epoch in front. In a file of epochs the last four bytes of a key are a\n"
+      "number; bhtf add --epoch and bhtf import --epoch store such points.\n"
+      "EPOCH is a number, or a date YYYY-MM-DD: the days from 1970-01-01 to it,\n"
+      "      --epoch-unit week   or the whole weeks from 1970-01-05, a Monday\n"
+      QUIET WAITING NAMES },
+    { "epochs", 0, 1, ANY_NUMBER, run_epochs,
+      "bhtf epochs FILE [PATTERN]..\n"
+      "A line for each point: its name, how many epochs it has, and which.\n"
+      "A PATTERN is a shell's, for names.\n" WAITING },
     { "check", 0, 1, 1, run_check,
       "bhtf check FILE\n"
       "Says whether the file is sound: status 0 if so, 1 if not. If so it says "

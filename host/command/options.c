@@ -73,6 +73,8 @@ static const struct row all[] = {
     { 0, "--csv", OPTION_CSV, PLAIN, 0, 0, 0 },
     { 0, "--alike", OPTION_ALIKE, PLAIN, 0, 0, 0 },
     { 0, "--near", OPTION_NEAR, TEXT, AT(near), 0, 0 },
+    { 0, "--epoch", OPTION_EPOCH, TEXT, AT(epoch), 0, 0 },
+    { 0, "--epoch-unit", OPTION_EPOCH_UNIT, TEXT, AT(unit), 0, 0 },
     { 0, "--spreadsheet", OPTION_SPREADSHEET, PLAIN, 0, 0, 0 },
     { 0, "--finish", OPTION_FINISH, PLAIN, 0, 0, 0 },
     { 0, "--set-aside", OPTION_SET_ASIDE, PLAIN, 0, 0, 0 },
