@@ -69,22 +69,6 @@ static int put_shown(const struct options *o, const struct shown *s)
     return finish_output(DONE);
 }
 
-static int epoch_wanted(const struct options *o, const char *word,
-                        uint32_t *epoch)
-{
-    int weeks = o->unit != NULL && strcmp(o->unit, "week") == 0;
-
-    if (o->unit != NULL && !weeks && strcmp(o->unit, "day") != 0) {
-        complain("--epoch-unit is day or week, and not %s", o->unit);
-        return TROUBLE;
-    }
-    if (epoch_read(word, weeks, epoch) == 0)
-        return DONE;
-    complain("an epoch is a number from 0 to 4294967295 or a date YYYY-MM-DD, "
-             "and not %s", word);
-    return TROUBLE;
-}
-
 int run_at(const struct options *o)
 {
     struct buffer copy = { NULL, 0, 0 };

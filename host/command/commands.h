@@ -90,6 +90,7 @@ struct options {
     const char *fields;
     const char *near;
     const char *epoch;
+    uint32_t epoch_number; /* of --epoch, in the unit asked for */
     const char *unit;
     const char *easting;
     const char *northing;
@@ -133,6 +134,10 @@ void help_print_command(const struct command *command, FILE *to);
  * in another order. */
 int options_read(struct options *o, const struct command *command, int count,
                  char **words);
+
+/* An epoch as typed, in the unit of --epoch-unit: DONE, or TROUBLE after a
+ * complaint. */
+int epoch_wanted(const struct options *o, const char *word, uint32_t *epoch);
 
 /* Each answers an enum status. */
 int run_create(const struct options *o);

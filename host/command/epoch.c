@@ -4,6 +4,7 @@
 #include "commands.h"
 
 #include <stdio.h>
+#include <string.h>
 
 /* ---- dates ---- */
 
@@ -54,6 +55,21 @@ int epoch_read(const char *word, int weeks, uint32_t *epoch)
     return 0;
 }
 
+int epoch_wanted(const struct options *o, const char *word, uint32_t *epoch)
+{
+    int weeks = o->unit != NULL && strcmp(o->unit, "week") == 0;
+
+    if (o->unit != NULL && !weeks && strcmp(o->unit, "day") != 0) {
+        complain("--epoch-unit is day or week, and not %s", o->unit);
+        return TROUBLE;
+    }
+    if (epoch_read(word, weeks, epoch) == 0)
+        return DONE;
+    complain("an epoch is a number from 0 to 4294967295 or a date YYYY-MM-DD, "
+             "and not %s", word);
+    return TROUBLE;
+}
+
 /* ---- keys ---- */
 
 int epoch_key(struct buffer *key, const uint8_t *typed, size_t length,
@@ -67,6 +83,14 @@ int epoch_key(struct buffer *key, const uint8_t *typed, size_t length,
         if (buffer_put_byte(key, (uint8_t)(epoch >> shift)) != 0)
             return -1;
     return 0;
+}
+
+int key_named(struct buffer *key, const struct options *o,
+              const uint8_t *typed, size_t length, uint32_t key_size)
+{
+    if (o->given & OPTION_EPOCH)
+        return epoch_key(key, typed, length, o->epoch_number, key_size);
+    return key_from(key, typed, length, key_size);
 }
 
 uint32_t epoch_of(const uint8_t *key, uint32_t key_size)

@@ -19,6 +19,12 @@ int epoch_read(const char *word, int weeks, uint32_t *epoch);
 int epoch_key(struct buffer *key, const uint8_t *typed, size_t length,
               uint32_t epoch, uint32_t key_size);
 
+/* The key of a name: with --epoch in a file of epochs, else as key_from makes
+ * it. 0, or -1 for no memory. */
+struct options;
+int key_named(struct buffer *key, const struct options *o,
+              const uint8_t *typed, size_t length, uint32_t key_size);
+
 /* The epoch of a key of key_size bytes, at least five. */
 uint32_t epoch_of(const uint8_t *key, uint32_t key_size);
 

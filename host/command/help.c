@@ -41,6 +41,11 @@
     "      --drop FIELDS  what --replace may take away: words out of easting,\n" \
     "                     northing, height, note and text, with commas\n"
 
+#define EPOCHS \
+    "      --epoch T      a point of that epoch, in a file of epochs: a number, or\n" \
+    "                     a date YYYY-MM-DD, which stands for its days since\n" \
+    "                     1970-01-01, or with --epoch-unit week for its weeks\n"
+
 #define QUIET "  -q, --quiet        say nothing but errors and warnings\n"
 
 #define PATTERNS \
@@ -71,7 +76,7 @@ static const struct command commands[] = {
     { "add", OPTION_REPLACE | OPTION_APPEND | OPTION_EASTING |
              OPTION_NORTHING | OPTION_HEIGHT | OPTION_NOTE |
              OPTION_NO_TEXT | OPTION_SLOTS_READ | OPTION_DELTA |
-             OPTION_DROP | OPTION_ALLOWED | OPTION_LOG | OPTION_NO_SYNC, 2, 3,
+             OPTION_EPOCH | OPTION_EPOCH_UNIT | OPTION_DROP | OPTION_ALLOWED | OPTION_LOG | OPTION_NO_SYNC, 2, 3,
       run_add,
       "bhtf add FILE NAME [TEXT] [--replace | --append] [--slots] ..\n"
       "bhtf add FILE NAME --easting E --northing N [--height H] [--note TEXT]\n"
@@ -90,7 +95,7 @@ static const struct command commands[] = {
       "                     would take a coordinate or a note away: see bhtf "
       "set\n" DROP
       "  -a, --append       put the text behind its own\n" ALLOW
-      SLOTS_READ DELTA LOG NO_SYNC QUIET WAITING NAMES },
+      EPOCHS SLOTS_READ DELTA LOG NO_SYNC QUIET WAITING NAMES },
     { "set", OPTION_EASTING | OPTION_NORTHING | OPTION_HEIGHT | OPTION_NOTE |
              OPTION_ALLOWED | OPTION_DELTA | OPTION_LOG | OPTION_NO_SYNC, 2, 2,
       run_set,
@@ -268,6 +273,7 @@ static const struct command commands[] = {
       "bhtf compact would free.\n"
       WAITING },
     { "import", OPTION_REPLACE | OPTION_UPDATE | OPTION_DROP |
+                OPTION_EPOCH | OPTION_EPOCH_UNIT |
                 OPTION_COLUMNS | OPTION_DELIMITER | OPTION_DECIMAL |
                 OPTION_ENCODING | OPTION_SKIP | OPTION_ANY_TEXT |
                 OPTION_DRY_RUN | OPTION_GSI | OPTION_LANDXML |
@@ -310,7 +316,7 @@ static const struct command commands[] = {
       "                     refused\n"
       "      --gsi          CSV is a Leica GSI-16 file\n"
       "      --landxml      CSV is a LandXML file; its CgPoints are read\n"
-      ALLOW DELTA LOG NO_SYNC QUIET WAITING NAMES },
+      EPOCHS ALLOW DELTA LOG NO_SYNC QUIET WAITING NAMES },
     { "export", OPTION_CRLF | OPTION_SPREADSHEET | OPTION_GSI | OPTION_LANDXML |
                 OPTION_DXF | OPTION_BY, 1, ANY_NUMBER, run_export,
       "bhtf export FILE [PATTERN..] [--by ORDER] [--crlf] [--spreadsheet] |\n"

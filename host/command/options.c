@@ -284,7 +284,15 @@ int options_read(struct options *o, const struct command *command, int count,
         if (used < 0)
             return TROUBLE;
     }
-    return o->help || o->version ? DONE : complete(o, command);
+    if (o->help || o->version)
+        return DONE;
+    if (o->given & OPTION_EPOCH) {
+        /* One point at two epochs stands near itself. */
+        o->given |= OPTION_ALLOW_NEAR;
+        if (epoch_wanted(o, o->epoch, &o->epoch_number) != DONE)
+            return TROUBLE;
+    }
+    return complete(o, command);
 }
 
 uint32_t mode_of(const struct options *o)
