@@ -65,16 +65,12 @@ static int put_keys(struct import *m, struct buffer *keys,
     for (size_t i = 0; i < m->crowd.count && done == 0; i++) {
         const struct incoming *p = &m->crowd.all[i];
 
-        done = key_from(&m->key, m->crowd.bytes.bytes + p->name,
-                        p->text - p->name, m->key_size);
+        done = key_named(&m->key, m->o, m->crowd.bytes.bytes + p->name,
+                         p->text - p->name, m->key_size);
         if (done != 0 || m->key.length != m->key_size)
             continue;
         names[(*count)++].index = i;
         done = buffer_put(keys, m->key.bytes, m->key_size);
-        done = key_named(&m->key, m->o, m->crowd.bytes.bytes + p->name,
-                         p->text - p->name, m->key_size);
-        if (done == 0)
-            done = buffer_put(keys, m->key.bytes, m->key_size);
     }
     for (size_t i = 0; i < *count && done == 0; i++)
         names[i].key = keys->bytes + i * m->key_size;

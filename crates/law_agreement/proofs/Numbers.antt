@@ -189,18 +189,6 @@ module _ (P : ℕ → Type 0) where
       unfolding bookRead
       read-of p₁₉ name size = seven name _ (fetched-number p₁₉ size (find name (b .entries)))
 
-      -- of any step
-      pub step-of : P 16 → P 17 → P 19 → (t : Bool) (c : Step) → P (bookStep t c b .answer .number)
-      unfolding bookStep
-      step-of p₁₆ p₁₇ p₁₉ t (calling c) = call-of c
-      step-of p₁₆ p₁₇ p₁₉ t compacting = compact-of
-      step-of p₁₆ p₁₇ p₁₉ t (listing c work list) =
-          sixteen p₁₆ (listAllowed (length list) && workAllowed (imageLength (b .terms)) work) (bookChanged c b)
-          (change-of c)
-      step-of p₁₆ p₁₇ p₁₉ t (journaling c work j) =
-          told-of p₁₇ t _ (sixteen p₁₆ (workAllowed (imageLength (b .terms)) work) (bookChanged c b) (change-of c))
-      step-of p₁₆ p₁₇ p₁₉ t (storing name recs W) = store-of p₁₉ name recs W
-      step-of p₁₆ p₁₇ p₁₉ t (reading name size) = read-of p₁₉ name size
       dated-of : P 23 → (name : Bytes) (t : ℕ) → P (bookAtEpoch b name t .answer .number)
       unfolding bookAtEpoch
       dated-of p₂₃ name t =
@@ -209,16 +197,18 @@ module _ (P : ℕ → Type 0) where
           (dated-number (latestEntry (b .terms .K) name t (b .entries)))
 
       -- of any step
-      pub step-of : P 16 → P 17 → P 23 → (t : Bool) (c : Step) → P (bookStep t c b .answer .number)
+      pub step-of : P 16 → P 17 → P 19 → P 23 → (t : Bool) (c : Step) → P (bookStep t c b .answer .number)
       unfolding bookStep
-      step-of p₁₆ p₁₇ p₂₃ t (calling c) = call-of c
-      step-of p₁₆ p₁₇ p₂₃ t compacting = compact-of
-      step-of p₁₆ p₁₇ p₂₃ t (listing c work list) =
+      step-of p₁₆ p₁₇ p₁₉ p₂₃ t (calling c) = call-of c
+      step-of p₁₆ p₁₇ p₁₉ p₂₃ t compacting = compact-of
+      step-of p₁₆ p₁₇ p₁₉ p₂₃ t (listing c work list) =
           sixteen p₁₆ (listAllowed (length list) && workAllowed (imageLength (b .terms)) work) (bookChanged c b)
           (change-of c)
-      step-of p₁₆ p₁₇ p₂₃ t (journaling c work j) =
+      step-of p₁₆ p₁₇ p₁₉ p₂₃ t (journaling c work j) =
           told-of p₁₇ t _ (sixteen p₁₆ (workAllowed (imageLength (b .terms)) work) (bookChanged c b) (change-of c))
-      step-of p₁₆ p₁₇ p₂₃ t (dating name e) = dated-of p₂₃ name e
+      step-of p₁₆ p₁₇ p₁₉ p₂₃ t (storing name recs W) = store-of p₁₉ name recs W
+      step-of p₁₆ p₁₇ p₁₉ p₂₃ t (reading name size) = read-of p₁₉ name size
+      step-of p₁₆ p₁₇ p₁₉ p₂₃ t (dating name e) = dated-of p₂₃ name e
 
 -- ---- 13
 

@@ -242,6 +242,8 @@ module _ (b : Book) (name : Bytes) where
   book-read room =
       by-bool (eqb (firstNo (ask 7 (nameAllowed (b .terms .K) name) ∷ [])) 0)
       (λ h. rw h (read-found room (find name (b .entries))))
+      (λ h. rw h refl)
+
   dated-found : (f : Option Entry) → datedFound b f .after ≡ b
   unfolding datedFound stepOf
   dated-found none = rw (firstNo-no 14 false [] refl) refl

@@ -85,10 +85,8 @@ unfoldable pub AllPlain : List Step → Type 0
 AllPlain [] = Unit {0}
 AllPlain (c ∷ cs) = (isPlain c ≡ true) × AllPlain cs
 
--- Job 3: "Every list of calls on such an image then agrees with it", and on a new one, with Job 2's compaction and Job
--- 10's records
--- Job 3: "Every list of calls on such an image then agrees with it", and on a new one, with Job 2's compaction and
--- Job 14's choice by epoch
+-- Job 3: "Every list of calls on such an image then agrees with it", and on a new one, with Job 2's compaction, Job
+-- 10's records and Job 14's choice by epoch
 unfoldable pub AgreementFrom : Type 0
 AgreementFrom =
     (img : Bytes) (b : Book) → Starts (alone img) b → (steps : List Step) → AllPlain steps

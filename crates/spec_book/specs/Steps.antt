@@ -28,9 +28,8 @@ changed compacts img = compact img
 -- Document 01's calls. Job 2, of compaction: "Lists of calls may now contain it". Job 8: "with a working slice that
 -- also fills a lent list": the working slice's length, for its bytes do not matter, and the list. Job 9: "with Job 8's
 -- working slice but no list", and a journal. Job 10: records and their width; the length of the slice that is lent for
--- them, for its bytes do not matter.
--- working slice but no list", and a journal. Job 14: "After every list of calls this is the book's own choice": of a
--- prism's name, of any length, and an epoch, any number.
+-- them, for its bytes do not matter. Job 14: "After every list of calls this is the book's own choice": of a prism's
+-- name, of any length, and an epoch, any number.
 pub data Step : Type 0 where
   calling : Call → Step
   compacting : Step

@@ -170,6 +170,7 @@ journaled-file = refl
 pub records-file : answers performOn recordsCalls (headed 1 1 8192) ≡ recordsAnswers
 unfolding recorded-definitions compact-definitions headed
 records-file = refl
+
 -- ---- document 02, Job 14: the choice by epoch in a list of calls
 
 pub dated-file : answers performOn datedCalls (headed 5 8 8192) ≡ datedAnswers
