@@ -2,7 +2,7 @@
 # Instructions of one call by plain C, by tuned C and by the library, counted by callgrind inside the call alone: they do not depend
 # on what else the machine does. The program must have been built (run.sh does).
 #   bench/once.sh PROGRAM CALL WORD WORD      the call as the program makes it: columns store_columns or read_columns WIDTH RECORDS,
-#                                             ranges select K SLOTS
+#                                             ranges select K SLOTS, epochs at_epoch K SLOTS
 # Prints a Markdown line: the call, the words, the library's over those of the C program with fewer, and the three numbers.
 set -u
 [ $# -eq 4 ] || exit 2

@@ -11,11 +11,12 @@
 #     --large                instead, every call at 1,048,576 slots and some
 #                            500 MB of messages beside the two C programs, in
 #                            3 GiB of memory, compaction there and at
-#                            65,536 slots, readings by column, and names in
-#                            ranges; writes bench/large.md,
+#                            65,536 slots, readings by column, names in
+#                            ranges, and epochs; writes bench/large.md,
 #                            bench/compact.md, bench/columns.md,
-#                            bench/ranges.md, bench/listed.md and those
-#                            sections of docs/PERFORMANCE.md
+#                            bench/ranges.md, bench/epochs.md,
+#                            bench/listed.md and those sections of
+#                            docs/PERFORMANCE.md
 #     --self                 plain C in the library's place, to test the
 #                            benchmark; writes to target/bench only
 #     LIB=path               of the library (default: rt staticlib station)
@@ -25,7 +26,7 @@
 set -u
 
 usage() {
-  sed -n '2,25s/^# \{0,1\}//p' "$0"
+  sed -n '2,26s/^# \{0,1\}//p' "$0"
   exit 2
 }
 
@@ -91,6 +92,7 @@ once() {
   case $1 in
   columns) set -- columns "W | records" store_columns,read_columns 1,4,12,16,64 1000 ;;
   ranges) set -- ranges "K | N" select 4,8,16,32 65536 ;;
+  epochs) set -- epochs "K | N" at_epoch 8,16,32 65536 ;;
   *) return 0 ;;
   esac
   printf '\nInstructions of one call, counted by callgrind inside it:\n\n| call | %s | library / C | plain | tuned | library |\n' "$2"
@@ -109,9 +111,9 @@ measure() {
   put_section "bench/$1.md"
 }
 
-# Every call at the largest size, compaction, columns, ranges, and the listed forms.
+# Every call at the largest size, compaction, columns, ranges, epochs, and the listed forms.
 run_large() {
-  local program programs=(large compact columns ranges)
+  local program programs=(large compact columns ranges epochs)
   .ci/install gcc make util-linux $([ "$counts" = 1 ] && echo valgrind) && find_library &&
     make -s -C bench LIB="$LIB" "${programs[@]/#/../$bin/}" "../$bin/listed" || exit 2
   for program in "${programs[@]}"; do measure "$program" "$rounds"; done
@@ -271,6 +273,7 @@ compared() {
 compared compact "$([ "$quick" = 1 ] && echo 1 || echo 7)" 65536
 compared columns "$([ "$quick" = 1 ] && echo 1 || echo 7)" "$([ "$quick" = 1 ] && echo 1000 || echo 1000000)"
 compared ranges "$([ "$quick" = 1 ] && echo 1 || echo 7)" "$([ "$quick" = 1 ] && echo 5507 || echo 1048576)"
+compared epochs "$([ "$quick" = 1 ] && echo 1 || echo 7)" "$([ "$quick" = 1 ] && echo 5507 || echo 1048576)"
 [ "$self" = 1 ] || compared listed "$([ "$quick" = 1 ] && echo 1 || echo 15)"
 
 # How many slots lookups read, by load: counted, so that one run is enough.
@@ -302,7 +305,7 @@ if [ "$quick" = 1 ] || [ "$self" = 1 ] || [ "$failed" -gt 0 ]; then pages=$bin; 
 mkdir -p "$pages"
 cp "$results" "$bin/results"
 slots_read page >"$work/slots.md" || fail "the slots read"
-awk -v rounds="$rounds" -v head=bench/head.md -v large=bench/large.md -v compact=bench/compact.md -v columns=bench/columns.md -v ranges=bench/ranges.md -v listed=bench/listed.md -v disk=bench/files.md -v tried=bench/tried.md -v slots="$work/slots.md" -v command="$given" -v seed="$seed" -v files="$files_say" \
+awk -v rounds="$rounds" -v head=bench/head.md -v large=bench/large.md -v compact=bench/compact.md -v columns=bench/columns.md -v ranges=bench/ranges.md -v epochs=bench/epochs.md -v listed=bench/listed.md -v disk=bench/files.md -v tried=bench/tried.md -v slots="$work/slots.md" -v command="$given" -v seed="$seed" -v files="$files_say" \
   -v machine="Machine: $(nproc) cores, $(uname -m), gcc $(gcc -dumpfullversion)" \
   -v engines="Engines: gdbm $(version libgdbm-dev), tdb $(version libtdb-dev), LMDB $(version liblmdb-dev), Kyoto Cabinet $(version libkyotocabinet-dev)" \
   -f bench/table.awk "$results" >"$pages/PERFORMANCE.md" || fail "the page"

@@ -7,7 +7,7 @@ AS_LIBRARY = -Dplain_create=bhtf_create -Dplain_add=bhtf_add \
 	-Dplain_lookup_slots=bhtf_lookup_slots -Dplain_compact=bhtf_compact \
 	-Dplain_store_columns=bhtf_store_columns \
 	-Dplain_read_columns=bhtf_read_columns \
-	-Dplain_select=bhtf_select \
+	-Dplain_select=bhtf_select -Dplain_at_epoch=bhtf_at_epoch \
 	-Dplain_add_listed=bhtf_add_listed \
 	-Dplain_delete_listed=bhtf_delete_listed \
 	-Dplain_compact_listed=bhtf_compact_listed \

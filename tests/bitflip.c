@@ -1,6 +1,6 @@
 /* Flips each of the 65,536 bits of a small image, asks count and check, and
  * compares how often each answer comes with what the layout says; then selects
- * names and compares how many slots are listed how often.
+ * names and compares how many slots are listed how often, and asks for an epoch.
  * Ends with "N passed, 0 failed".
  *
  * The image: seed 0, K = 1, N = 4, L = 8192, so D = 4096.
@@ -51,7 +51,12 @@
  * Names, of those that 5 and 6 leave: another K is 22, four times. In the range
  * 0 to 255 three slots are listed; two when a key becomes 0, three times; four
  * when slot 2 gets a key, eight times. In the range 2 to 2 it is one, slot 0;
- * none when its key is another, eight times; two when slot 2 gets 2, once. */
+ * none when its key is another, eight times; two when slot 2 gets 2, once.
+ *
+ * An epoch, of name 2 up to 4101, of those that 5 and 6 leave: K is below 5,
+ * which is 23, but for K = 5, 9 and 17. With 9 and 17 the name has another
+ * length, 7. With 5 slot 0 is 2, 0, 0, 16, 5: of epoch 4101, and the offset
+ * behind it, 32, 0, 0, 16, leaves the image: 11. */
 #include "calls.h"
 
 #include <stdio.h>
@@ -490,7 +495,7 @@ static void make_image(void)
 
 /* ---- names in ranges ---- */
 
-enum { LISTED = N + 1, REFUSED = 23 };
+enum { LISTED = N + 1, REFUSED = 24 };
 
 /* How often so many slots are listed, and how often each number comes. */
 static void count_selected(uint8_t lowest, uint8_t highest,
@@ -527,6 +532,31 @@ static void select_names(const char *where, uint8_t lowest, uint8_t highest,
     expect(where, "accepted", refused[0], 8 * L - 63 - 247 - 4);
 }
 
+/* ---- an epoch ---- */
+
+static void ask_epoch(void)
+{
+    const uint8_t name = 2;
+    unsigned long numbers[REFUSED] = { 0 };
+
+    for (uint32_t bit = 0; bit < 8 * L; bit++) {
+        uint32_t shown = 77, offset = 77, length = 77, number;
+
+        image[bit / 8] ^= (uint8_t)(1u << bit % 8);
+        number = subject.at_epoch(image, L, &name, 1, 4101, &shown, &offset,
+                                  &length);
+        image[bit / 8] ^= (uint8_t)(1u << bit % 8);
+        numbers[number < REFUSED && (shown | offset | length) == 0 ? number
+                                                                   : 0]++;
+    }
+    expect("an epoch", "0", numbers[0], 0);
+    expect("an epoch", "5", numbers[5], 63);
+    expect("an epoch", "6", numbers[6], 247);
+    expect("an epoch", "7", numbers[7], 2);
+    expect("an epoch", "11", numbers[11], 1);
+    expect("an epoch", "23", numbers[23], 65223);
+}
+
 int main(void)
 {
     static const unsigned long all[LISTED] = { 0, 0, 3, 65211, 8 };
@@ -549,6 +579,7 @@ int main(void)
     }
     select_names("names from 0 to 255", 0, 255, all);
     select_names("the name 2", 2, 2, of_2);
+    ask_epoch();
     printf("%u passed, %u failed\n", passed, failed);
     return failed != 0;
 }

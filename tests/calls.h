@@ -53,6 +53,11 @@ struct calls {
                        const uint8_t *highest, size_t highest_len,
                        uint8_t *list, size_t list_len, uint32_t *found);
 
+    /* Epochs. */
+    uint32_t (*at_epoch)(const uint8_t *image, size_t image_len,
+                         const uint8_t *name, size_t name_len, uint32_t epoch,
+                         uint32_t *shown, uint32_t *offset, uint32_t *length);
+
     /* Those that write a file, with the list of what they changed. */
     uint32_t (*add_listed)(uint8_t *image, size_t image_len,
                            const uint8_t *key, size_t key_len,
@@ -90,8 +95,8 @@ struct calls {
         p##_create, p##_add, p##_delete, p##_lookup, p##_count, p##_walk,   \
             p##_check, p##_add_slots, p##_delete_slots, p##_lookup_slots,   \
             p##_compact, p##_store_columns, p##_read_columns, p##_select,   \
-            p##_add_listed, p##_delete_listed, p##_compact_listed,          \
-            p##_add_journaled, p##_delete_journaled,                        \
+            p##_at_epoch, p##_add_listed, p##_delete_listed,                \
+            p##_compact_listed, p##_add_journaled, p##_delete_journaled,    \
             p##_compact_journaled, p##_recover,                             \
     }
 

@@ -32,8 +32,9 @@
  * images.c, reopened.c, damage.c and splice.c make arguments and images,
  * steps.c and lists.c calls of them; compare.c and book.c hold the answers
  * against each other; packed.c holds a compaction against its definition,
- * columns.c readings by column, ranges.c names in ranges, changed.c, listed.c
- * and journal.c a list and a journal; and report.c says what differs. */
+ * columns.c readings by column, ranges.c names in ranges, epochs.c epochs,
+ * changed.c, listed.c and journal.c a list and a journal; and report.c says what
+ * differs. */
 #define _DEFAULT_SOURCE
 
 #include "differential/parts.h"

@@ -768,6 +768,90 @@ misbook "the book: 16 of select not put" \
 misbook "the book: the highest byte is excluded" \
     'highest[size] < name[size])' 'highest[size] <= name[size])'
 
+# Epochs.
+fault "the epoch stands the least significant byte first" \
+    'return get32(key_in(v, slot) + v->key_size - EPOCH_SIZE);' \
+    'return __builtin_bswap32(get32(key_in(v, slot) + v->key_size - EPOCH_SIZE));'
+fault "the epoch t is too late" \
+    'epoch_in(v, slot) <= epoch;' 'epoch_in(v, slot) < epoch;'
+fault "only the epoch t is looked for" \
+    'epoch_in(v, slot) <= epoch;' 'epoch_in(v, slot) == epoch;'
+fault "epochs are compared with a sign" \
+    'epoch_in(v, slot) <= epoch;' \
+    '(int32_t)epoch_in(v, slot) <= (int32_t)epoch;'
+fault "the smallest epoch is chosen" \
+    'epoch_in(v, i) > epoch_in(v, chosen))' \
+    'epoch_in(v, i) < epoch_in(v, chosen))'
+fault "the highest slot of two is chosen" \
+    'epoch_in(v, i) > epoch_in(v, chosen))' \
+    'epoch_in(v, i) >= epoch_in(v, chosen))'
+fault "the lowest slot of that name is chosen" \
+    'epoch_in(v, i) > epoch_in(v, chosen))' '0)'
+fault "epoch 0 is none" \
+    'if (chosen == v->slots || epoch_in(v, i) > epoch_in(v, chosen))' \
+    'if (epoch_in(v, i) > (chosen == v->slots ? 0 : epoch_in(v, chosen)))'
+fault "the name is compared over K bytes" \
+    'memcmp(key_in(v, slot), name, size) == 0' \
+    'memcmp(key_in(v, slot), name, v->key_size) == 0'
+fault "the name's last byte is not compared" \
+    'memcmp(key_in(v, slot), name, size) == 0' \
+    'memcmp(key_in(v, slot), name, size - 1) == 0'
+fault "an empty slot is an entry of epoch 0" \
+    'return is_taken(v, slot) && memcmp' 'return memcmp'
+fault "the last slot has no entry" \
+    'if (!is_candidate(v, i, name, epoch))' \
+    'if (i + 1 == v->slots || !is_candidate(v, i, name, epoch))'
+fault "an entry without a message is passed over" \
+    'if (!is_candidate(v, i, name, epoch))' \
+    'if (message_in(v, i) == 0 || !is_candidate(v, i, name, epoch))'
+fault "an entry whose message is bad is passed over" \
+    'if (!is_candidate(v, i, name, epoch))' \
+    'struct message m; if (!read_message(v, message_in(v, i), &m) || !is_candidate(v, i, name, epoch))'
+fault "a bad message of another epoch is 11" \
+    'if (!is_candidate(v, i, name, epoch))' \
+    'struct message m; if (is_candidate(v, i, name, epoch) && !read_message(v, message_in(v, i), &m)) return i; if (!is_candidate(v, i, name, epoch))'
+fault "11 not put for the chosen entry" \
+    'if (!read_message(&v, message_in(&v, chosen), &m))' \
+    'if (!read_message(&v, message_in(&v, chosen), &m) && (m.active = 0))'
+fault "11 shows the epoch" \
+    'if (!read_message(&v, message_in(&v, chosen), &m))' \
+    '*shown = epoch_in(&v, chosen); if (!read_message(&v, message_in(&v, chosen), &m))'
+fault "14 shows t" \
+    'if (chosen == v.slots)' 'if (chosen == v.slots && (*shown = epoch, 1))'
+fault "t is shown" \
+    '*shown = epoch_in(&v, chosen);' '*shown = epoch;'
+fault "an entry's inactive message is shown" \
+    '*shown = epoch_in(&v, chosen);' \
+    '*shown = epoch_in(&v, chosen); m.active = m.offset != 0;'
+fault "an entry's empty message is shown as none" \
+    '*shown = epoch_in(&v, chosen);' \
+    '*shown = epoch_in(&v, chosen); m.active = m.active && m.length > 0;'
+fault "K = 4 is taken" \
+    'if (v->key_size <= EPOCH_SIZE)' 'if (v->key_size < EPOCH_SIZE)'
+fault "K = 5 is refused" \
+    'if (v->key_size <= EPOCH_SIZE)' 'if (v->key_size <= EPOCH_SIZE + 1)'
+fault "7 before 23" \
+    'if (v->key_size <= EPOCH_SIZE)' \
+    'if (v->key_size <= EPOCH_SIZE && name_len > 0) return 7; if (v->key_size <= EPOCH_SIZE)'
+fault "23 before 6" \
+    '*shown = 0;' \
+    '*shown = *offset = *length = 0; if (answer == 6 && v.key_size <= EPOCH_SIZE) return 23;'
+fault "a longer name is taken" \
+    'return name_len == v->key_size - EPOCH_SIZE' \
+    'return name_len >= v->key_size - EPOCH_SIZE'
+fault "a name of zeros is refused" \
+    'answer = ask_name(&v, name_len);' \
+    'answer = ask_name(&v, name_len); if (answer == ACCEPTED && all_zero(name, v.key_size - EPOCH_SIZE)) answer = 7;'
+fault "the name's length cut to 32 bits" \
+    'return name_len == v->key_size - EPOCH_SIZE' \
+    'return (uint32_t)name_len == v->key_size - EPOCH_SIZE'
+misbook "the book: the epoch t is too late" \
+    '|| its > epoch)' '|| its >= epoch)'
+misbook "the book: the smallest epoch is chosen" \
+    'if (*entry != NULL && its < *shown)' 'if (*entry != NULL && its > *shown)'
+misbook "the book: 23 not put" \
+    'if (b->key_size < 5)' 'if (b->key_size < 4)'
+
 # The list of what changed.
 fault "runs with a byte between them are one pair" \
     'to = write_pair(to, at, end - at);' \

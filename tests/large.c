@@ -2,7 +2,7 @@
  * 16,777,215 bytes, which only images beyond the old limit can hold; their
  * compaction; as many readings by column as fit one; what changed in the last
  * bytes, listed and by way of a journal; two points on one message among many;
- * names in ranges among 1,048,576 slots.
+ * names in ranges, and epochs, among 1,048,576 slots.
  * Ends with "N passed, M failed". Takes some 2.2 GiB of memory. */
 #define _DEFAULT_SOURCE
 
@@ -654,6 +654,33 @@ static void test_ranges(void)
     munmap(slots, 4 * SLOTS_MAX);
 }
 
+/* Epochs 1 to 1,000 of a prism; then without 500. */
+static uint32_t last_epoch(const char *prism, uint32_t epoch)
+{
+    uint32_t shown = 0, offset = 0, length = 0;
+    uint32_t number = subject.at_epoch(image, PRISMS_LENGTH,
+                                       (const uint8_t *)prism, PRISM, epoch,
+                                       &shown, &offset, &length);
+
+    return number == 0 && (offset | length) == 0 ? shown
+                                                 : 1000000000u + number;
+}
+
+static void test_epochs(void)
+{
+    uint8_t key[PRISM_KEY];
+
+    expect("the epoch asked for", last_epoch("P123", 500), 500);
+    expect("the last epoch", last_epoch("P499", 0xFFFFFFFFu), EPOCHS);
+    expect("before the first", last_epoch("P123", 0), 1000000014u);
+    expect("no such prism", last_epoch("P500", 500), 1000000014u);
+    spell_prism(123, 500, key);
+    expect("an epoch deleted",
+           subject.remove(image, PRISMS_LENGTH, key, PRISM_KEY), 0);
+    expect("the one before", last_epoch("P123", 500), 499);
+    expect("another prism's", last_epoch("P124", 500), 500);
+}
+
 int main(void)
 {
     image = map((size_t)GIB + PAGE);
@@ -668,6 +695,7 @@ int main(void)
     test_many_messages();
     test_meeting();
     test_ranges();
+    test_epochs();
     printf("%u passed, %u failed\n", passed, failed);
     return failed == 0 ? 0 : 1;
 }

@@ -189,13 +189,13 @@ gives "a spreadsheet's own" 2 'own file; save it as CSV' bhtf import g - < <(pri
 # ---- GSI out: what is lost has a status ----
 
 bhtf create u -k 20 -s 100
-bhtf add u Süd -E 4482100 -N 5351800
+bhtf add u Sжd -E 4482100 -N 5351800
 bhtf add u 0012 -E 4482110 -N 5351800
 gives "a name that GSI has not" 3 '1 point left out: GSI-16 has names of 1 to 16 ASCII characters' bhtf export u --gsi
 gives "also with --quiet" 3 '1 point left out' bhtf export u --gsi --quiet
 gives "zeros in front" 3 '1 name with zeros in front' bhtf export u --gsi
 bhtf add u 12 -E 4482120 -N 5351800
-gives "where they are another point" 3 "1 point left out: without the zeros in front, which GSI loses, its name is another's" bhtf export u --gsi
+gives "where they are another point" 3 '1 point left out: in GSI another point would have the same number' bhtf export u --gsi
 bhtf create v -k 20 -s 100
 bhtf add v 1 -E 4482120 -N 5351800 -t 'Höhenbolzen ☃'
 gives "a note in ASCII" 3 '71\.\.\.\.\+00Hoehenbolzen \? ' bhtf export v --gsi

@@ -98,6 +98,9 @@ test_that "plain C that reads rows for columns: found" finds rows
 edited tests/reference/plain.c 's/^        if (key\[i\] < lowest\[i\] || /        if (key[i] <= lowest[i] || /' "$work/above.c"
 plain above "$work/above.c" || exit 2
 test_that "plain C that leaves out the lowest byte of a range: found" finds above
+edited tests/reference/plain.c 's/^           epoch_in(v, slot) <= epoch;$/           epoch_in(v, slot) < epoch;/' "$work/before.c"
+plain before "$work/before.c" || exit 2
+test_that "plain C that takes the epoch t for too late: found" finds before
 wrong one-round 's/^    while (is_taken(v, slot)) {$/    for (uint32_t i = 1; i < v->slots \&\& is_taken(v, slot); i++) {/'
 wrong no-version-1.0.0 's/ image\[AT_LAST_VERSION\] <= NOTES_VERSION;/ image[AT_LAST_VERSION] - 1u <= 1;/'
 misread used-from-0 's/used: next - data/used: next/'

@@ -5,8 +5,8 @@
 //! call and may not be more than its points and one; the list of what changed, byte for byte, and that a copy of the file before the
 //! call is the file after it once the listed stretches are copied; the journal, byte for byte, and that recovery makes the file after
 //! the call of the one before; the records that are read by column, the slots listed for ranges of names, and the lent slice behind
-//! them; after every list: that the file finds the book's points with the book's texts, that the walk shows each of them once, and
-//! that the check calls the file sound.
+//! them; the epoch shown, and its message; after every list: that the file finds the book's points with the book's texts, that the
+//! walk shows each of them once, and that the check calls the file sound.
 //! Status 0 if every list agreed.
 use std::collections::{BTreeMap, BTreeSet};
 
@@ -67,6 +67,16 @@ extern "C" {
         list: *mut u8,
         list_len: usize,
         found: *mut u32,
+    ) -> u32;
+    fn bhtf_at_epoch(
+        image: *const u8,
+        len: usize,
+        name: *const u8,
+        name_len: usize,
+        epoch: u32,
+        shown: *mut u32,
+        offset: *mut u32,
+        length: *mut u32,
     ) -> u32;
     fn bhtf_add_listed(
         image: *mut u8,
@@ -223,6 +233,15 @@ impl File {
         let (list, list_len) = (list.as_mut_ptr(), list.len());
         let number = unsafe { bhtf_select(image, len, low, low_len, high, high_len, list, list_len, &mut found) };
         (number, found)
+    }
+
+    /// Number, epoch and message.
+    fn at_epoch(&self, name: &[u8], epoch: u32) -> (u32, u32, Text) {
+        let (image, mut shown, mut at, mut length) = (&self.0, !0, !0, !0);
+        let (start, size) = (name.as_ptr(), name.len());
+        let number =
+            unsafe { bhtf_at_epoch(image.as_ptr(), image.len(), start, size, epoch, &mut shown, &mut at, &mut length) };
+        (number, shown, self.shown(at, length))
     }
 
     // The calls that write, with the list of what changed.
@@ -534,6 +553,21 @@ impl Book {
         (0, self.points.keys().filter(|name| within(name)).cloned().collect())
     }
 
+    /// The last epoch of that name up to this one, and its text. Names are in the order of their epochs.
+    fn at_epoch(&self, name: &[u8], epoch: u32) -> (u32, u32, Text) {
+        if self.key_size < 5 {
+            return (23, 0, None);
+        }
+        if name.len() != self.key_size - 4 {
+            return (7, 0, None);
+        }
+        let [first, last] = [0, epoch].map(|epoch: u32| [name, &epoch.to_be_bytes()].concat());
+        match self.points.range(first..=last).next_back() {
+            Some((key, point)) => (0, field(key, name.len()) as u32, point.text.clone()),
+            None => (14, 0, None),
+        }
+    }
+
     /// Only texts take space now, and as much as they are long.
     fn compact(&mut self) -> u32 {
         for point in self.points.values_mut() {
@@ -783,13 +817,17 @@ fn sound_image(chance: &mut Chance) -> (Vec<u8>, Vec<Vec<u8>>) {
 /// K and N, mostly small.
 fn shape(chance: &mut Chance) -> (usize, usize) {
     let large = chance.below(4) == 0;
-    let key_size = 1 + chance.below(if large { 32 } else { 3 });
+    let key_size = 1 + if large { chance.below(32) } else { [0, 1, 2, 4, 5][chance.below(5)] };
     (key_size, 1 + chance.below(if large { 300 } else { 8 }))
 }
 
-/// A name of a small pool, so that names meet again.
+/// A name of a small pool, so that names meet again; where an epoch ends it, mostly a small one.
 fn pool_name(chance: &mut Chance, key_size: usize) -> Vec<u8> {
-    (0..key_size).map(|_| chance.below(4) as u8 * 31).collect()
+    let mut name: Vec<u8> = (0..key_size).map(|_| chance.below(4) as u8 * 31).collect();
+    if key_size > 4 && !chance.one_in(4) {
+        name[key_size - 4..key_size - 1].fill(0);
+    }
+    name
 }
 
 /// A name of the pool or a known one; now and then one that is refused.
@@ -918,6 +956,17 @@ fn select(chance: &mut Chance, file: &File, book: &Book, key: &[u8]) -> (Answer,
     ((got, bytes(found, &listed, rises, &list[end..]), None), (want, bytes(names.len() as u32, &names, true, kept), None))
 }
 
+/// A name's last epoch up to another one, on file and book: the epoch, and the text.
+fn at_epoch(chance: &mut Chance, file: &File, book: &Book, key: &[u8]) -> (Answer, Answer) {
+    let (name, epoch) = key.split_at(key.len().saturating_sub(4));
+    let own = epoch.iter().fold(0u32, |number, &c| number << 8 | c as u32);
+    let epoch = [own, own.wrapping_add(1), own.wrapping_sub(1), !0, 0, chance.below(1 << 32) as u32][chance.below(6)];
+    let answered = |(number, shown, text): (u32, u32, Text)| {
+        (number, Some([&shown.to_be_bytes()[..], &[text.is_some() as u8], &text.unwrap_or_default()].concat()), None)
+    };
+    (answered(file.at_epoch(name, epoch)), answered(book.at_epoch(name, epoch)))
+}
+
 /// One call on the file and on the book: its name and both answers.
 fn call(
     chance: &mut Chance,
@@ -932,7 +981,7 @@ fn call(
     // none where the call is refused before its search
     let searches = if book.named(key) { slots_read(&file.0, key) as u32 } else { 0 };
     let read = |n| counted.then_some(if n == 8 { 0 } else { searches });
-    match chance.below(25) {
+    match chance.below(26) {
         0..=9 => {
             let size = [0, 1, 5, 40, book.room][chance.below(5)];
             let length = chance.below(size + 1);
@@ -1001,6 +1050,10 @@ fn call(
         22 => {
             let (got, want) = select(chance, file, book, key);
             ("select", got, want)
+        }
+        23 => {
+            let (got, want) = at_epoch(chance, file, book, key);
+            ("epoch", got, want)
         }
         _ => {
             let (number, points) = file.count();

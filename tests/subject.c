@@ -44,6 +44,9 @@ uint32_t bhtf_select(const uint8_t *image, size_t image_len,
                      const uint8_t *lowest, size_t lowest_len,
                      const uint8_t *highest, size_t highest_len,
                      uint8_t *list, size_t list_len, uint32_t *found);
+uint32_t bhtf_at_epoch(const uint8_t *image, size_t image_len,
+                       const uint8_t *name, size_t name_len, uint32_t epoch,
+                       uint32_t *shown, uint32_t *offset, uint32_t *length);
 uint32_t bhtf_add_listed(uint8_t *image, size_t image_len, const uint8_t *key,
                          size_t key_len, const uint8_t *data, size_t data_len,
                          uint32_t mode, uint8_t *work, size_t work_len,

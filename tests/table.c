@@ -1,6 +1,6 @@
 /* 01's proved table, 02's empty notes, compaction, readings by column, names in
- * ranges, lists of changes, journal and recovery, and the generator, run on the
- * code under test. Ends with "N passed, 0 failed".
+ * ranges, epochs, lists of changes, journal and recovery, and the generator, run
+ * on the code under test. Ends with "N passed, 0 failed".
  *
  * The hash is not an export; it is seen through home slots: on an empty table
  * an added key lands in slot hash mod N. 65536, 65535 and 65533 have no
@@ -666,6 +666,134 @@ static void ranges_refused(void)
     expect_unselected("1 before 22", "\2", "\1", 1, 0, 1);
 }
 
+/* ---- epochs ---- */
+
+/* A key of 6 bytes: a name of two, and an epoch. */
+static const uint8_t *key_of(const char *name, uint32_t epoch)
+{
+    static uint8_t key[6];
+
+    memcpy(key, name, 2);
+    for (uint32_t i = 0; i < 4; i++)
+        key[2 + i] = (uint8_t)(epoch >> (24 - 8 * i));
+    return key;
+}
+
+static uint32_t add_at(const char *name, uint32_t epoch, const char *text,
+                       uint32_t mode)
+{
+    return subject.add(image, length, key_of(name, epoch), 6,
+                       (const uint8_t *)text, strlen(text), mode);
+}
+
+/* What is shown at t: epoch and text, NULL for no message. */
+static void expect_shown(const char *what, const char *name, uint32_t t,
+                         uint32_t epoch, const char *text)
+{
+    uint32_t shown = 77, at = 77, size = 77;
+    uint32_t wanted = text == NULL ? 0 : (uint32_t)strlen(text);
+
+    expect(what, subject.at_epoch(image, length, (const uint8_t *)name, 2, t,
+                                  &shown, &at, &size), 0);
+    expect("  epoch", shown, epoch);
+    expect("  has a message", at != 0, text != NULL);
+    expect("  its length", size, wanted);
+    if (text != NULL && size == wanted)
+        expect("  its text", memcmp(image + at, text, size) != 0, 0);
+}
+
+/* A refusal shows epoch 0 and no message. */
+static void expect_hidden(const char *what, const char *name, size_t size,
+                          uint32_t t, uint32_t number)
+{
+    uint32_t shown = 77, at = 77, bytes = 77;
+
+    expect(what, subject.at_epoch(image, length, (const uint8_t *)name, size,
+                                  t, &shown, &at, &bytes), number);
+    expect("  nothing shown", shown | at | bytes, 0);
+}
+
+static void epochs(void)
+{
+    create(8192, 6, 8, 0);
+    add_at("P7", 256, "later", 1);
+    add_at("P7", 2, "two", 1);
+    add_at("Q7", 4, "other", 1);
+    add_at("P7", 5, "five", 1);
+    add_at("P7", 0x80000000u, "", 3);
+    expect_hidden("at 0", "P7", 2, 0, 14);
+    expect_hidden("at 1", "P7", 2, 1, 14);
+    expect_shown("at 2", "P7", 2, 2, "two");
+    expect_shown("at 4", "P7", 4, 2, "two");
+    expect_shown("at 5", "P7", 5, 5, "five");
+    expect_shown("at 255", "P7", 255, 5, "five");
+    expect_shown("at 256", "P7", 256, 256, "later");
+    expect_shown("before the highest bit", "P7", 0x7FFFFFFFu, 256, "later");
+    expect_shown("no message", "P7", 0x80000000u, 0x80000000u, NULL);
+    expect_shown("at the last", "P7", 0xFFFFFFFFu, 0x80000000u, NULL);
+    expect_hidden("another name before 4", "Q7", 2, 3, 14);
+    expect_shown("another name", "Q7", 9, 4, "other");
+    expect_hidden("no such name", "R7", 2, 9, 14);
+    add_at("P7", 5, "", 4);
+    expect_shown("withdrawn", "P7", 5, 5, NULL);
+    add_at("P7", 5, "", 2);
+    expect_shown("an empty note", "P7", 5, 5, "");
+    add_at("P7", 0, "zero", 1);
+    expect_shown("epoch 0", "P7", 1, 0, "zero");
+    expect_hidden("empty slots are no entries", "\0\0", 2, 9, 14);
+    add_at("\0\0", 3, "zeros", 1);
+    expect_hidden("a name of zeros, before", "\0\0", 2, 2, 14);
+    expect_shown("a name of zeros", "\0\0", 9, 3, "zeros");
+}
+
+/* An opened image: P7 at epoch 9 in slots 2 and 5, at 8 in slot 7; C is 0, and
+ * no search comes by. The message of slot 2 goes bad. */
+static void epochs_twice(void)
+{
+    static const uint32_t slots[][2] = { { 2, 9 }, { 5, 9 }, { 7, 8 } };
+
+    create(8192, 6, 8, 0);
+    for (uint32_t i = 0; i < 3; i++) {
+        memcpy(image + TABLE + 10 * slots[i][0], key_of("P7", slots[i][1]), 6);
+        put32(TABLE + 10 * slots[i][0] + 6, 4096 + 5 * i);
+        put32(4096 + 5 * i, 0x61000001u);
+        image[4096 + 5 * i + 4] = (uint8_t)('A' + i);
+    }
+    put32(AT_NEXT, 4096 + 15);
+    expect_shown("the lowest slot of two", "P7", 9, 9, "A");
+    expect_shown("the epoch before", "P7", 8, 8, "C");
+    image[4096] = 'x';
+    expect_hidden("11", "P7", 2, 9, 11);
+    expect_shown("an older one is good", "P7", 8, 8, "C");
+    put32(TABLE + 10 * 2 + 6, 0);
+    expect_shown("no message, the lowest slot of two", "P7", 9, 9, NULL);
+    image[TABLE + 10 * 2]++;
+    expect_shown("the other slot", "P7", 9, 9, "B");
+}
+
+/* 1, 5, 6, then 23, then 7. */
+static void epochs_refused(void)
+{
+    create(8192, 4, 8, 0);
+    expect_hidden("K = 4", "", 0, 9, 23);
+    expect_hidden("23 before 7", "P7", 2, 9, 23);
+    put32(AT_COUNT, 9);
+    expect_hidden("6 before 23", "", 0, 9, 6);
+    create(8192, 5, 8, 0);
+    expect_hidden("K = 5", "P", 1, 9, 14);
+    expect_hidden("no name", "", 0, 9, 7);
+    create(8192, 6, 8, 0);
+    expect_hidden("one byte", "P7", 1, 9, 7);
+    expect_hidden("three bytes", "P7\0", 3, 9, 7);
+    expect_hidden("K bytes", "P7\0\0\0\11", 6, 9, 7);
+    put32(AT_COUNT, 9);
+    expect_hidden("6 before 7", "P7", 1, 9, 6);
+    image[0]++;
+    expect_hidden("5", "P7", 1, 9, 5);
+    length--;
+    expect_hidden("1", "P7", 1, 9, 1);
+}
+
 /* ---- the list of what changed ---- */
 
 #define PAIRS 8
@@ -1033,6 +1161,9 @@ int main(void)
     ranges_of_two();
     last_of_all();
     ranges_refused();
+    epochs();
+    epochs_twice();
+    epochs_refused();
     changes_listed();
     list_too_short();
     slices_too_short();

@@ -86,6 +86,14 @@ test_that "found: slots at the image's end passed over" \
     finds 'select_last(v, &r, &to, slot);' '(void)slot, (void)select_last;'
 test_that "found: a list one byte too short for N slot numbers" \
     finds 'if (list_len / 4 < v.slots)' 'if ((list_len + 1) / 4 < v.slots)'
+test_that "found: the name's first word alone decides on epochs" \
+    finds 'wanted || !same_rest(at, name, size, width))' 'wanted)'
+test_that "found: the highest slot of two with one epoch" \
+    finds 'if (found <= best ||' 'if (found < best ||'
+test_that "found: an empty slot of epoch 0" \
+    finds '(zero && found == 1))' '(zero && found == 0))'
+test_that "found: no epoch is at most the largest number" \
+    finds 'found > (uint64_t)epoch + 1 ||' 'found > epoch + 1u ||'
 test_that "found: a run that begins inside a word" \
     finds 'while (at < length && old[at] == new[at])' \
     'while (at < length && at % 8 == 0 && old[at] == new[at])'

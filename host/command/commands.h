@@ -62,6 +62,8 @@
 #define OPTION_ALIKE OPTION(47)
 #define OPTION_NEAR OPTION(48)
 #define OPTION_CSV OPTION(49)
+#define OPTION_EPOCH OPTION(51)
+#define OPTION_EPOCH_UNIT OPTION(52)
 #define OPTION_TOLERANCE OPTION(50)
 #define OPTION_FINISH OPTION(56)
 #define OPTION_SET_ASIDE OPTION(57)
@@ -87,6 +89,9 @@ struct options {
     uint64_t column;
     const char *fields;
     const char *near;
+    const char *epoch;
+    uint32_t epoch_number; /* of --epoch, in the unit asked for */
+    const char *unit;
     const char *easting;
     const char *northing;
     const char *height;
@@ -130,6 +135,10 @@ void help_print_command(const struct command *command, FILE *to);
 int options_read(struct options *o, const struct command *command, int count,
                  char **words);
 
+/* An epoch as typed, in the unit of --epoch-unit: DONE, or TROUBLE after a
+ * complaint. */
+int epoch_wanted(const struct options *o, const char *word, uint32_t *epoch);
+
 /* Each answers an enum status. */
 int run_create(const struct options *o);
 int run_add(const struct options *o);
@@ -141,6 +150,8 @@ int run_get(const struct options *o);
 int run_count(const struct options *o);
 int run_list(const struct options *o);
 int run_find(const struct options *o);
+int run_at(const struct options *o);
+int run_epochs(const struct options *o);
 int run_store_records(const struct options *o);
 int run_read_records(const struct options *o);
 int run_check(const struct options *o);

@@ -6,6 +6,7 @@
 #include "edit.h"
 
 #include "change_words.h"
+#include "epoch.h"
 #include "image_header.h"
 #include "long_work.h"
 #include "progress.h"
@@ -129,8 +130,8 @@ static int take_point(struct edit *e, const char *name, uint32_t *slots_read)
 
     if (!is_text(e, "name", name))
         return TROUBLE;
-    if (key_from(&e->key, (const uint8_t *)name, strlen(name),
-                 e->key_size) != 0)
+    if (key_named(&e->key, e->o, (const uint8_t *)name, strlen(name),
+                  e->key_size) != 0)
         return out_of_memory();
     number = bhtf_lookup_slots(e->image.bytes, e->image.length, e->key.bytes,
                                e->key.length, &offset, &length, slots_read);

@@ -41,6 +41,11 @@
     "      --drop FIELDS  what --replace may take away: words out of easting,\n" \
     "                     northing, height, note and text, with commas\n"
 
+#define EPOCHS \
+    "      --epoch T      a point of that epoch, in a file of epochs: a number, or\n" \
+    "                     a date YYYY-MM-DD, which stands for its days since\n" \
+    "                     1970-01-01, or with --epoch-unit week for its weeks\n"
+
 #define QUIET "  -q, --quiet        say nothing but errors and warnings\n"
 
 #define PATTERNS \
@@ -71,7 +76,7 @@ static const struct command commands[] = {
     { "add", OPTION_REPLACE | OPTION_APPEND | OPTION_EASTING |
              OPTION_NORTHING | OPTION_HEIGHT | OPTION_NOTE |
              OPTION_NO_TEXT | OPTION_SLOTS_READ | OPTION_DELTA |
-             OPTION_DROP | OPTION_ALLOWED | OPTION_LOG | OPTION_NO_SYNC, 2, 3,
+             OPTION_EPOCH | OPTION_EPOCH_UNIT | OPTION_DROP | OPTION_ALLOWED | OPTION_LOG | OPTION_NO_SYNC, 2, 3,
       run_add,
       "bhtf add FILE NAME [TEXT] [--replace | --append] [--slots] ..\n"
       "bhtf add FILE NAME --easting E --northing N [--height H] [--note TEXT]\n"
@@ -90,7 +95,7 @@ static const struct command commands[] = {
       "                     would take a coordinate or a note away: see bhtf "
       "set\n" DROP
       "  -a, --append       put the text behind its own\n" ALLOW
-      SLOTS_READ DELTA LOG NO_SYNC QUIET WAITING NAMES },
+      EPOCHS SLOTS_READ DELTA LOG NO_SYNC QUIET WAITING NAMES },
     { "set", OPTION_EASTING | OPTION_NORTHING | OPTION_HEIGHT | OPTION_NOTE |
              OPTION_ALLOWED | OPTION_DELTA | OPTION_LOG | OPTION_NO_SYNC, 2, 2,
       run_set,
@@ -219,6 +224,18 @@ static const struct command commands[] = {
       "      --tsv          name, slot, easting, northing, height, note\n"
       "      --json         one object a line\n"
       "      --csv          as export writes it\n" QUIET WAITING },
+    { "at", OPTION_EPOCH_UNIT, 3, 3, run_at,
+      "bhtf at FILE NAME EPOCH [--epoch-unit day | week]\n"
+      "The text of a point at an epoch, or at the last one before it, with that\n"
+      "epoch in front. In a file of epochs the last four bytes of a key are a\n"
+      "number; bhtf add --epoch and bhtf import --epoch store such points.\n"
+      "EPOCH is a number, or a date YYYY-MM-DD: the days from 1970-01-01 to it,\n"
+      "      --epoch-unit week   or the whole weeks from 1970-01-05, a Monday\n"
+      QUIET WAITING NAMES },
+    { "epochs", 0, 1, ANY_NUMBER, run_epochs,
+      "bhtf epochs FILE [PATTERN]..\n"
+      "A line for each point: its name, how many epochs it has, and which.\n"
+      "A PATTERN is a shell's, for names.\n" WAITING },
     { "check", 0, 1, 1, run_check,
       "bhtf check FILE\n"
       "Says whether the file is sound: status 0 if so, 1 if not. If so it says "
@@ -256,6 +273,7 @@ static const struct command commands[] = {
       "bhtf compact would free.\n"
       WAITING },
     { "import", OPTION_REPLACE | OPTION_UPDATE | OPTION_DROP |
+                OPTION_EPOCH | OPTION_EPOCH_UNIT |
                 OPTION_COLUMNS | OPTION_DELIMITER | OPTION_DECIMAL |
                 OPTION_ENCODING | OPTION_SKIP | OPTION_ANY_TEXT |
                 OPTION_DRY_RUN | OPTION_GSI | OPTION_LANDXML |
@@ -298,7 +316,7 @@ static const struct command commands[] = {
       "                     refused\n"
       "      --gsi          CSV is a Leica GSI-16 file\n"
       "      --landxml      CSV is a LandXML file; its CgPoints are read\n"
-      ALLOW DELTA LOG NO_SYNC QUIET WAITING NAMES },
+      EPOCHS ALLOW DELTA LOG NO_SYNC QUIET WAITING NAMES },
     { "export", OPTION_CRLF | OPTION_SPREADSHEET | OPTION_GSI | OPTION_LANDXML |
                 OPTION_DXF | OPTION_BY, 1, ANY_NUMBER, run_export,
       "bhtf export FILE [PATTERN..] [--by ORDER] [--crlf] [--spreadsheet] |\n"
@@ -500,6 +518,11 @@ void help_print(FILE *to)
           "  bhtf get FILE NAME..        print texts of points\n"
           "  bhtf count FILE             print the number of points\n"
           "  bhtf list FILE              print the names\n"
+          "  bhtf find FILE PATTERN      points of a plate that is half legible\n"
+          "  bhtf at FILE NAME EPOCH     a point's text at an epoch\n"
+          "  bhtf epochs FILE            which epochs its points have\n"
+          "  bhtf store-records FILE NAME  store readings by column\n"
+          "  bhtf read-records FILE NAME   print them\n"
           "  bhtf check FILE             say whether the file is sound\n"
           "  bhtf compact FILE           give the space of dead texts back\n"
           "  bhtf book FILE              print the book that a file starts from\n"

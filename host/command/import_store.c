@@ -5,6 +5,8 @@
  * committed. */
 #include "import.h"
 
+#include "epoch.h"
+
 #include "change_words.h"
 #include "command_limits.h"
 #include "image_header.h"
@@ -63,8 +65,8 @@ static int put_keys(struct import *m, struct buffer *keys,
     for (size_t i = 0; i < m->crowd.count && done == 0; i++) {
         const struct incoming *p = &m->crowd.all[i];
 
-        done = key_from(&m->key, m->crowd.bytes.bytes + p->name,
-                        p->text - p->name, m->key_size);
+        done = key_named(&m->key, m->o, m->crowd.bytes.bytes + p->name,
+                         p->text - p->name, m->key_size);
         if (done != 0 || m->key.length != m->key_size)
             continue;
         names[(*count)++].index = i;
@@ -370,8 +372,8 @@ static int store_point(struct import *m, const struct incoming *p)
         return refuse_twice(m, p);
     if (p->again)
         return DONE;
-    if (key_from(&m->key, m->crowd.bytes.bytes + p->name, p->text - p->name,
-                 m->key_size) != 0)
+    if (key_named(&m->key, m->o, m->crowd.bytes.bytes + p->name,
+                  p->text - p->name, m->key_size) != 0)
         return out_of_memory();
     status = find_old(m, &old, &t.old, &number);
     if (status != DONE)

@@ -73,6 +73,8 @@ static const struct row all[] = {
     { 0, "--csv", OPTION_CSV, PLAIN, 0, 0, 0 },
     { 0, "--alike", OPTION_ALIKE, PLAIN, 0, 0, 0 },
     { 0, "--near", OPTION_NEAR, TEXT, AT(near), 0, 0 },
+    { 0, "--epoch", OPTION_EPOCH, TEXT, AT(epoch), 0, 0 },
+    { 0, "--epoch-unit", OPTION_EPOCH_UNIT, TEXT, AT(unit), 0, 0 },
     { 0, "--spreadsheet", OPTION_SPREADSHEET, PLAIN, 0, 0, 0 },
     { 0, "--finish", OPTION_FINISH, PLAIN, 0, 0, 0 },
     { 0, "--set-aside", OPTION_SET_ASIDE, PLAIN, 0, 0, 0 },
@@ -282,7 +284,15 @@ int options_read(struct options *o, const struct command *command, int count,
         if (used < 0)
             return TROUBLE;
     }
-    return o->help || o->version ? DONE : complete(o, command);
+    if (o->help || o->version)
+        return DONE;
+    if (o->given & OPTION_EPOCH) {
+        /* One point at two epochs stands near itself. */
+        o->given |= OPTION_ALLOW_NEAR;
+        if (epoch_wanted(o, o->epoch, &o->epoch_number) != DONE)
+            return TROUBLE;
+    }
+    return complete(o, command);
 }
 
 uint32_t mode_of(const struct options *o)

@@ -1,6 +1,8 @@
 /* The answers of bhtf.h in words. */
 #include "bhtf.h"
 
+#include <stddef.h>
+
 static const char *const sentences[] = {
     "The call was accepted.",
     ("The file's length is not a multiple of 4,096 from 4,096 to "
@@ -22,12 +24,17 @@ static const char *const sentences[] = {
     ("The list is shorter than 8 bytes, or the working slice is shorter than "
      "the file."),
     "The journal is too short for the change, or its mark is not 0.",
-    "The journal is empty, or it is marked and does not fit the file."
+    "The journal is empty, or it is marked and does not fit the file.",
+    [19] = "These are no records of 1 to 64 bytes, or the slice is too short.",
+    [22] = ("There are not as many ranges as a name has bytes, or one has its "
+            "lowest byte above its highest."),
+    [23] = "This is no file of epochs: its names have fewer than 5 bytes."
 };
 
 const char *bhtf_message(uint32_t number)
 {
-    if (number < sizeof sentences / sizeof sentences[0])
+    if (number < sizeof sentences / sizeof sentences[0] &&
+        sentences[number] != NULL)
         return sentences[number];
     return "The answer is a number unknown to this version.";
 }

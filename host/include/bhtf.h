@@ -86,6 +86,8 @@ extern "C" {
                                   or slice too short */
 #define BHTF_BAD_RANGES 22u    /* select: not as many ranges as a key has bytes,
                                   or a lowest byte above its highest */
+#define BHTF_NO_EPOCHS 23u     /* at epoch: the file's keys have fewer than 5
+                                  bytes */
 
 /* ---- verdicts of bhtf_check ---- */
 
@@ -206,6 +208,20 @@ uint32_t bhtf_select(const uint8_t *image, size_t image_len,
                      const uint8_t *lowest, size_t lowest_len,
                      const uint8_t *highest, size_t highest_len, uint8_t *list,
                      size_t list_len, uint32_t *found);
+
+/* In a file of epochs the last 4 bytes of a key are a number, most significant
+ * byte first, after the name: the entry of the name (key size less 4 bytes, any
+ * of them zero) with the largest epoch at most `epoch`; in a damaged table with
+ * two of that epoch the one in the lower slot.
+ *   *shown             its epoch
+ *   *offset, *length   its message, as bhtf_lookup tells it: both 0 without an
+ *                      active one
+ * All are 0 when refused. Refused with 1, 5 and 6, then with 23 and 7, with 14
+ * if no entry of the name has such an epoch, and with 11 last, if the entry's
+ * message is damaged. Time: one pass over the table. */
+uint32_t bhtf_at_epoch(const uint8_t *image, size_t image_len,
+                       const uint8_t *name, size_t name_len, uint32_t epoch,
+                       uint32_t *shown, uint32_t *offset, uint32_t *length);
 
 /* Says whether the image is sound: *verdict is BHTF_SOUND when every key is
  * found by its search in its own slot, every message is whole, none shares a

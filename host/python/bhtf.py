@@ -85,6 +85,14 @@ _count = _declare("bhtf_count", _u32, ctypes.c_void_p, _size, _result)
 _walk = _declare("bhtf_walk", _u32, ctypes.c_void_p, _size, _u32, _result,
                  _result)
 _check = _declare("bhtf_check", _u32, ctypes.c_void_p, _size, _result, _result)
+_store_columns = _declare("bhtf_store_columns", _u32, ctypes.c_void_p, _size,
+                          _bytes, _size, _bytes, _size, _u32)
+_read_columns = _declare("bhtf_read_columns", _u32, ctypes.c_void_p, _size,
+                         _bytes, _size, ctypes.c_void_p, _size, _result)
+_select = _declare("bhtf_select", _u32, ctypes.c_void_p, _size, _bytes, _size,
+                   _bytes, _size, ctypes.c_void_p, _size, _result)
+_at_epoch = _declare("bhtf_at_epoch", _u32, ctypes.c_void_p, _size, _bytes,
+                     _size, _u32, _result, _result, _result)
 _message = _declare("bhtf_message", ctypes.c_char_p, _u32)
 _open = _declare("bhtf_file_open", _file, _bytes, ctypes.POINTER(_How),
                  ctypes.POINTER(_Why))
@@ -95,6 +103,8 @@ _image = _declare("bhtf_file_image", ctypes.c_void_p, _file,
 _add = _declare("bhtf_file_add", _u32, _file, _bytes, _size, _bytes, _size,
                 _u32)
 _delete = _declare("bhtf_file_delete", _u32, _file, _bytes, _size)
+_batch_image = _declare("bhtf_file_batch_image", ctypes.c_void_p, _file,
+                        ctypes.POINTER(_size))
 _error = _declare("bhtf_file_error", ctypes.POINTER(_Why), _file)
 _recovered = _declare("bhtf_file_recovered", ctypes.c_int, _file)
 _compact, _begin, _commit, _rollback, _pause, _refresh, _close = (
@@ -122,6 +132,45 @@ def _alone(method):
         with self._lock:
             return method(self, *arguments, **named)
     return wrapper
+
+
+def _places(pattern, size):
+    """For each byte of a key, those that it may be."""
+    places, at = [], 0
+    while at < len(pattern):
+        byte = pattern[at:at + 1]
+        if byte == b"*":
+            if at + 1 != len(pattern):
+                raise ValueError("a * that is not at the pattern's end")
+            return places + [range(256)] * (size - len(places))
+        if byte == b"?":
+            places.append(range(1, 256))
+        elif byte == b"[":
+            end = pattern.index(b"]", at + 2)
+            places.append(_class(pattern[at + 1:end]))
+            at = end
+        else:
+            places.append((pattern[at],))
+        at += 1
+    if len(places) > size:
+        raise ValueError("more places than a name of this file has bytes")
+    return places + [(0,)] * (size - len(places))
+
+
+def _class(words):
+    none_of = words[:1] in (b"!", b"^")
+    words, some, i = words[none_of:], set(), 0
+    while i < len(words):
+        if words[i + 1:i + 2] == b"-" and i + 2 < len(words):
+            some.update(range(words[i], words[i + 2] + 1))
+            i += 3
+        else:
+            some.add(words[i])
+            i += 1
+    some = set(range(1, 256)) - some if none_of else some - {0}
+    if not some:
+        raise ValueError("a class that no byte fits")
+    return frozenset(some)
 
 
 class File:
@@ -246,6 +295,68 @@ class File:
             yield name, self[name]
 
     @_alone
+    def select(self, pattern):
+        """Names that fit a pattern: ? is any byte, [3-8] one of these, [!3-8]
+        none of these, * at the end any bytes or none. Iterates over them in
+        the order of their slots."""
+        allowed = _places(_to_bytes(pattern), self.key_size)
+        image, length = self._view()
+        slots = int.from_bytes(ctypes.string_at(image + 16, 4), "big")
+        room, found = ctypes.create_string_buffer(4 * slots), _u32()
+        lowest = bytes(min(place) for place in allowed)
+        highest = bytes(max(place) for place in allowed)
+        self._asked(_select(image, length, lowest, len(lowest), highest,
+                            len(highest), room, 4 * slots,
+                            ctypes.byref(found)))
+        names, slot, at = [], _u32(), _u32()
+        for i in range(found.value):
+            number = int.from_bytes(room.raw[4 * i:4 * i + 4], "big")
+            _walk(image, length, number, ctypes.byref(slot), ctypes.byref(at))
+            key = ctypes.string_at(image + at.value, self.key_size)
+            if all(byte in place for byte, place in zip(key, allowed)):
+                names.append(key.rstrip(b"\0"))
+        return iter(names)
+
+    @_alone
+    def at(self, name, epoch):
+        """In a file of epochs: the last epoch of a point at most `epoch`, and
+        its text, None without one; None where it has no such epoch."""
+        name = _to_bytes(name).ljust(max(self.key_size - 4, 0), b"\0")
+        image, length = self._view()
+        shown, start, size = _u32(), _u32(), _u32()
+        number = _at_epoch(image, length, name, len(name), epoch,
+                           ctypes.byref(shown), ctypes.byref(start),
+                           ctypes.byref(size))
+        if number == ABSENT:
+            return None
+        self._asked(number)
+        return shown.value, ctypes.string_at(image + start.value, size.value) \
+            if start.value else None
+
+    @_alone
+    def epochs(self, name):
+        """In a file of epochs: those of a point, rising."""
+        name = _to_bytes(name).ljust(max(self.key_size - 4, 0), b"\0")
+        found, upto = [], 0xFFFFFFFF
+        while upto >= 0:
+            shown = self.at(name, upto)
+            if shown is None:
+                break
+            found.append(shown[0])
+            upto = shown[0] - 1
+        return found[::-1]
+
+    @_alone
+    def read_records(self, name):
+        """Records that were stored by column: their width, and the records."""
+        text = self.get(name, b"")
+        key, (image, length) = self._key(name), self._view()
+        room, found = ctypes.create_string_buffer(len(text or b"") + 1), _u32()
+        self._asked(_read_columns(image, length, key, len(key), room,
+                                  len(text or b""), ctypes.byref(found)))
+        return text[0], room.raw[:found.value]
+
+    @_alone
     def is_sound(self):
         verdict, slot = _u32(), _u32()
         self._asked(_check(*self._view(), ctypes.byref(verdict),
@@ -292,6 +403,20 @@ class File:
         if number == ABSENT:
             raise KeyError(name)
         self._done(number)
+
+    @_alone
+    def store_records(self, name, records, width):
+        """Stores records of `width` bytes by column, as the point's text."""
+        key, records = self._key(name), _to_bytes(records)
+        with contextlib.nullcontext() if self._in_batch() else self.batch():
+            length = _size()
+            image = _batch_image(self._open_handle(), ctypes.byref(length))
+            self._asked(_store_columns(image, length.value, key, len(key),
+                                       records, len(records), width))
+
+    def _in_batch(self):
+        return _batch_image(self._open_handle(), ctypes.byref(_size())) \
+            is not None
 
     @_alone
     def compact(self):

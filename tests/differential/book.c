@@ -9,17 +9,35 @@ void same_as_book(const char *what, uint32_t library, uint32_t book)
         fail_number(what, "library", library, "book", book);
 }
 
-/* An empty text is another than none. */
+/* What is shown is the entry's text; an empty text is another than none. */
+static void compare_text(const struct answer *a, const struct entry *e)
+{
+    same_as_book("has a text", a->first != 0, e != NULL && e->noted);
+    same_as_book("text length", a->second, e == NULL ? 0 : e->length);
+    if (a->second > 0 && memcmp(lent.library + a->first, e->text, e->length))
+        fail("the message is not the book's text");
+}
+
 static void compare_lookup(const struct call *c, const struct answer *a)
 {
     const struct entry *e;
     uint32_t number = book_lookup(&list.book, c->key, c->key_len, &e);
 
     same_as_book("answer", a->number, number);
-    same_as_book("has a text", a->first != 0, e != NULL && e->noted);
-    same_as_book("text length", a->second, e == NULL ? 0 : e->length);
-    if (a->second > 0 && memcmp(lent.library + a->first, e->text, e->length))
-        fail("the message is not the book's text");
+    compare_text(a, e);
+}
+
+/* The book's own choice. */
+static void compare_choice(const struct call *c, const struct answer *a)
+{
+    const struct entry *e;
+    uint32_t shown;
+    uint32_t number = book_at_epoch(&list.book, c->key, c->key_len, c->epoch,
+                                    &shown, &e);
+
+    same_as_book("answer", a->number, number);
+    same_as_book("epoch shown", a->shown, shown);
+    compare_text(a, e);
 }
 
 /* A walk shows points of the book only. */
@@ -118,6 +136,9 @@ void compare_book(const struct call *c, const struct answer *a)
         break;
     case SELECT:
         compare_select(c, a);
+        break;
+    case AT_EPOCH:
+        compare_choice(c, a);
         break;
     case LOOKUP:
         compare_lookup(c, a);

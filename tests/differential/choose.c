@@ -38,14 +38,36 @@ static void random_name(uint8_t *name)
         name[below(list.key_size)] = (uint8_t)(1 + below(255));
 }
 
+/* Few names and epochs near each other, so that a name has several. */
+static void give_epoch(uint8_t *name)
+{
+    static const uint32_t edges[] = { 0, 1, 2, 3, 255, 256, 257, 65535, 65536,
+                                      0x01000000u, 0x7FFFFFFFu, 0x80000000u,
+                                      0xFFFFFFFFu };
+    uint32_t k = list.key_size - 4, epoch = PICK(edges);
+
+    if (below(3) > 0)
+        memcpy(name, list.name[below(2)], k);
+    if (one_in(8))
+        epoch = random32();
+    for (uint32_t i = 0; i < 4; i++)
+        name[k + i] = (uint8_t)(epoch >> (24 - 8 * i));
+    if (is_zero(name))
+        name[k + below(4)] = 1;
+}
+
 void choose_names(void)
 {
+    int epochs = list.key_size > 4 && below(4) > 0;
+
     choose_letters();
     list.names = list.slots + 1 + below(3);
     if (list.names > NAMES || list.slots > NAMES)
         list.names = NAMES;
     for (uint32_t i = 0; i < list.names; i++) {
         random_name(list.name[i]);
+        if (epochs)
+            give_epoch(list.name[i]);
         list.last_length[i] = 0;
     }
 }
@@ -184,9 +206,9 @@ uint32_t choose_key_size(void)
 {
     uint32_t style = below(32);
 
-    if (style < 26)
+    if (style < 22)
         return 1 + below(3);
-    return style < 30 ? 4 + below(5) : 1 + below(32);
+    return style < 30 ? 4 + below(4) : 1 + below(32);
 }
 
 uint32_t choose_slots(void)

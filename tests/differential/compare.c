@@ -80,7 +80,7 @@ static struct answer perform(const struct calls *f, uint8_t *image,
                              const struct call *c)
 {
     struct answer a = { 0, UNSET, UNSET, UNSET, UNSET, UNSET,
-                        UNSET };
+                        UNSET, UNSET };
     uint8_t *s = slice(image, c->image_len);
     size_t n = c->image_len;
 
@@ -135,6 +135,10 @@ static struct answer perform(const struct calls *f, uint8_t *image,
                              f == &plain ? filled.plain : filled.library,
                              c->list_len, &a.found);
         break;
+    case AT_EPOCH:
+        a.number = f->at_epoch(s, n, c->key, c->key_len, c->epoch, &a.shown,
+                               &a.first, &a.second);
+        break;
     case RECOVER:
         a.number = f->recover(s, n,
                               f == &plain ? journal.plain : journal.library,
@@ -187,7 +191,9 @@ static void compare_answers(const struct call *c, const struct answer *a,
         compare_read(a, b);
     if (c->form == LISTED)
         same("pairs", a->pairs, b->pairs);
-    if (c->kind == LOOKUP) {
+    if (c->kind == AT_EPOCH)
+        same("epoch shown", a->shown, b->shown);
+    if (c->kind == LOOKUP || c->kind == AT_EPOCH) {
         same("message offset", a->first, b->first);
         same("message length", a->second, b->second);
     }
@@ -287,6 +293,8 @@ static void compare_slices(const struct call *c, const struct answer *a)
         store_again(c, a);
     if (c->kind == SELECT)
         compare_selected(c, a);
+    if (c->kind == AT_EPOCH)
+        compare_epoch(c, a);
     if (c->kind == RECOVER)
         compare_recovered(c, a);
 }

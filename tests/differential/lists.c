@@ -43,8 +43,10 @@ static void close_list(void)
     }
     step_plain(COUNT);
     step_plain(CHECK);
-    if (!run.old_calls)
+    if (!run.old_calls) {
         step_select();
+        step_epoch();
+    }
     walk_all();
 }
 

@@ -21,9 +21,9 @@
 /* Those up to compaction, storing columns and recovery write the image. Those
  * before recovery are calls on a file, those up to the check document 01's. */
 enum kind { CREATE, ADD, DELETE, COMPACT, LOOKUP, COUNT, WALK, CHECK, STORE,
-            READ, SELECT, RECOVER, KINDS };
+            READ, SELECT, AT_EPOCH, RECOVER, KINDS };
 
-#define NUMBERS 23 /* answers from 0 to 22 */
+#define NUMBERS 24 /* answers from 0 to 23 */
 
 extern const char *const kind_name[KINDS];
 
@@ -44,6 +44,7 @@ struct call {
     size_t lowest_len;
     const uint8_t *highest;
     size_t highest_len;
+    uint32_t epoch;
     uint32_t key_size; /* create */
     uint32_t slots;
     uint32_t seed;
@@ -65,6 +66,7 @@ struct answer {
     uint32_t pairs; /* of a listed call */
     uint32_t bytes; /* of the records read */
     uint32_t found; /* slots in the ranges */
+    uint32_t shown; /* epoch */
 };
 
 /* ---- the state of a run (differential.c) ---- */
@@ -359,6 +361,14 @@ void step_select(void);
 /* Lends list.now ranges and a list, as long as they may be or not. */
 void lend_selected(void);
 void compare_selected(const struct call *c, const struct answer *a);
+
+/* ---- epochs (epochs.c) ---- */
+
+void step_epoch(void);
+
+/* Gives list.now a name without its epoch, and an epoch. */
+void lend_name(void);
+void compare_epoch(const struct call *c, const struct answer *a);
 
 /* ---- journal and recovery (journal.c) ---- */
 

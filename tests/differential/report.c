@@ -10,7 +10,8 @@
 
 const char *const kind_name[KINDS] = {
     "create", "add", "delete", "compact", "lookup", "count", "walk", "check",
-    "store", "read", "select", "recover",
+    "store", "read", "select", "epoch",
+    "recover",
 };
 
 static void print_bytes(const char *what, const uint8_t *bytes, size_t length)
@@ -33,7 +34,7 @@ static void print_call(const struct call *c)
     if (c->kind == CREATE)
         printf(", K %u, N %u, seed %u", c->key_size, c->slots, c->seed);
     if (c->kind == ADD || c->kind == DELETE || c->kind == LOOKUP ||
-        c->kind == STORE || c->kind == READ)
+        c->kind == STORE || c->kind == READ || c->kind == AT_EPOCH)
         print_bytes("key", c->key, c->key_len);
     if (c->kind == STORE)
         printf(", records of %zu bytes, width %u", c->data_len, c->width);
@@ -41,6 +42,8 @@ static void print_call(const struct call *c)
         printf(", slice of %zu bytes", c->list_len);
     if (c->kind == SELECT)
         print_ranges(c);
+    if (c->kind == AT_EPOCH)
+        printf(", epoch %u", c->epoch);
     if (c->kind == ADD)
         printf(", data of %zu bytes, mode %u", c->data_len, c->mode);
     if (c->kind == WALK)

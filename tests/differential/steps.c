@@ -144,6 +144,8 @@ void step(const uint8_t *weights)
         step_columns();
     else if (!run.old_calls && one_in(20))
         step_select();
+    else if (!run.old_calls && one_in(list.key_size > 4 ? 8 : 60))
+        step_epoch();
     else if (style < weights[ADD])
         step_add();
     else if (style < weights[DELETE])

@@ -315,6 +315,32 @@ uint32_t book_select(const struct book *b, const uint8_t *lowest,
     return 0;
 }
 
+/* ---- epochs ---- */
+
+uint32_t book_at_epoch(const struct book *b, const uint8_t *name,
+                       size_t name_len, uint32_t epoch, uint32_t *shown,
+                       const struct entry **entry)
+{
+    *shown = 0;
+    *entry = NULL;
+    if (b->key_size < 5)
+        return 23;
+    if (name_len != b->key_size - 4)
+        return 7;
+    for (uint32_t i = 0; i < b->count; i++) {
+        const struct entry *e = &b->entries[i];
+        uint32_t its = number_at(e->name + name_len);
+
+        if (memcmp(e->name, name, name_len) != 0 || its > epoch)
+            continue;
+        if (*entry != NULL && its < *shown)
+            continue;
+        *shown = its;
+        *entry = e;
+    }
+    return *entry == NULL ? 14 : 0;
+}
+
 /* Held becomes the text's length, only a text that is not none has an offset,
  * and U is what these take. */
 void book_compact(struct book *b)

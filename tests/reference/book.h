@@ -61,6 +61,12 @@ uint32_t book_select(const struct book *b, const uint8_t *lowest,
                      size_t lowest_len, const uint8_t *highest,
                      size_t highest_len, size_t list_len, uint32_t *found);
 
+/* The entry of that name with the largest epoch at most the given one, and its
+ * epoch; NULL and 0 when refused. */
+uint32_t book_at_epoch(const struct book *b, const uint8_t *name,
+                       size_t name_len, uint32_t epoch, uint32_t *shown,
+                       const struct entry **entry);
+
 /* The step of compaction. */
 void book_compact(struct book *b);
 

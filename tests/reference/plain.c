@@ -22,6 +22,7 @@
 #define MARK 0xA5u
 #define WIDTH_MAX 64u /* bytes of a record */
 #define SLOT_NUMBER 4u /* bytes of it, in a list */
+#define EPOCH_SIZE 4u /* bytes of it, at a key's end */
 #define SCRAMBLE 512u
 #define TABLE 2048u
 #define FIRST_CHARACTER 32u
@@ -1009,6 +1010,73 @@ uint32_t plain_select(const uint8_t *image, size_t image_len,
         put32(list + SLOT_NUMBER * (size_t)*found, slot);
         ++*found;
     }
+    return ACCEPTED;
+}
+
+/* ---- epochs ---- */
+
+static uint32_t epoch_in(const struct view *v, uint32_t slot)
+{
+    return get32(key_in(v, slot) + v->key_size - EPOCH_SIZE);
+}
+
+/* An entry of that name, from the given epoch or before. */
+static int is_candidate(const struct view *v, uint32_t slot,
+                        const uint8_t *name, uint32_t epoch)
+{
+    size_t size = v->key_size - EPOCH_SIZE;
+
+    return is_taken(v, slot) && memcmp(key_in(v, slot), name, size) == 0 &&
+           epoch_in(v, slot) <= epoch;
+}
+
+/* The candidate with the largest epoch, the lowest slot if two; N for none. */
+static uint32_t choose(const struct view *v, const uint8_t *name,
+                       uint32_t epoch)
+{
+    uint32_t chosen = v->slots;
+
+    for (uint32_t i = 0; i < v->slots; i++) {
+        if (!is_candidate(v, i, name, epoch))
+            continue;
+        if (chosen == v->slots || epoch_in(v, i) > epoch_in(v, chosen))
+            chosen = i;
+    }
+    return chosen;
+}
+
+/* Questions 23 and 7. */
+static uint32_t ask_name(const struct view *v, size_t name_len)
+{
+    if (v->key_size <= EPOCH_SIZE)
+        return 23;
+    return name_len == v->key_size - EPOCH_SIZE ? ACCEPTED : 7;
+}
+
+uint32_t plain_at_epoch(const uint8_t *image, size_t image_len,
+                        const uint8_t *name, size_t name_len, uint32_t epoch,
+                        uint32_t *shown, uint32_t *offset, uint32_t *length)
+{
+    struct view v;
+    struct message m;
+    uint32_t chosen;
+    uint32_t answer = open_image(&v, image, image_len);
+
+    *shown = 0;
+    *offset = 0;
+    *length = 0;
+    if (answer == ACCEPTED)
+        answer = ask_name(&v, name_len);
+    if (answer != ACCEPTED)
+        return answer;
+    chosen = choose(&v, name, epoch);
+    if (chosen == v.slots)
+        return 14;
+    if (!read_message(&v, message_in(&v, chosen), &m))
+        return 11;
+    *shown = epoch_in(&v, chosen);
+    if (m.active)
+        *offset = m.offset + MESSAGE_HEADER, *length = m.length;
     return ACCEPTED;
 }
 

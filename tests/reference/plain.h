@@ -75,6 +75,15 @@ uint32_t plain_select(const uint8_t *image, size_t image_len,
                       const uint8_t *highest, size_t highest_len,
                       uint8_t *list, size_t list_len, uint32_t *found);
 
+/* Of the entries whose key begins with the name, and ends with an epoch number
+ * of 4 bytes, the one with the largest epoch at most the given one, the lowest
+ * slot if two: its epoch, and its message as lookup shows it. All 0 when
+ * refused: 23 for K below 5, 7 for a name that has not K - 4 bytes, 14 for no
+ * such entry, then 11. */
+uint32_t plain_at_epoch(const uint8_t *image, size_t image_len,
+                        const uint8_t *name, size_t name_len, uint32_t epoch,
+                        uint32_t *shown, uint32_t *offset, uint32_t *length);
+
 /* The same calls, which also list what they changed: pairs of offset and
  * length, one for each run of bytes whose value changed, or the pair 0, L if
  * these do not fit; how many pairs, 0 when refused. 16 for a list below 8

@@ -58,6 +58,11 @@ uint32_t tuned_select(const uint8_t *image, size_t image_len,
                       const uint8_t *highest, size_t highest_len,
                       uint8_t *list, size_t list_len, uint32_t *found);
 
+/* Epochs. */
+uint32_t tuned_at_epoch(const uint8_t *image, size_t image_len,
+                        const uint8_t *name, size_t name_len, uint32_t epoch,
+                        uint32_t *shown, uint32_t *offset, uint32_t *length);
+
 /* The same calls, which also list what they changed. */
 uint32_t tuned_add_listed(uint8_t *image, size_t image_len,
                           const uint8_t *key, size_t key_len,

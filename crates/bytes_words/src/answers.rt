@@ -40,7 +40,10 @@ pub const BAD_JOURNAL: u32 = 17;
 pub const UNRECOVERABLE: u32 = 18;
 
 pub const BAD_RECORDS: u32 = 19;
+
 pub const BAD_RANGES: u32 = 22;
+
+pub const NO_EPOCHS: u32 = 23;
 
 // Add's modes.
 pub const NEW: u32 = 1;

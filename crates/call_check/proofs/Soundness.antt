@@ -45,6 +45,7 @@ pub sound-lookup : (img : Bytes) → check img ≡ sound → (i : ℕ) → i < l
       number = 0;
       amount = length (bytesOf (shown (layoutOf img) img (offsetOf (layoutOf img) (slot (layoutOf img) img i))));
       text = shown (layoutOf img) img (offsetOf (layoutOf img) (slot (layoutOf img) img i));
+      epoch = 0;
     }
 sound-lookup img ok i l t =
     lookup-shows img (keyAt (layoutOf img) img i) (check-open img ok) (key-allowed img ok i l t) i

@@ -60,7 +60,7 @@ pub fn count(image: &[u8]) -> Counted
 }
 
 // An answer that shows no message.
-fn nothing(number: u32) -> Located
+pub fn nothing(number: u32) -> Located
     ensures { λ r. ⌜ (r .number ≡ number) × (r .start .0 ≡ 0) × (r .length ≡ 0) ⌝ }
 {
     let start = Offset::new(0);
@@ -72,7 +72,7 @@ fn nothing(number: u32) -> Located
 }
 
 // Where the active message of the point stands for which the search ended so: questions 14 and 11.
-fn locate_found(image: &[u8], shape: Shape, found: Found) -> Located
+pub fn locate_found(image: &[u8], shape: Shape, found: Found) -> Located
     requires { ⌜ Open (now image) shape × Within (shape .slots) (probeOf found) ⌝ }
     ensures { λ r. ⌜ Shows (layoutOf (now (image .entry))) (now (image .entry)) (probeOf found)
         (r .number) (r .start .0) (r .length) ⌝ }

@@ -22,7 +22,7 @@ use Rattle.spec_file.specs.Lists.{Call, adding, deleting, looking, counting, ca
 use Rattle.spec_compaction.specs.Compact.{compact}
 use Rattle.spec_changes.specs.Changes.{listAllowed, workAllowed, workedNumber, Listed, listed}
 use Rattle.spec_changes.specs.Journal.{journalAllowed, journaledNumber, Journaled, journaled}
-use Rattle.spec_book.specs.Steps.{Change, adds, deletes, compacts, changed, Step, calling, compacting, listing, journaling, storing, reading, listedOutcome, journaledOutcome, performOn, alone, aloneAfter, perform}
+use Rattle.spec_book.specs.Steps.{Change, adds, deletes, compacts, changed, Step, calling, compacting, listing, journaling, storing, reading, listedOutcome, journaledOutcome, performOn, alone, aloneAfter, perform, dating}
 use Rattle.spec_book.specs.Book.{Terms, Book, stepOf, guarded, bookCall}
 use Rattle.spec_book.specs.Told.{bookChanged, imageLength, toldNumber, bookStep, tells}
 use Rattle.law_file.proofs.Tests.{by-bool, by-eq, zero-yes, zero-no}
@@ -30,6 +30,7 @@ use Rattle.law_file.proofs.Outcomes.{settled-yes, settled-no}
 use Rattle.law_agreement.proofs.Reflect.{Reflects}
 use Rattle.law_agreement.proofs.Simple.{Same, same-count, same-lookup, same-delete}
 use Rattle.law_agreement.proofs.Add.{same-add}
+use Rattle.law_agreement.proofs.Dating.{same-dating}
 use Rattle.law_agreement.proofs.Compacting.{same-compact}
 use Rattle.law_agreement.proofs.Recorded.{same-store, same-read}
 
@@ -253,3 +254,4 @@ module _ (g : Layout) (img : Bytes) (b : Book) (r : Reflects g img b) where
   same-step (journaling c work j) = unfold tells perform aloneAfter in same-journaling c work j
   same-step (storing key recs W) = same-store g img b r key recs W
   same-step (reading key room) = same-read g img b r key room
+  same-step (dating name t) = same-dating g img b r name t

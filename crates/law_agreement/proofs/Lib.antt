@@ -17,6 +17,7 @@ pub mod Remove  -- a point gone
 pub mod Noted  -- the version written beside an empty message
 -- ---- each call keeps the relation
 pub mod Simple  -- count, lookup and delete
+pub mod Dating  -- the entry of a prism at an epoch
 pub mod Place  -- a message placed in new space
 pub mod Present  -- add of a point that is present
 pub mod Absent  -- add of a point that is absent
@@ -36,6 +37,7 @@ pub mod Selecting  -- names in ranges, beside the book's
 pub mod Steps  -- what a call does to the book
 pub mod Numbers  -- which numbers a step of the book may answer
 pub mod Users  -- corollaries in the words of a user
+pub mod Epochs  -- the entry of a prism at an epoch, of files that calls have reached
 pub mod Area  -- the bytes below X that a call leaves as they were, of any image
 pub mod Shown  -- what lookup shows after an add in mode 2, of any image
 pub mod Records  -- reading after storing records, of any image

@@ -49,11 +49,11 @@ module _ (img key recs : Bytes) (W : ℕ) (bytes : AreBytes img)
   is-add = store-add img key recs W whole
 
   pub stored-shown : lookup after key .answer
-      ≡ record { number = 0; amount = length (columns W recs); text = some (columns W recs) }
+      ≡ record { number = 0; amount = length (columns W recs); text = some (columns W recs); epoch = 0 }
   unfolding add plain
   stored-shown =
       subst (λ (o : Outcome Bytes). lookup (o .after) key .answer
-      ≡ record { number = 0; amount = length (columns W recs); text = some (columns W recs) }) (sym is-add)
+      ≡ record { number = 0; amount = length (columns W recs); text = some (columns W recs); epoch = 0 }) (sym is-add)
       (replaced-shown img key (columns W recs) bytes (omega (arith, length-stored W recs whole))
       (ap (λ (o : Outcome Bytes). o .answer .number) (sym is-add) ∙ ok))
 
@@ -80,11 +80,11 @@ module _ (img key recs : Bytes) (W : ℕ) (bytes : AreBytes img)
     accepted = read-0 after key room shown-number can-read
 
     pub stored-read : readRecords after key room .answer
-        ≡ record { number = 0; amount = length recs; text = some recs }
+        ≡ record { number = 0; amount = length recs; text = some recs; epoch = 0 }
     unfolding readRecords
     stored-read =
         records-shown (readNumber after key room) (storedBytes after key) accepted
-        ∙ ap (λ (t : Bytes). record { number = 0; amount = length t; text = some t }) records-back
+        ∙ ap (λ (t : Bytes). record { number = 0; amount = length t; text = some t; epoch = 0 }) records-back
 
   pub stored-fills : (out : Bytes) → length recs ≤ length out → filledRecords after key out ≡ store out 0 recs
   unfolding filledRecords
@@ -110,7 +110,7 @@ module _ (img key : Bytes) (room : ℕ) (ok : readRecords img key room .answer .
 
   pub read-restored : let recs : Bytes = records (storedBytes img key) in
       let W : ℕ = widthOf (storedBytes img key) in
-      (readRecords img key room .answer ≡ record { number = 0; amount = length recs; text = some recs })
+      (readRecords img key room .answer ≡ record { number = 0; amount = length recs; text = some recs; epoch = 0 })
       × (wholeRecords W (length recs) ≡ true)
       × (columns W recs ≡ storedBytes img key)
   unfolding readRecords

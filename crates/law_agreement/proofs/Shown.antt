@@ -101,7 +101,7 @@ module _ (img key t : Bytes) (o : Opened img) (a : nameAllowed (layoutOf img .K)
   offset i = offsetOf g (slot g img i)
 
   abbrev Shows : Bytes → Type 0
-  Shows img₁ = lookup img₁ key .answer ≡ record { number = 0; amount = length t; text = some t }
+  Shows img₁ = lookup img₁ key .answer ≡ record { number = 0; amount = length t; text = some t; epoch = 0 }
 
   some-slot : 0 < g .N
   unfolding layoutOf
@@ -419,7 +419,7 @@ module _ (img key t : Bytes) (bytes : AreBytes img) (some′ : 0 < length t) (z 
       ∙ rw (ne-eqb (length t) 0 (λ q. omega (arith, some′))) (ap (λ (q : Probe). addedAt lay img q key t 2) e)
 
   abbrev Answers : Bytes → Type 0
-  Answers img₁ = lookup img₁ key .answer ≡ record { number = 0; amount = length t; text = some t }
+  Answers img₁ = lookup img₁ key .answer ≡ record { number = 0; amount = length t; text = some t; epoch = 0 }
 
   present : (i : ℕ) → search lay img key ≡ met i → Answers (add img key t 2 .after)
   unfolding addedAt

@@ -137,7 +137,7 @@ book-14-no z = omega (arith, z, book-14)
 module _ (g : Layout) (img : Bytes) (b : Book) (r : Reflects g img b) (key : Bytes) where
   pub lookup-is : (a : Allowed g key) (i : ℕ) → search g img key ≡ met i
       → let t : Option Bytes = shown g img (offsetOf g (slot g img i)) in
-      lookup img key .answer ≡ record { number = 0; amount = length (bytesOf t); text = t }
+      lookup img key .answer ≡ record { number = 0; amount = length (bytesOf t); text = t; epoch = 0 }
   lookup-is a i m =
       rw (r .file .layout) at
       (lookup-shows img key (open₀ r) (rw (r .file .layout) a) i (rw (r .file .layout) m)

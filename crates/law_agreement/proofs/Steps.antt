@@ -22,8 +22,9 @@ use Rattle.spec_file.specs.Questions.{Question, ask, firstNo, nameAllowed}
 use Rattle.spec_file.specs.Calls.{Outcome, plain}
 use Rattle.spec_file.specs.Lists.{adding, deleting, looking, counting}
 use Rattle.spec_columns.specs.Columns.{columns}
-use Rattle.spec_book.specs.Steps.{Change, adds, deletes, compacts, Step, calling, compacting, listing, journaling, storing, reading}
-use Rattle.spec_book.specs.Book.{Entry, Book, find, withEntry, stepOf, guarded, entered, noting, bare, placed, addAbsent, replace, append, withdrawn, addPresent, addFound, bookAdd, deleteFound, bookDelete, lookupFound, bookLookup, bookStore, readFound, bookRead, bookCount, trimmed, compactedBook, bookCompact, bookCall}
+use Rattle.spec_book.specs.Steps.{Change, adds, deletes, compacts, Step, calling, compacting, listing, journaling, storing, reading, dating}
+use Rattle.spec_book.specs.Book.{Entry, Book, find, withEntry, stepOf, guarded, entered, noting, bare, placed, addAbsent, replace, append, withdrawn, addPresent, addFound, bookAdd, deleteFound, bookDelete, lookupFound, bookLookup, bookStore, readFound, bookRead, bookCount, trimmed, compactedBook, bookCompact, bookCall, latestEntry, datedFound, bookAtEpoch}
+use Rattle.spec_epoch.specs.Epochs.{keyDated, prismAllowed}
 use Rattle.spec_book.specs.Told.{bookChanged, toldNumber, bookStep}
 use Rattle.spec_book.specs.Demand.{bookText, textOf}
 use Rattle.law_file.proofs.Tests.{by-bool, by-eq}
@@ -243,6 +244,18 @@ module _ (b : Book) (name : Bytes) where
       (λ h. rw h (read-found room (find name (b .entries))))
       (λ h. rw h refl)
 
+  dated-found : (f : Option Entry) → datedFound b f .after ≡ b
+  unfolding datedFound stepOf
+  dated-found none = rw (firstNo-no 14 false [] refl) refl
+  dated-found (some e) = refl
+
+  pub book-dated : (t : ℕ) → bookAtEpoch b name t .after ≡ b
+  unfolding bookAtEpoch guarded stepOf
+  book-dated t =
+      by-bool (eqb (firstNo (ask 23 (keyDated (b .terms .K)) ∷ ask 7 (prismAllowed (b .terms .K) name) ∷ [])) 0)
+      (λ h. rw h (dated-found (latestEntry (b .terms .K) name t (b .entries))))
+      (λ h. rw h refl)
+
 -- ---- any step, by its effect on the book
 
 pub plainStep : Change → Step
@@ -258,6 +271,7 @@ asPlain (listing c work list) = plainStep c
 asPlain (journaling c work j) = plainStep c
 asPlain (storing name recs W) = calling (adding name (columns W recs) 2)
 asPlain (reading name room) = calling (looking name)
+asPlain (dating name t) = dating name t
 
 -- nothing, or a text is put under the name that it adds, or the entry of the name that it deletes goes, or all entries
 -- are trimmed
@@ -320,6 +334,7 @@ step-effect t (storing name recs W) b =
     (by-put (add-found b name (columns W recs) 2 (find name (b .entries)) refl)
     (λ e. nothing e) (λ text w. enters name (columns W recs) 2 text refl w))
 step-effect t (reading name room) b = nothing (book-read b name room)
+step-effect t (dating name e) b = nothing (book-dated b name e)
 
 -- the step does not delete, or does not add, a point of that name
 abbrev pub NotDeleting : Bytes → Step → Type 0

@@ -24,7 +24,7 @@ use Rattle.spec_file.specs.Questions.{nameAllowed, createNumber}
 use Rattle.spec_file.specs.Create.{slotsAsked, freshImage}
 use Rattle.spec_file.specs.Calls.{Answer, Outcome, plain, create, lookup}
 use Rattle.spec_file.specs.Lists.{Call, call, answers, stateAfter}
-use Rattle.spec_book.specs.Steps.{Step, calling, compacting, listing, journaling, storing, reading, performOn, State, alone, aloneAfter, perform}
+use Rattle.spec_book.specs.Steps.{Step, calling, compacting, listing, journaling, storing, reading, performOn, State, alone, aloneAfter, perform, dating}
 use Rattle.spec_book.specs.Book.{Book, newBook, bookCall}
 use Rattle.spec_book.specs.Told.{bookStep, tells, toldBy, bookTold}
 use Rattle.spec_book.specs.Reopened.{termsOf, Starts}
@@ -168,6 +168,7 @@ plain-told (listing c work list) p t b = absurd (not-both false p refl)
 plain-told (journaling c work j) p t b = absurd (not-both false p refl)
 plain-told (storing name recs W) p t b = refl
 plain-told (reading name room) p t b = refl
+plain-told (dating name e) p t b = refl
 
 plain-answers : (steps : List Step) → AllPlain steps → (s : State) (b : Book)
     → answers bookTold (toldBy steps s) b ≡ answers (bookStep false) steps b

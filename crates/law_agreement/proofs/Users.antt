@@ -408,7 +408,7 @@ module _ (img : Bytes) (b : Book) (r : Reached (alone img) b) where
   no-fifteen c q =
       step-of (λ (n : ℕ). n ≡ 15 → ⊥) b (λ n l e. omega arith) (λ e. omega arith)
       (λ m. room-number (λ (n : ℕ). n ≡ 15 → ⊥) b m (λ e. omega arith) (λ e. omega arith) (λ e. omega arith))
-      (λ e. omega arith) (λ e. omega arith) (λ e. omega arith) (tells c (alone img)) c
+      (λ e. omega arith) (λ e. omega arith) (λ e. omega arith) (λ e. omega arith) (tells c (alone img)) c
       (ap (λ (x : Answer). x .number) (sym (same-now img b r c)) ∙ q)
 
   -- it changes no point's text, and finds no other points

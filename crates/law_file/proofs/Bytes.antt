@@ -195,17 +195,55 @@ number-below (b ∷ bs) h =
     let top : suc b * 256 ^ length bs ≤ 256 * 256 ^ length bs = mul-le-mul-right (256 ^ length bs) (h 0) in
     omega (arith, ih, top, suc-mul b (256 ^ length bs), pow-succ' 256 (length bs))
 
-take-bytes : (m : ℕ) (b : Bytes) → AreBytes b → AreBytes (take m b)
+pub take-bytes : (m : ℕ) (b : Bytes) → AreBytes b → AreBytes (take m b)
 take-bytes zero b h i = omega arith
 take-bytes (suc m) [] h i = omega arith
 take-bytes (suc m) (x ∷ b) h zero = h zero
 take-bytes (suc m) (x ∷ b) h (suc i) = take-bytes m b (λ k. h (suc k)) i
 
+pub drop-bytes : (n : ℕ) (b : Bytes) → AreBytes b → AreBytes (drop n b)
+drop-bytes n b h i = rw (getD-drop n b i 0) (h (n + i))
+
 pub part-below : (b : Bytes) (p m : ℕ) → AreBytes b → p + m ≤ length b → number (part b p m) < 256 ^ m
 part-below b p m h l =
     subst (λ (n : ℕ). number (part b p m) < 256 ^ n) (part-length b p m l)
     (number-below (part b p m)
-    (unfold part in take-bytes m (drop p b) (λ i. rw (getD-drop p b i 0) (h (p + i)))))
+    (unfold part in take-bytes m (drop p b) (drop-bytes p b h)))
+
+-- bytes of one length that store the same number are the same
+pub number-same : (a b : Bytes) → AreBytes a → AreBytes b → length a ≡ length b → number a ≡ number b → a ≡ b
+unfolding number
+number-same [] [] f h l e = refl
+number-same [] (y ∷ b) f h l e = absurd (omega arith)
+number-same (x ∷ a) [] f h l e = absurd (omega arith)
+number-same (x ∷ a) (y ∷ b) f h l e =
+    let l′ : length a ≡ length b = omega arith in
+    let P = 256 ^ length b in
+    let p : 256 ^ length a ≡ P = ap (λ (n : ℕ). 256 ^ n) l′ in
+    let e′ : x * P + number a ≡ y * P + number b = sym (ap (λ (n : ℕ). x * n + number a) p) ∙ e in
+    let q : x ≡ y = top x y P (number a) (number b)
+    (subst (λ (n : ℕ). number a < n) p (number-below a (λ i. f (suc i)))) (number-below b (λ i. h (suc i))) e′ in
+    let r : number a ≡ number b = omega (arith, e′, ap (λ (n : ℕ). n * P) q) in
+    ap₂ _∷_ q (number-same a b (λ i. f (suc i)) (λ i. h (suc i)) l′ r)
+  where
+    top : (x y P m n : ℕ) → m < P → n < P → x * P + m ≡ y * P + n → x ≡ y
+    top x y P m n lm ln q =
+        by-le x y
+        (λ h. by-le y x (λ k. omega arith)
+        (λ k. let s : suc x * P ≤ y * P = mul-le-mul-right P k in absurd (omega (arith, s, suc-mul x P))))
+        (λ k. let s : suc y * P ≤ x * P = mul-le-mul-right P k in absurd (omega (arith, s, suc-mul y P)))
+
+pub digits-bytes : (w n : ℕ) → AreBytes (digits w n)
+unfolding digits
+digits-bytes zero n i = omega arith
+digits-bytes (suc w) n zero = omega arith
+digits-bytes (suc w) n (suc i) = digits-bytes w n i
+
+-- bytes are the digits of the number that they store
+pub digits-number : (v : Bytes) → AreBytes v → digits (length v) (number v) ≡ v
+digits-number v h =
+    number-same (digits (length v) (number v)) v (digits-bytes (length v) (number v)) h
+    (length-digits (length v) (number v)) (number-digits-fits (length v) (number v) (number-below v h))
 
 -- ---- zeros and comparisons
 

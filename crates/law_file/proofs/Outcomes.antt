@@ -211,7 +211,7 @@ module _ (img key : Bytes) (open₀ : openNumber img ≡ 0) where
       offset-is = offset-met img key i m (lookup-0 s)
 
       pub lookup-shows : lookup img key .answer
-          ≡ record { number = 0; amount = length (bytesOf (shown g img at)); text = shown g img at }
+          ≡ record { number = 0; amount = length (bytesOf (shown g img at)); text = shown g img at; epoch = 0 }
       unfolding lookup lookupText lookupLength lookupStart held shown bytesOf textAt part
       lookup-shows =
           by-bool (isActive img at)

@@ -131,7 +131,7 @@ module _ (n : ℕ) (stored : Bytes) where
 
   pub records-shown : n ≡ 0
       → recordsAnswer n stored
-      ≡ record { number = 0; amount = length (records stored); text = some (records stored) }
+      ≡ record { number = 0; amount = length (records stored); text = some (records stored); epoch = 0 }
   unfolding recordsAnswer
   records-shown z = zero-yes n _ (plain n) z
 

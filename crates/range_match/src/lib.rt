@@ -82,8 +82,8 @@ pub fn asked_positions(lowest: &[u8], highest: &[u8]) -> Asked
     Asked { first, end }
 }
 
-// Whether a byte lies in its range. One comparison and not two, of which each would be foretold wrongly at times: a byte
-// below the lowest wraps round, to more than the range is wide.
+// Whether a byte lies in its range. One comparison and not two, of which each would be foretold wrongly at times: a
+// byte below the lowest wraps round, to more than the range is wide.
 fn in_range(lowest: u8, highest: u8, byte: u8) -> bool
     requires { ⌜ lowest ≤ highest ⌝ }
     ensures { λ r. ⌜ r ≡ inRange lowest highest byte ⌝ }

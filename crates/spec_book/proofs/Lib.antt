@@ -5,4 +5,5 @@ pub mod CasesReopened  -- books read off images that no call of ours made
 pub mod CasesTrimmed  -- compaction
 pub mod CasesForms  -- the forms with a working slice
 pub mod CasesRecorded  -- records by column
+pub mod CasesDated  -- the choice by epoch
 pub mod Statements  -- what demand 3 and its cases say

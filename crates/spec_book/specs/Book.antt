@@ -1,6 +1,6 @@
--- Document 01, "The plain control book", as document 02 changes it (Job 4), with its step for compaction (Job 2):
--- entries with distinct names, which its steps keep so, and the space used. It knows nothing of slots or bytes of an
--- image: "Each step is fed its call's arguments and nothing from the file."
+-- Document 01, "The plain control book", as document 02 changes it (Job 4), with its step for compaction (Job 2) and
+-- its choice by epoch (Job 14): entries with distinct names, which its steps keep so, and the space used. It knows
+-- nothing of slots or bytes of an image: "Each step is fed its call's arguments and nothing from the file."
 -- Assumes nothing.
 use Prim.Native.Nat.{ℕ, _+_}
 use mathlib.Core.Bool.{Bool, true, false, cond, _&&_}
@@ -11,10 +11,11 @@ use lib.Dec.{leb, ltb, eqb}
 use Rattle.spec_file.specs.Bytes.{Bytes, same}
 use Rattle.spec_file.specs.Messages.{bytesOf, isText}
 use Rattle.spec_file.specs.Questions.{Question, ask, firstNo, nameAllowed, named}
-use Rattle.spec_file.specs.Calls.{Outcome, plain}
+use Rattle.spec_file.specs.Calls.{Answer, Outcome, plain}
 use Rattle.spec_file.specs.Lists.{Call, adding, deleting, looking, counting}
 use Rattle.spec_columns.specs.Columns.{wholeRecords, columns}
 use Rattle.spec_records.specs.Records.{readable, recordsAnswer}
+use Rattle.spec_epoch.specs.Epochs.{epochOf, datedBy, keyDated, prismAllowed}
 
 -- "entries (name, text, held)"; 02: "The book's text is none or a list that may be empty, and an entry notes whether it
 -- has an offset"
@@ -137,11 +138,14 @@ unfoldable pub bookDelete : Book → Bytes → Outcome Book
 bookDelete b name =
     guarded b (ask 7 (nameAllowed (b .terms .K) name) ∷ []) (deleteFound b name (find name (b .entries)))
 
+-- an entry's text and length, and an epoch
+abbrev pub telling : Entry → ℕ → Answer
+telling e epoch = record { number = 0; amount = length (bytesOf (e .text)); text = e .text; epoch = epoch }
+
 -- "Lookup: 14 if absent, else text and length."
 unfoldable pub lookupFound : Book → Option Entry → Outcome Book
 lookupFound b none = stepOf b (ask 14 false ∷ []) b
-lookupFound b (some e) =
-    record { after = b; answer = record { number = 0; amount = length (bytesOf (e .text)); text = e .text } }
+lookupFound b (some e) = record { after = b; answer = telling e 0 }
 
 unfoldable pub bookLookup : Book → Bytes → Outcome Book
 bookLookup b name = guarded b (ask 7 (nameAllowed (b .terms .K) name) ∷ []) (lookupFound b (find name (b .entries)))
@@ -165,7 +169,30 @@ bookRead b name room =
 
 -- "Count: the number of entries."
 unfoldable pub bookCount : Book → Outcome Book
-bookCount b = record { after = b; answer = record { number = 0; amount = length (b .entries); text = none } }
+bookCount b =
+    record { after = b; answer = record { number = 0; amount = length (b .entries); text = none; epoch = 0 } }
+
+-- Document 02, Job 14: "the entry of that name with the largest epoch at most t", among the book's own. Two of one name
+-- and epoch would be one entry, for names are distinct.
+unfoldable pub laterEntry : ℕ → Entry → Option Entry → Option Entry
+laterEntry K e none = some e
+laterEntry K e (some f) = cond (leb (epochOf K (f .name)) (epochOf K (e .name))) (some e) (some f)
+
+unfoldable pub latestEntry : ℕ → Bytes → ℕ → List Entry → Option Entry
+latestEntry K name t [] = none
+latestEntry K name t (e ∷ es) =
+    cond (datedBy K name t (e .name)) (laterEntry K e (latestEntry K name t es)) (latestEntry K name t es)
+
+-- "or 14 when none has one"
+unfoldable pub datedFound : Book → Option Entry → Outcome Book
+datedFound b none = stepOf b (ask 14 false ∷ []) b
+datedFound b (some e) = record { after = b; answer = telling e (epochOf (b .terms .K) (e .name)) }
+
+-- it puts 23 and 7 as the file does
+unfoldable pub bookAtEpoch : Book → Bytes → ℕ → Outcome Book
+bookAtEpoch b name t =
+    guarded b (ask 23 (keyDated (b .terms .K)) ∷ ask 7 (prismAllowed (b .terms .K) name) ∷ [])
+    (datedFound b (latestEntry (b .terms .K) name t (b .entries)))
 
 -- Document 02, Job 2, of compaction: "In the book this step makes held the text's length and U the sum of 4 + length
 -- over texts that are not empty", as Job 4 changes it: "after compaction an entry has an offset exactly when its text

@@ -12,6 +12,7 @@ use Rattle.spec_compaction.specs.Compact.{compact}
 use Rattle.spec_changes.specs.Changes.{Listed, listed}
 use Rattle.spec_changes.specs.Journal.{Journaled, journaled}
 use Rattle.spec_records.specs.Records.{storeRecords, readRecords}
+use Rattle.spec_epoch.specs.Epochs.{Dated, atEpoch}
 
 -- Job 8: "Add, delete and compaction get a form"; Job 9: "a form of those calls"
 pub data Change : Type 0 where
@@ -27,7 +28,8 @@ changed compacts img = compact img
 -- Document 01's calls. Job 2, of compaction: "Lists of calls may now contain it". Job 8: "with a working slice that
 -- also fills a lent list": the working slice's length, for its bytes do not matter, and the list. Job 9: "with Job 8's
 -- working slice but no list", and a journal. Job 10: records and their width; the length of the slice that is lent for
--- them, for its bytes do not matter.
+-- them, for its bytes do not matter. Job 14: "After every list of calls this is the book's own choice": of a prism's
+-- name, of any length, and an epoch, any number.
 pub data Step : Type 0 where
   calling : Call → Step
   compacting : Step
@@ -35,6 +37,7 @@ pub data Step : Type 0 where
   journaling : Change → ℕ → Bytes → Step
   storing : Bytes → Bytes → ℕ → Step
   reading : Bytes → ℕ → Step
+  dating : Bytes → ℕ → Step
 
 -- ---- one image
 
@@ -44,6 +47,13 @@ listedOutcome l = record { after = l .after; answer = plain (l .number) }
 unfoldable pub journaledOutcome : Journaled → Outcome Bytes
 journaledOutcome l = record { after = l .after; answer = plain (l .number) }
 
+unfoldable pub datedOutcome : Bytes → Dated → Outcome Bytes
+datedOutcome img d =
+    record {
+      after = img;
+      answer = record { number = d .number; amount = d .length; text = d .text; epoch = d .epoch };
+    }
+
 unfoldable pub performOn : Step → Bytes → Outcome Bytes
 performOn (calling c) img = call c img
 performOn compacting img = compact img
@@ -51,6 +61,7 @@ performOn (listing c work list) img = listedOutcome (listed (changed c) img work
 performOn (journaling c work j) img = journaledOutcome (journaled (changed c) img work j)
 performOn (storing key recs W) img = storeRecords img key recs W
 performOn (reading key room) img = readRecords img key room
+performOn (dating name t) img = datedOutcome img (atEpoch img name t)
 
 -- ---- the state
 

@@ -15,9 +15,11 @@ use Rattle.spec_book.specs.Book.{Entry, newBook}
 use Rattle.spec_book.specs.Reopened.{termsOf, bookOf, entriesFrom, entryAt}
 use Rattle.spec_book.proofs.CasesBook.{booked, Books, Find, fileTexts, bookTexts}
 use Rattle.spec_book.proofs.CasesReopened.{othersBook}
-use Rattle.spec_book.specs.Steps.{changed, listedOutcome, journaledOutcome, performOn}
+use Rattle.spec_book.specs.Steps.{changed, listedOutcome, journaledOutcome, datedOutcome, performOn}
 use Rattle.spec_book.proofs.CasesForms.{form-definitions, formsCalls, formsAnswers, journalCalls, journalAnswers}
 use Rattle.spec_book.proofs.CasesRecorded.{recorded-definitions, recordsCalls, recordsAnswers}
+use Rattle.spec_book.proofs.CasesDated.{dating-definitions, datedCalls, datedAnswers}
+use Rattle.spec_epoch.proofs.CasesEpochs.{epoch-definitions}
 use Rattle.spec_compaction.proofs.CasesCompact.{compact-definitions}
 use Rattle.spec_changes.proofs.CasesChanges.{changes, journals}
 
@@ -168,3 +170,9 @@ journaled-file = refl
 pub records-file : answers performOn recordsCalls (headed 1 1 8192) ≡ recordsAnswers
 unfolding recorded-definitions compact-definitions headed
 records-file = refl
+
+-- ---- document 02, Job 14: the choice by epoch in a list of calls
+
+pub dated-file : answers performOn datedCalls (headed 5 8 8192) ≡ datedAnswers
+unfolding dating-definitions epoch-definitions headed performOn datedOutcome
+dated-file = refl

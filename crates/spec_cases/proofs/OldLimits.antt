@@ -28,7 +28,8 @@ use Rattle.spec_changes.specs.Changes.{listed}
 use Rattle.spec_changes.specs.Journal.{journaledNumber, journaled}
 use Rattle.spec_columns.specs.Columns.{columns}
 use Rattle.spec_records.specs.Records.{storeAsks, storeNumber, storeRecords, storedBytes, readable, readAsks, readNumber, recordsAnswer, readRecords}
-use Rattle.spec_book.specs.Steps.{Change, adds, deletes, compacts, changed, Step, calling, compacting, listing, journaling, storing, reading, listedOutcome, journaledOutcome, performOn}
+use Rattle.spec_book.specs.Steps.{Change, adds, deletes, compacts, changed, Step, calling, compacting, listing, journaling, storing, reading, listedOutcome, journaledOutcome, performOn, dating, datedOutcome}
+use Rattle.spec_epoch.specs.Epochs.{chosen, atEpochAsks, atEpochNumber, shownAt, refusedDated, atEpoch}
 use Rattle.spec_compaction.specs.Compact.{compacted, isSound, compactNumber, compact}
 use Rattle.spec_file.specs.Inspect.{Stop, stopAt, nextTaken, keyWalk, Verdict, tableVerdict, check}
 
@@ -117,14 +118,15 @@ lookupBy img key n =
     let start : ℕ = cond (eqb o 0) 0 (o + headSize (layoutOf img)) in
     record {
       after = img;
-      answer = record { number = n; amount = m; text = cond (eqb o 0) none (some (part img start m)) };
+      answer =
+          record { number = n; amount = m; text = cond (eqb o 0) none (some (part img start m)); epoch = 0 };
     }
 
 countBy : Bytes → ℕ → Outcome Bytes
 countBy img n =
     record {
       after = img;
-      answer = record { number = n; amount = cond (eqb n 0) (field img pointsField) 0; text = none };
+      answer = record { number = n; amount = cond (eqb n 0) (field img pointsField) 0; text = none; epoch = 0 };
     }
 
 createBy : Bytes → ℕ → ℕ → ℕ → ℕ → Outcome Bytes
@@ -133,6 +135,11 @@ createBy img K N seed n =
 
 walkBy : Bytes → ℕ → ℕ → Stop
 walkBy img i n = cond (eqb n 0) (stopAt (nextTaken (layoutOf img) img i)) (Stop.refused n)
+
+atEpochBy : Bytes → Bytes → ℕ → ℕ → Outcome Bytes
+atEpochBy img name t n =
+    datedOutcome img
+    (cond (eqb n 0) (shownAt (layoutOf img) img (slotOf (chosen (layoutOf img) img name t))) (refusedDated n))
 
 compactBy : Bytes → ℕ → Outcome Bytes
 compactBy img n = record { after = settled n img (compacted (layoutOf img) img); answer = plain n }
@@ -190,6 +197,8 @@ oldPerform (listing c work list) img = listedOutcome (listed (oldChanged c) img 
 oldPerform (journaling c work j) img = journaledOutcome (journaled (oldChanged c) img work j)
 oldPerform (storing key recs W) img = oldStore img key recs W
 oldPerform (reading key room) img = oldRead img key room
+oldPerform (dating name t) img =
+    atEpochBy img name t (firstNo (oldOpened img (atEpochAsks (layoutOf img) img name t)))
 
 -- questions 1 to 4, by the answers to 1 and 3
 createAsksBy : ℕ → ℕ → ℕ → Bool → Bool → List Question
@@ -276,6 +285,12 @@ journaled-by : (f h : Bytes → Outcome Bytes) (img : Bytes) (work : ℕ) (j : B
 unfolding journaled journaledNumber
 journaled-by f h img work j e = rw e refl
 
+at-epoch-as-before : (img name : Bytes) (t : ℕ) → Within img
+    → datedOutcome img (atEpoch img name t) ≡ oldPerform (dating name t) img
+unfolding oldPerform atEpoch atEpochNumber atEpochBy
+at-epoch-as-before img name t w =
+    ap (λ (qs : List Question). atEpochBy img name t (firstNo qs)) (opened-as-before img _ w)
+
 pub perform-as-before : (c : Step) (img : Bytes) → Within img → performOn c img ≡ oldPerform c img
 unfolding performOn oldPerform
 perform-as-before (calling c) img w = call-as-before c img w
@@ -286,6 +301,7 @@ perform-as-before (journaling c work j) img w =
     ap journaledOutcome (journaled-by (changed c) (oldChanged c) img work j (changed-as-before c img w))
 perform-as-before (storing key recs W) img w = store-as-before img key recs W w
 perform-as-before (reading key room) img w = read-as-before img key room w
+perform-as-before (dating name t) img w = at-epoch-as-before img name t w
 
 pub create-as-before : (img : Bytes) (K N seed : ℕ) → length img ≤ oldImage → slotsAsked N ≤ oldSlots
     → create img K N seed ≡ oldCreate img K N seed

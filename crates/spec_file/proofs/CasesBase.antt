@@ -85,23 +85,23 @@ two = 2 ∷ []
 abbrev pub point : ℕ → Call
 point c = adding (c ∷ []) [] 3
 
--- ---- answers: a number, an amount, a text or none
+-- ---- answers: a number, an amount, a text or none; no epoch
 
 abbrev pub done : Answer
-done = record { number = 0; amount = 0; text = none }
+done = record { number = 0; amount = 0; text = none; epoch = 0 }
 
 abbrev pub refused : ℕ → Answer
-refused n = record { number = n; amount = 0; text = none }
+refused n = record { number = n; amount = 0; text = none; epoch = 0 }
 
 abbrev pub shows : ℕ → Bytes → Answer
-shows m t = record { number = 0; amount = m; text = some t }
+shows m t = record { number = 0; amount = m; text = some t; epoch = 0 }
 
 -- lookup of a point without a message
 abbrev pub shows-none : Answer
-shows-none = record { number = 0; amount = 0; text = none }
+shows-none = record { number = 0; amount = 0; text = none; epoch = 0 }
 
 abbrev pub counts : ℕ → Answer
-counts n = record { number = 0; amount = n; text = none }
+counts n = record { number = 0; amount = n; text = none; epoch = 0 }
 
 unfoldable pub answered : List Call → Bytes → List Answer
 unfolding definitions

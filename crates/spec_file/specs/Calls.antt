@@ -1,5 +1,6 @@
 -- The calls, each as a function from the image's bytes and the arguments to the answer and every byte afterwards.
---     Answer        what a call answers: its number; count's C or lookup's length; lookup's text, or none
+--     Answer        what a call answers: its number; count's C or lookup's length; lookup's text, or none; the epoch of
+--                   what is shown, where a call shows one (document 02, Job 14), else 0
 --     Outcome S     the state afterwards (a file's: the image), and the answer
 --     create, add, delete, lookup, count     for any bytes, names, data and modes
 --     addRead, deleteRead, lookupRead        how many slots a call's search read
@@ -22,6 +23,7 @@ pub record Answer : Type 0 where
   pub number : ℕ
   pub amount : ℕ
   pub text : Option Bytes
+  pub epoch : ℕ
 
 pub record Outcome (S : Type 0) : Type 0 where
   pub after : S
@@ -29,7 +31,7 @@ pub record Outcome (S : Type 0) : Type 0 where
 
 -- "An accepted create, add or delete answers 0"; of a refused call the part is "the image's first 0 bytes"
 unfoldable pub plain : ℕ → Answer
-plain n = record { number = n; amount = 0; text = none }
+plain n = record { number = n; amount = 0; text = none; epoch = 0 }
 
 -- "A refused call .. changes no byte": the image as it was, or as an accepted call leaves it
 unfoldable pub settled : ℕ → Bytes → Bytes → Bytes
@@ -75,7 +77,12 @@ lookup img key =
     record {
       after = img;
       answer =
-          record { number = lookupNumber img key; amount = lookupLength img key; text = lookupText img key };
+          record {
+            number = lookupNumber img key;
+            amount = lookupLength img key;
+            text = lookupText img key;
+            epoch = 0;
+          };
     }
 
 -- "count answers C, and 0 beside the number when refused"
@@ -83,7 +90,8 @@ unfoldable pub countOf : Bytes → ℕ
 countOf img = cond (eqb (openNumber img) 0) (field img pointsField) 0
 
 unfoldable pub count : Bytes → Outcome Bytes
-count img = record { after = img; answer = record { number = openNumber img; amount = countOf img; text = none } }
+count img =
+    record { after = img; answer = record { number = openNumber img; amount = countOf img; text = none; epoch = 0 } }
 
 -- ---- how long a search was
 

@@ -102,7 +102,7 @@ store-refused = refl
 -- ---- reading
 
 abbrev pub reads : Bytes → Answer
-reads recs = record { number = 0; amount = length recs; text = some recs }
+reads recs = record { number = 0; amount = length recs; text = some recs; epoch = 0 }
 
 unfoldable pub twoFile : Bytes
 unfolding holding

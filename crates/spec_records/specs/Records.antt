@@ -65,7 +65,7 @@ readNumber img key room =
 unfoldable pub recordsAnswer : ℕ → Bytes → Answer
 recordsAnswer n stored =
     cond (eqb n 0)
-    (record { number = 0; amount = length (records stored); text = some (records stored) })
+    (record { number = 0; amount = length (records stored); text = some (records stored); epoch = 0 })
     (plain n)
 
 unfoldable pub readRecords : Bytes → Bytes → ℕ → Outcome Bytes

@@ -2,6 +2,7 @@
 // accepted. host/bhtf.h declares them for C.
 use bytes_words::fields::read_u32;
 use bytes_words::limits::KEY_FIELD;
+use call_at_epoch::locate_at;
 use call_check::Verdict;
 use call_check::check;
 use call_lookup::count;
@@ -18,6 +19,7 @@ ghost use Rattle.station.specs.Codes.{verdictCode, verdictSlot};
 ghost use Rattle.spec_file.specs.Calls.{create, add, delete, lookup, lookupStart, lookupLength, count, addRead, deleteRead, lookupRead};
 ghost use Rattle.spec_compaction.specs.Compact.{compact};
 ghost use Rattle.spec_range.specs.Ranges.{select};
+ghost use Rattle.spec_epoch.specs.Epochs.{atEpoch};
 ghost use Rattle.spec_changes.specs.Journal.{Disk, recoverNumber, recovered};
 ghost use Rattle.spec_changes.specs.Lists.{Lists};
 ghost use Rattle.journal_recover.specs.Updates.{Updates};
@@ -71,6 +73,32 @@ pub extern "C" fn bhtf_lookup(image: &[u8], key: &[u8], offset: &mut u32, length
 {
     let found = locate(image, key);
     let start = found.start;
+    *offset = start.at() as u32;
+    *length = found.length as u32;
+    found.number
+}
+
+// The entry of the prism with that name, of K − 4 bytes, with the largest epoch at most `epoch`: `shown` is its epoch,
+// and `offset` and `length` are its message's, as lookup gives them; all 0 when refused.
+#[no_mangle]
+pub extern "C" fn bhtf_at_epoch(
+    image: &[u8],
+    name: &[u8],
+    epoch: u32,
+    shown: &mut u32,
+    offset: &mut u32,
+    length: &mut u32,
+) -> u32
+    ensures number { λ r. ⌜ r ≡ atEpoch (now (image .entry)) (now (name .entry)) epoch .number ⌝ }
+    ensures shown { λ r. ⌜ now (shown .exit) ≡ atEpoch (now (image .entry)) (now (name .entry)) epoch .epoch ⌝ }
+    ensures offset { λ r. ⌜ now (offset .exit) ≡ atEpoch (now (image .entry)) (now (name .entry)) epoch .start ⌝ }
+    ensures length { λ r. ⌜ now (length .exit) ≡ atEpoch (now (image .entry)) (now (name .entry)) epoch .length ⌝ }
+    ensures image { λ r. ⌜ now (image .exit) ≡ now (image .entry) ⌝ }
+{
+    let dated = locate_at(image, name, epoch);
+    let found = dated.located;
+    let start = found.start;
+    *shown = dated.epoch;
     *offset = start.at() as u32;
     *length = found.length as u32;
     found.number
