@@ -276,8 +276,8 @@ gives "then there is none" 0 'there is none' "$bhtf" recover "$half"
 # ---- texts on a terminal, and in a spreadsheet ----
 
 on_terminal() { python3 tests/file/terminal.py "$bhtf" "$@" </dev/null; }
-printf '1,2,3,\033]0;title\007\033[2J\302\233\342\200\256' | "$bhtf" add "$office" ESC
-"$bhtf" add "$office" '=1+1' '1,-2,3,@SUM(1)'
+printf '1,2,3,\033]0;title\007\033[2J\302\233\342\200\256' | "$bhtf" add "$office" ESC --allow-far --allow-near
+"$bhtf" add "$office" '=1+1' '1,-2,3,@SUM(1)' --allow-far --allow-near
 quoted='1,2,3,\\x1B\]0;title\\x07\\x1B\[2J\\xC2\\x9B\\xE2\\x80\\xAE'
 gives "get on a terminal" 0 "^$quoted\$" on_terminal get "$office" ESC
 gives "get of several" 0 "^ESC<09>$quoted\$" on_terminal get "$office" ESC '=1+1'
