@@ -14,6 +14,6 @@ settings=()
 make -s OUT="$work/build" "${settings[@]}"
 # shellcheck disable=SC2086
 gcc -std=c99 -O2 -Wall -Wextra -Werror -pedantic -D_POSIX_C_SOURCE=200809L -D_FILE_OFFSET_BITS=64 -Iinclude -Icommand \
-  ../tests/original.c "$work"/build/command/{image,buffer,complain,utf8}.o "$work/build/libbhtf.a" ${LDLIBS:-} \
-  -o "$work/original"
+  ../tests/original.c $(ls "$work"/build/command/*.o | grep -v '/main\.o$') "$work/build/libbhtf.a" ${LDLIBS:-} \
+  $(pkg-config --libs expat) -lm -o "$work/original"
 "$work/original" "$work/testfile.bht"
