@@ -18,6 +18,7 @@ use bytes_words::limits::TABLE_FIELD;
 use bytes_words::limits::TABLE_OFFSET;
 use bytes_words::limits::VERSION;
 use bytes_words::limits::VERSION_WORD;
+use bytes_words::limits::WIDE_VERSION;
 use header_sizes::data_start;
 use header_sizes::key_allowed;
 use header_sizes::table_allowed;
@@ -34,7 +35,8 @@ pub fn version_known(image: &[u8]) -> bool
     ensures { λ r. ⌜ r ≡ versionKnown (now (image .entry)) ⌝ }
 {
     let version = read_u32(image, VERSION_WORD);
-    (read_u32(image, MAGIC_FIELD) == MAGIC) & ((OLDEST_VERSION <= version) & (version <= VERSION))
+    (read_u32(image, MAGIC_FIELD) == MAGIC)
+        & (((OLDEST_VERSION <= version) & (version <= VERSION)) | (version == WIDE_VERSION))
 }
 
 // Question 6 up to the offsets: the fields that are compared with each other or with a fixed number.

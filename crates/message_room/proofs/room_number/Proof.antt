@@ -6,7 +6,7 @@ use borrow.Author.Needs.{needs}
 use lib.ListN.{length}
 use Rattle.spec_file.specs.Image.{layoutOf}
 use Rattle.law_file.proofs.Opened.{opened-facts}
-use Rattle.header_layout.proofs.Shaped.{shape-head, shape-most, head-width, most-width}
+use Rattle.header_layout.proofs.Shaped.{shape-head, shape-most, head-range, most-tells}
 use Rattle.message_room.proofs.Rooms.{place-12, place-13, place-0}
 use Rattle.message_room.proofs.room_number.Statement.{statement}
 use Rattle.message_room.proofs.room_number.Tie as tie
@@ -30,7 +30,7 @@ add-if2 : tie.Need-add-if2
 add-if2 c =
     let S = (start-at-struct-known2 c) in
     let f = opened-facts _ (S .pre .accepted) in
-    omega (arith, head-width (S .pre), c .before .read-u32 .ensures, f .free-high, f .size-high)
+    omega (arith, head-range (S .pre), c .before .read-u32 .ensures, f .free-high, f .size-high)
 
 add-if2-2 : tie.Need-add-if2-2
 add-if2-2 c =
@@ -38,8 +38,8 @@ add-if2-2 c =
     let f = opened-facts _ (S .pre .accepted) in
     omega (
       arith,
-      head-width (S .pre),
-      most-width (S .pre),
+      head-range (S .pre),
+      most-tells (S .pre) (S .args .m) (omega (arith, c .before .before .if1 .left)) .small,
       c .before .before .if1 .left,
       c .before .read-u32 .ensures,
       f .free-high,

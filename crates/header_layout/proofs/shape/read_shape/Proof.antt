@@ -15,24 +15,23 @@ use Rattle.header_layout.proofs.shape.read_shape.Lts as lts
 use Rattle.header_layout.proofs.places.Offset.new.Reads as new-reads
 use Rattle.bytes_words.proofs.fields.read_u32.Reads as read-u32-reads
 
-shape-is : (img : Bytes) {k s m b f l a : ℕ} → k ≡ field img keyField → s ≡ field img slotsField
+shape-is : (img : Bytes) {k s m b f l a h : ℕ} → k ≡ field img keyField → s ≡ field img slotsField
     → m ≡ field img multiplierField → b ≡ field img startField → f ≡ field img firstField → l ≡ field img lastField
-    → a ≡ field img dataField
+    → a ≡ field img dataField → h ≡ headSize (layoutOf img)
     → _≡_ {A = Shape}
     (record {
       keylen = k;
       slots = s;
       area = record { 0 = a };
-      head = 4;
-      most = 16777215;
+      head = h;
       multiplier = m;
       basis = b;
       first = f;
       last = l;
     })
     (shapeOf img)
-unfolding shapeOf layoutOf headSize
-shape-is img ek es em eb ef el ea = rw (ek, es, em, eb, ef, el, ea)
+unfolding shapeOf layoutOf
+shape-is img ek es em eb ef el ea eh = rw (ek, es, em, eb, ef, el, ea, eh)
 
 read-u32-requires : tie.Need-read-u32-requires
 read-u32-requires c κs = search needs
@@ -67,16 +66,21 @@ cast-new c = search needs
 new-requires : tie.Need-new-requires
 new-requires c κs = search needs
 
+head-size-requires : tie.Need-head-size-requires
+head-size-requires c κs = search needs
+
 returns : tie.Need-returns
 returns c =
+    let b = c .before in
     shape-is _
-    (c .before .before .before .before .before .before .before .read-u32 .ensures)
-    (c .before .before .before .before .before .before .read-u322 .ensures)
-    (c .before .before .before .before .before .read-u323 .ensures)
-    (c .before .before .before .before .read-u324 .ensures)
-    (c .before .before .before .read-u325 .ensures)
-    (c .before .before .read-u326 .ensures)
-    (c .new .ensures ∙ c .before .read-u327 .ensures)
+    (b .before .before .before .before .before .before .before .read-u32 .ensures)
+    (b .before .before .before .before .before .before .read-u322 .ensures)
+    (b .before .before .before .before .before .read-u323 .ensures)
+    (b .before .before .before .before .read-u324 .ensures)
+    (b .before .before .before .read-u325 .ensures)
+    (b .before .before .read-u326 .ensures)
+    (b .new .ensures ∙ b .before .read-u327 .ensures)
+    (c .head-size .ensures)
 
 pub read-shape-spec : {M : Type 1} → statement M
 read-shape-spec =
@@ -93,4 +97,5 @@ read-shape-spec =
     read-u32-requires-7
     cast-new
     new-requires
+    head-size-requires
     returns)

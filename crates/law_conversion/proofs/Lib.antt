@@ -1,0 +1,5 @@
+pub mod Entries
+pub mod Source
+pub mod Carrying
+pub mod Base
+pub mod Call
