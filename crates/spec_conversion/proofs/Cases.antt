@@ -5,7 +5,7 @@ use mathlib.Core.List.{List, [], _∷_, _++_}
 use Rattle.spec_file.specs.Bytes.{Bytes, part, store, zeros}
 use Rattle.spec_file.specs.Calls.{Answer}
 use Rattle.spec_file.specs.Lists.{Call, adding, deleting, looking}
-use Rattle.spec_file.proofs.CasesBase.{inspect-definitions, headed, after, answered, one, two, table, refused, done, shows}
+use Rattle.spec_file.proofs.CasesBase.{inspect-definitions, headed, after, answered, one, two, table, refused, done, shows, shows-none}
 use Rattle.spec_compaction.specs.Compact.{isSound}
 use Rattle.spec_conversion.specs.Convert.{otherMajor, otherVersion, recast, otherLayout, bareSlot, bareSlots, bareImage, slotWith, carried, carriedSlot, carriedAt, carriedFrom, converted, needs, needsFrom, told, toldFrom, lengthsTold, targetHolds, convertNumber, convert}
 
@@ -41,7 +41,7 @@ wide-data = refl
 
 -- a list goes on in the target, where U grows by 5 and one byte
 wide-goes-on : answered (looking two ∷ looking (4 ∷ []) ∷ adding (4 ∷ []) (88 ∷ []) 2 ∷ looking (4 ∷ []) ∷ []) widened
-    ≡ shows 3 (84 ∷ 85 ∷ 86 ∷ []) ∷ record { number = 0; amount = 0; text = mathlib.Core.Option.none } ∷ done ∷ shows 1 (88 ∷ []) ∷ []
+    ≡ shows 3 (84 ∷ 85 ∷ 86 ∷ []) ∷ shows-none ∷ done ∷ shows 1 (88 ∷ []) ∷ []
 unfolding convert-definitions narrow widened answered
 wide-goes-on = refl
 

@@ -4,7 +4,9 @@
 --     recast v g           the layout g in the version v
 --     bareImage img L      all of it but the messages: L bytes, each taken slot without an offset, X = D
 --     converted img L      with the active messages in new space, one behind the other in the order of their offsets
---     convert img L        the call, with a target of L bytes: the state afterwards is the target
+--     convertNumber img L  the number that it is refused with, 0 where it is accepted
+--     convert img L        the call in a list, with a target of L bytes: the state afterwards is the target
+--     convertInto img t    the target's bytes afterwards, which were t
 -- Assumes nothing.
 use Prim.Native.Nat.{ℕ, zero, suc, _+_, _-_, _*_}
 use mathlib.Core.Bool.{Bool, true, false, cond, not, _&&_, _||_}
@@ -128,3 +130,7 @@ unfoldable pub convert : Bytes → ℕ → Outcome Bytes
 convert img L =
     let n : ℕ = convertNumber img L in
     record { after = settled n img (converted img L); answer = plain n }
+
+-- of the slice that is lent for it: "carries a sound image into a second slice"; a refused call changes no byte of it
+unfoldable pub convertInto : Bytes → Bytes → Bytes
+convertInto img target = settled (convertNumber img (length target)) target (converted img (length target))
