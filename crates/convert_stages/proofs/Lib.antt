@@ -1,0 +1,2 @@
+-- Laws of a target in the middle of a conversion.
+pub mod Below
