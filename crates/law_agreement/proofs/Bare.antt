@@ -33,13 +33,13 @@ use Rattle.law_file.proofs.Probe.{by-search, search-met, search-finds}
 use Rattle.law_file.proofs.Insert.{entry-taken, findable-keys}
 use Rattle.law_file.proofs.Stretch.{none-stored}
 use Rattle.law_compaction.proofs.Packing.{startAt, Live}
 use Rattle.law_agreement.proofs.File.{Allowed, allowed-length, allowed-zero, File, file-some, pointOf, pointOf-some, pointOf-none, valueOf, by-entry}
 use Rattle.law_agreement.proofs.Entries.{Distinct, find-none, find-here, find-on}
 use Rattle.law_agreement.proofs.Reflect.{Reflects, termsFor}
 use Rattle.law_agreement.proofs.Checked.{taken-allowed, entry-slot}
 use Rattle.spec_conversion.specs.Convert.{otherMajor, otherVersion, recast, otherLayout, bareSlot, bareSlots, bareImage}
-use Rattle.law_conversion.proofs.Carrying.{Carrying}
-use Rattle.law_conversion.proofs.Source.{is-taken, allowed-at, book-has, book-slot}
+use Rattle.law_agreement.proofs.Carrying.{Carrying}
+use Rattle.law_agreement.proofs.Named.{is-taken, allowed-at, book-has, book-slot}
 use Rattle.law_file.proofs.Bytes.{by-same}
 
 -- ---- the book without texts

@@ -18,30 +18,26 @@ use Rattle.spec_file.specs.Image.{field, majorOf, wide, widthOf, mostOf, dataSt
 use Rattle.spec_file.specs.Messages.{headSize, lengthAt, textAt, isActive, shown}
 use Rattle.spec_file.specs.Questions.{Question, ask, firstNo, sizeAllowed, versionKnown, headerSound, opened, openNumber, nameAllowed}
 use Rattle.spec_file.specs.Calls.{Outcome, plain, settled}
-use Rattle.spec_file.specs.Lists.{answers, stateAfter}
 use Rattle.spec_file.specs.Inspect.{taken, check, sound}
 use Rattle.spec_compaction.specs.Compact.{isSound}
-use Rattle.spec_book.specs.Book.{Entry, Terms, Book, find, stepOf, trimmedAll, spaceFor, spaceForAll, bookStep}
-use Rattle.spec_book.specs.Steps.{Step, perform}
-use Rattle.spec_book.specs.Reopened.{entryAt, entriesFrom, bookOf, Starts}
+use Rattle.spec_book.specs.Book.{Entry, Terms, Book, find, stepOf, trimmedAll, spaceFor, spaceForAll, otherTerms, textFits, textsFit, convertedBook, convertAsks, bookConvert}
+use Rattle.spec_book.specs.Reopened.{entryAt, entriesFrom, bookOf}
 use Rattle.law_file.proofs.Tests.{by-bool, by-eq, and-left, and-right, and-true, not-both}
 use Rattle.law_file.proofs.Bytes.{part-length}
 use Rattle.law_file.proofs.Opened.{Opened, facts-opened, firstNo-yes, firstNo-no, firstNo-head, firstNo-tail, firstNo-opened}
 use Rattle.law_file.proofs.Outcomes.{settled-yes, settled-no}
 use Rattle.law_compaction.proofs.Packing.{startAt, Live, Stretches}
 use Rattle.law_agreement.proofs.File.{File, file-data}
 use Rattle.law_agreement.proofs.Entries.{Distinct, find-none, find-here, find-on}
 use Rattle.law_agreement.proofs.Reflect.{Reflects, Reflected, termsFor}
 use Rattle.law_agreement.proofs.Checked.{file-check}
 use Rattle.law_agreement.proofs.Compact.{file-stretches}
 use Rattle.law_agreement.proofs.Simple.{Same, Alike, same-refused, same-accepted}
 use Rattle.law_agreement.proofs.Reopened.{from-taken, from-vacant, file-reflects}
 use Rattle.law_agreement.proofs.Trimmed.{space-same}
-use Rattle.law_agreement.proofs.Theorem.{step, points-agree, started}
 use Rattle.spec_conversion.specs.Convert.{otherMajor, recast, otherLayout, bareImage, carriedFrom, converted, needs, needsFrom, told, toldFrom, lengthsTold, targetHolds, convertNumber, convert}
-use Rattle.spec_conversion.specs.Steps.{Turn, stepping, converting, performTurn, otherTerms, textFits, textsFit, convertedBook, convertAsks, bookConvert, bookTurn, TurnsAgree, AgreementOfTurns}
-use Rattle.law_conversion.proofs.Carrying.{Carrying, carry-all, reflects-carried}
-use Rattle.law_conversion.proofs.Base.{bareBook, base-carrying}
+use Rattle.law_agreement.proofs.Carrying.{Carrying, carry-all, reflects-carried}
+use Rattle.law_agreement.proofs.Bare.{bareBook, base-carrying}
 
 -- ---- question 20 by entries
 
@@ -204,6 +200,10 @@ module _ (img : Bytes) (b : Book) (r : Reflects (layoutOf img) img b) (L : ℕ) 
   unfolding layoutOf
   data-is = sym (f .opened .data-at)
 
+  other-data : dataStart (H .K) (H .N) ≡ G .D
+  unfolding otherLayout recast
+  other-data = data-is
+
   terms-are : otherTerms (b .terms) L ≡ termsFor H L
   terms-are = ap (λ (t : Terms). otherTerms t L) (r .terms) ∙ other
     where
@@ -255,7 +255,7 @@ module _ (img : Bytes) (b : Book) (r : Reflects (layoutOf img) img b) (L : ℕ) 
   is-book : firstNo (convertAsks b L) ≡ firstNo asks
   unfolding convertAsks asks targetHolds
   is-book =
-      rw (terms-are, r .terms, told-is, needs-is, data-is) refl
+      rw (terms-are, told-is, needs-is, other-data) refl
 
   same-D : H .D ≡ G .D
   unfolding otherLayout recast
@@ -331,42 +331,12 @@ module _ (img : Bytes) (b : Book) (r : Reflects (layoutOf img) img b) (L : ℕ) 
   same-layout =
       by-eq (firstNo (convertAsks b L)) 0
       (λ z. (H, accept z))
-      (λ z. (G, same-refused G img b r (convertNumber img L) (converted img L) (convertAsks b L) (convertedBook b L)
-      (is-file ∙ sym is-book) z))
+      (λ z. (
+        G,
+        same-refused G img b r (convertNumber img L) (converted img L) (convertAsks b L) (convertedBook b L)
+            (is-file ∙ sym is-book) z,
+      ))
 
 pub same-convert : (img : Bytes) (b : Book) → Reflected img b → (L : ℕ) → Alike (convert img L) (bookConvert b L)
 same-convert img b (g, r) L =
     same-layout img b (subst (λ (l : Layout). Reflects l img b) (sym (r .file .layout)) r) L
-
--- ---- lists
-
-pub turn : (img : Bytes) (b : Book) → Reflected img b → (t : Turn) → Alike (performTurn t img) (bookTurn t b)
-unfolding performTurn bookTurn
-turn img b r (stepping s) = step img b r s
-turn img b r (converting L) = same-convert img b r L
-
-turn-after : (img : Bytes) (b : Book) → Reflected img b → (t : Turn)
-    → Reflected (performTurn t img .after) (bookTurn t b .after)
-turn-after img b r t = (turn img b r t .0, turn img b r t .1 .after)
-
-turns-answers : (ts : List Turn) (img : Bytes) (b : Book) → Reflected img b
-    → answers performTurn ts img ≡ answers bookTurn ts b
-unfolding answers
-turns-answers [] img b r = refl
-turns-answers (t ∷ ts) img b r =
-    ap₂ _∷_ (turn img b r t .1 .answer)
-    (turns-answers ts (performTurn t img .after) (bookTurn t b .after) (turn-after img b r t))
-
-turns-after : (ts : List Turn) (img : Bytes) (b : Book) → Reflected img b
-    → Reflected (stateAfter performTurn ts img) (stateAfter bookTurn ts b)
-unfolding stateAfter
-turns-after [] img b r = r
-turns-after (t ∷ ts) img b r =
-    turns-after ts (performTurn t img .after) (bookTurn t b .after) (turn-after img b r t)
-
-pub agreement-of-turns : AgreementOfTurns
-unfolding AgreementOfTurns TurnsAgree
-agreement-of-turns img b s ts = (
-  turns-answers ts img b (started img b s),
-  λ name. points-agree (stateAfter performTurn ts img) (stateAfter bookTurn ts b) (turns-after ts img b (started img b s)) name,
-)

@@ -1,5 +1,0 @@
-pub mod Entries
-pub mod Source
-pub mod Carrying
-pub mod Base
-pub mod Call
