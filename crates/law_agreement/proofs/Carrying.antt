@@ -182,9 +182,10 @@ module _ (g h : Layout) (img : Bytes) (b : Book) (r : Reflects g img b) (eqK : h
       nothing : {a : Option Bytes} → a ≡ none → spaceFor (headSize h) a ≡ 0
       nothing p = unfold spaceFor in ap (spaceFor (headSize h)) p
 
-  -- ---- the message of slot i, which begins at p
+  -- ---- the message of slot i, which begins at p or above
 
-  module _ (p : ℕ) (t : Bytes) (c : Book) (s : C p t c) (i : ℕ) (v : Live g img i) (at : startAt g img i ≡ p) where
+  module _ (p : ℕ) (t : Bytes) (c : Book) (s : C p t c) (i : ℕ) (v : Live g img i)
+      (late : p ≤ startAt g img i) where
     abbrev k : Bytes
     k = key i
 
@@ -204,7 +205,7 @@ module _ (g h : Layout) (img : Bytes) (b : Book) (r : Reflects g img b) (eqK : h
     a′ = allowed′ i (v .low) (v .is)
 
     bare-here : find k (c .entries) ≡ some (bare k)
-    bare-here = s .waiting i (v .low) (v .is) (λ q. omega (arith, at))
+    bare-here = s .waiting i (v .low) (v .is) (λ q. late)
 
     finds : search h t k ≡ met i
     unfolding vacant
@@ -212,7 +213,7 @@ module _ (g h : Layout) (img : Bytes) (b : Book) (r : Reflects g img b) (eqK : h
         search-finds h t k (file-some F) i (F .table) low′
         (ap allZero (s .keys i (v .low)) ∙ allowed-zero h k a′) (s .keys i (v .low))
 
-    no-offset : offsetOf h (slot h t i) ≡ 0
+    pub no-offset : offsetOf h (slot h t i) ≡ 0
     unfolding bare
     no-offset =
         let e : bare k ≡ valueOf h t k (offsetOf h (slot h t i)) =
@@ -261,14 +262,14 @@ module _ (g h : Layout) (img : Bytes) (b : Book) (r : Reflects g img b) (eqK : h
         ))
         (λ n. plan-le s name e (sym (other name n) ∙ q)))
 
-    room : field t freeField + headSize h + length m ≤ length t
-    room = omega (arith, le, more, s .related .used, s .space, s .size, holds)
+    pub carry-room : field t freeField + headSize h + length m ≤ length t
+    carry-room = omega (arith, le, more, s .related .used, s .space, s .size, holds)
 
     related′ : Reflects h t′ (placed c k m)
-    related′ = carry h t c (s .related) k a′ m short room i finds no-offset
+    related′ = carry h t c (s .related) k a′ m short carry-room i finds no-offset
 
     spaced : Spaced h t m
-    spaced = space-is h t F m (omega (arith, short, file-most F)) room
+    spaced = space-is h t F m (omega (arith, short, file-most F)) carry-room
 
     grown-room : Room h (length (takeSpace h t m))
     grown-room = rw (spaced .kept .fixed .size) (file-room F)
@@ -305,8 +306,8 @@ module _ (g h : Layout) (img : Bytes) (b : Book) (r : Reflects g img b) (eqK : h
     unfolding placed entered
     used-is = refl
 
-    pub carry-live : C (suc p) t′ (placed c k m)
-    carry-live =
+    pub carry-live : startAt g img i ≡ p → C (suc p) t′ (placed c k m)
+    carry-live at =
         record {
           related = related′;
           size = size′;
@@ -374,7 +375,7 @@ module _ (g h : Layout) (img : Bytes) (b : Book) (r : Reflects g img b) (eqK : h
       rw (a, y) (
         _,
         subst (λ (q : ℕ). C (suc p) (carried h t i (key i) (textAt g img q)) (placed c (key i) (text i))) e
-            (carry-live p t c s i v e),
+            (carry-live p t c s i v (omega (arith, e)) e),
       )))
       (λ a. rw a (c, carry-none p t c s (λ i v e. not-both (isActive img p) (ap (isActive img) (sym e) ∙ v .active) a)))
 
