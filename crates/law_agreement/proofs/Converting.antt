@@ -149,7 +149,7 @@ module _ (g h : Layout) (img : Bytes) (f : File g img) where
       here k v t = unfold told in (rw (v .is, v .active) at t)
 
 -- question 1, by numbers
-abbrev sizeFacts : ℕ → Type 0
+abbrev pub sizeFacts : ℕ → Type 0
 sizeFacts L = (L % pageSize ≡ 0) × (pageSize ≤ L) × (L ≤ mostImage)
 
 size-facts : (L : ℕ) → sizeAllowed L ≡ true → sizeFacts L
@@ -216,7 +216,7 @@ module _ (img : Bytes) (b : Book) (r : Reflects (layoutOf img) img b) (L : ℕ) 
           (λ y. unfold otherTerms otherLayout recast headSize widthOf mostOf in rw (width y, other-yes (majorOf img) y, data-is) refl)
           (λ n. unfold otherTerms otherLayout recast headSize widthOf mostOf in rw (width n, other-no (majorOf img) n, data-is) refl)
 
-  needs-is : needsFrom G H img (G .N) 0 ≡ spaceForAll (headSize H) (b .entries)
+  pub needs-is : needsFrom G H img (G .N) 0 ≡ spaceForAll (headSize H) (b .entries)
   needs-is =
       needs-entries G H img f (G .N) 0 (omega arith)
       ∙ ap (spaceForAll (headSize H)) (sym entries-read)
@@ -230,10 +230,10 @@ module _ (img : Bytes) (b : Book) (r : Reflects (layoutOf img) img b) (L : ℕ) 
       ∙ sym (fits-same (H .most) (b .entries) (bookOf img .entries) (r .distinct) (read-off .distinct) same-book)
 
   -- 1, 20 and 13 decide
-  asks : List Question
+  pub asks : List Question
   asks = ask 1 (sizeAllowed L) ∷ ask 20 (lengthsTold img) ∷ ask 13 (targetHolds img L) ∷ []
 
-  is-file : convertNumber img L ≡ firstNo asks
+  pub is-file : convertNumber img L ≡ firstNo asks
   unfolding convertNumber asks isSound openNumber opened
   is-file =
       let z = facts-opened img (f .opened) in
@@ -257,15 +257,15 @@ module _ (img : Bytes) (b : Book) (r : Reflects (layoutOf img) img b) (L : ℕ) 
   is-book =
       rw (terms-are, told-is, needs-is, other-data) refl
 
-  same-D : H .D ≡ G .D
+  pub same-D : H .D ≡ G .D
   unfolding otherLayout recast
   same-D = refl
 
-  same-K : H .K ≡ G .K
+  pub same-K : H .K ≡ G .K
   unfolding otherLayout recast
   same-K = refl
 
-  same-N : H .N ≡ G .N
+  pub same-N : H .N ≡ G .N
   unfolding otherLayout recast
   same-N = refl
 
@@ -278,7 +278,7 @@ module _ (img : Bytes) (b : Book) (r : Reflects (layoutOf img) img b) (L : ℕ) 
   tells-all h = h
 
   -- accepted
-  book-is : convertedBook b L
+  pub book-is : convertedBook b L
       ≡ record {
         terms = termsFor H L;
         entries = trimmedAll (b .entries);
@@ -287,33 +287,51 @@ module _ (img : Bytes) (b : Book) (r : Reflects (layoutOf img) img b) (L : ℕ) 
   unfolding convertedBook
   book-is = rw terms-are refl
 
-  accepted : firstNo asks ≡ 0 → Reflects H (converted img L) (convertedBook b L)
-  unfolding converted
-  accepted z₀ =
-      let z : firstNo (ask 1 (sizeAllowed L) ∷ ask 20 (lengthsTold img) ∷ ask 13 (targetHolds img L) ∷ []) ≡ 0 =
-      unfold asks in z₀ in
-      let size : sizeAllowed L ≡ true = firstNo-head 1 (sizeAllowed L) _ (λ q. omega arith) z in
-      let t₁ = firstNo-tail 1 (sizeAllowed L) _ (λ q. omega arith) z in
-      let tells : lengthsTold img ≡ true = firstNo-head 20 (lengthsTold img) _ (λ q. omega arith) t₁ in
-      let fits : targetHolds img L ≡ true =
-      firstNo-head 13 (targetHolds img L) [] (λ q. omega arith)
-      (firstNo-tail 20 (lengthsTold img) _ (λ q. omega arith) t₁) in
-      let holds : G .D + needsFrom G H img (G .N) 0 ≤ L = holds-le fits in
-      let n : sizeFacts L = size-facts L size in
-      let D : H .D ≡ G .D = same-D in
-      let lives : (i : ℕ) → Live G img i → lengthAt G img (startAt G img i) ≤ H .most =
-      λ i v. told-live G H img f (G .N) 0 (tells-all tells) i (omega arith) (omega (arith, v .low)) v in
-      let room : H .D + spaceForAll (headSize H) (b .entries) ≤ L = omega (arith, D, holds, needs-is) in
-      let S₀ = file-stretches G img f in
-      let start = base-carrying img b r L (n .0) (n .1) (n .2) (omega (arith, holds)) (S₀ .low) in
-      let w = carry-all G H img b r same-K same-N lives L room
-      (field img freeField - G .D) (G .D) (bareImage img L) (bareBook H L b) start in
-      let e : G .D + (field img freeField - G .D) ≡ field img freeField = omega (arith, S₀ .free-low) in
-      subst (Reflects H (carriedFrom G H img (field img freeField - G .D) (G .D) (bareImage img L))) (sym book-is)
-      (reflects-carried G H img b r same-K same-N lives L room
-      (carriedFrom G H img (field img freeField - G .D) (G .D) (bareImage img L)) (w .0)
-      (subst (λ (p : ℕ). Carrying G H img b L p
-      (carriedFrom G H img (field img freeField - G .D) (G .D) (bareImage img L)) (w .0)) e (w .1)))
+  -- where none of them answers no
+  module _ (z₀ : firstNo asks ≡ 0) where
+    z : firstNo (ask 1 (sizeAllowed L) ∷ ask 20 (lengthsTold img) ∷ ask 13 (targetHolds img L) ∷ []) ≡ 0
+    unfolding asks
+    z = z₀
+
+    z₁ : firstNo (ask 20 (lengthsTold img) ∷ ask 13 (targetHolds img L) ∷ []) ≡ 0
+    z₁ = firstNo-tail 1 (sizeAllowed L) _ (λ q. omega arith) z
+
+    pub size : sizeFacts L
+    size = size-facts L (firstNo-head 1 (sizeAllowed L) _ (λ q. omega arith) z)
+
+    -- each length is one that the target's headers can tell
+    pub lengths : (i : ℕ) → Live G img i → lengthAt G img (startAt G img i) ≤ H .most
+    lengths i v =
+        told-live G H img f (G .N) 0
+        (tells-all (firstNo-head 20 (lengthsTold img) _ (λ q. omega arith) z₁)) i (omega arith) (omega (arith, v .low))
+        v
+
+    pub holds : G .D + needsFrom G H img (G .N) 0 ≤ L
+    holds =
+        holds-le
+        (firstNo-head 13 (targetHolds img L) [] (λ q. omega arith)
+        (firstNo-tail 20 (lengthsTold img) _ (λ q. omega arith) z₁))
+
+    pub room : H .D + spaceForAll (headSize H) (b .entries) ≤ L
+    room = omega (arith, same-D, holds, needs-is)
+
+    -- the target with the messages of so many places, and its book
+    pub carrying : (left : ℕ)
+        → (c : Book) × Carrying G H img b L (G .D + left) (carriedFrom G H img left (G .D) (bareImage img L)) c
+    carrying left =
+        carry-all G H img b r same-K same-N lengths L room left (G .D) (bareImage img L) (bareBook H L b)
+        (base-carrying img b r L (size .0) (size .1) (size .2) (omega (arith, holds)) (file-stretches G img f .low))
+
+    pub accepted : Reflects H (converted img L) (convertedBook b L)
+    unfolding converted
+    accepted =
+        let all = field img freeField - G .D in
+        let w = carrying all in
+        let e : G .D + all ≡ field img freeField = omega (arith, file-stretches G img f .free-low) in
+        subst (Reflects H (carriedFrom G H img all (G .D) (bareImage img L))) (sym book-is)
+        (reflects-carried G H img b r same-K same-N lengths L room
+        (carriedFrom G H img all (G .D) (bareImage img L)) (w .0)
+        (subst (λ (p : ℕ). Carrying G H img b L p (carriedFrom G H img all (G .D) (bareImage img L)) (w .0)) e (w .1)))
 
   accept : firstNo (convertAsks b L) ≡ 0
       → Same H (record { after = settled (convertNumber img L) img (converted img L); answer = plain (convertNumber img L) })
