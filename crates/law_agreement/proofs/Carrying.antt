@@ -125,7 +125,7 @@ module _ (g h : Layout) (img : Bytes) (b : Book) (r : Reflects g img b) (eqK : h
   one-slot : (i j : ℕ) → i < g .N → j < g .N → taken g img i ≡ true → taken g img j ≡ true → key i ≡ key j → i ≡ j
   one-slot i j li lj ti tj e = f .table .distinct i j li lj (is-taken g img b r i ti) (is-taken g img b r j tj) e
 
-  text-length : (i : ℕ) → Live g img i → length (text i) ≡ lengthAt g img (startAt g img i)
+  pub text-length : (i : ℕ) → Live g img i → length (text i) ≡ lengthAt g img (startAt g img i)
   unfolding textAt
   text-length i v =
       part-length img (startAt g img i + headSize g) (lengthAt g img (startAt g img i))
