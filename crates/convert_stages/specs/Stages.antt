@@ -33,23 +33,22 @@ pub record Converting (img t : Bytes) (from to : Shape) (p : ℕ) : Type 0 where
 
 -- ---- one message
 
-pub record Carriable (img t : Bytes) (from to : Shape) (i : ℕ) : Type 0 where
+-- the message at o of the source can be carried into slot i of the target
+pub record Carriable (img t : Bytes) (from to : Shape) (i o : ℕ) : Type 0 where
   pub source : Open img from
   pub target : Open t to
-  pub low : i < from .slots
   pub there : i < to .slots
-  pub sound : messageSound (layoutOf img) img (offsetIn img i) ≡ true
-  pub fits : isActive img (offsetIn img i) ≡ true → Fits t to (lengthAt (layoutOf img) img (offsetIn img i))
+  pub sound : messageSound (layoutOf img) img o ≡ true
+  pub fits : isActive img o ≡ true → Fits t to (lengthAt (layoutOf img) img o)
 
 -- its text in new space of the target, and the slot's offset, which leads there; nothing where it is not active
-unfoldable pub carriedTo : Bytes → Bytes → ℕ → Bytes
-carriedTo img t i =
-    cond (isActive img (offsetIn img i))
-    (carried (layoutOf t) t i (keyIn t i) (textAt (layoutOf img) img (offsetIn img i))) t
+unfoldable pub carriedTo : Bytes → Bytes → ℕ → ℕ → Bytes
+carriedTo img t i o =
+    cond (isActive img o) (carried (layoutOf t) t i (keyIn t i) (textAt (layoutOf img) img o)) t
 
 pub record Passed (img : Bytes) (from : Shape) (t t′ : Bytes) (i : ℕ) : Type 0 where
   pub none : from .slots ≤ i → t′ ≡ t
-  pub one : i < from .slots → t′ ≡ carriedTo img t i
+  pub one : i < from .slots → t′ ≡ carriedTo img t i (offsetIn img i)
 
 -- ---- a window
 
