@@ -4,11 +4,10 @@
 --     needs-on, told-on         one slot, and those behind it
 --     needs-none, told-none     behind the last slot
 -- Assumes nothing.
-use mathlib.Core.Path.{_≡_, refl, ap, ap₂, _∙_}
+use mathlib.Core.Path.{_≡_, refl, ap, _∙_}
 use Prim.Native.Nat.{ℕ, suc, _+_, _-_, _≤_, _<_}
 use native.Mathlib.Omega.{arith}
 use mathlib.Core.Bool.{true, false, not, _&&_}
-use lib.ListN.{length}
 use lib.Dec.{leb}
 use Rattle.spec_file.specs.Bytes.{Bytes}
 use Rattle.spec_file.specs.Limits.{mostImage}

@@ -3,10 +3,9 @@
 use native.Mathlib.Omega.{arith}
 use mathlib.Core.Path.{_≡_, sym, ap, _∙_, subst}
 use Prim.Native.Nat.{ℕ, _+_, _-_, _*_, _≤_, _<_}
-use mathlib.Core.Bool.{Bool, true, _&&_, and-assoc, and-true}
+use mathlib.Core.Bool.{Bool, _&&_, and-assoc, and-true}
 use Rattle.spec_file.specs.Limits.{mostImage, mostSlots}
 use Rattle.spec_file.specs.Image.{layoutOf}
-use Rattle.spec_file.specs.Messages.{headSize}
 use Rattle.spec_conversion.specs.Convert.{otherLayout, needs, needsFrom, told, toldFrom}
 use Rattle.table_search.proofs.Headers.{header, layout-slots}
 use Rattle.message_stretch.specs.Checked.{Readable}

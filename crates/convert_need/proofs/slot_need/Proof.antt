@@ -85,7 +85,8 @@ length-at-requires : tie.Need-length-at-requires
 length-at-requires c κs = (S c .pre .0 .opened, inside (O c))
 
 length-is : (c : tie.After-length-at)
-    → c .length-at .result ≡ lengthAt (layoutOf (img (c .before))) (img (c .before)) (offsetIn (img (c .before)) (i (c .before)))
+    → c .length-at .result
+    ≡ lengthAt (layoutOf (img (c .before))) (img (c .before)) (offsetIn (img (c .before)) (i (c .before)))
 length-is c =
     let E = c .before in
     c .length-at .ensures ∙ ap (lengthAt (layoutOf (img E)) (img E)) (O E .offset-of .ensures)
