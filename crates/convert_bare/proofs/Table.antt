@@ -52,7 +52,8 @@ module _ (g : Layout) (img : Bytes) (r : Room g (length img)) where
 
   -- of the slots from i on, slot i is stored and those behind it are to come
   pub keys-on : (t : Bytes) (i : ℕ) → i < g .N → g .D ≤ length t
-      → store (store t (slotStart g i) (bareSlot g img i)) (slotStart g (i + 1)) (bareSlots g img (g .N - (i + 1)) (i + 1))
+      → store (store t (slotStart g i) (bareSlot g img i)) (slotStart g (i + 1))
+      (bareSlots g img (g .N - (i + 1)) (i + 1))
       ≡ store t (slotStart g i) (bareSlots g img (g .N - i) i)
   unfolding slotStart bareSlots
   keys-on t i l d =

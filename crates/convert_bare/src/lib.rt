@@ -33,7 +33,7 @@ fn carry(source: &[u8], target: &mut [u8], p: usize, n: usize)
     copy(&mut target[p..end], &source[p..end]);
 }
 
-// Writes the bytes of the version that the one with this first byte is carried to: 1, 0, 2 from 2.0, and 2, 0, 0 from 1.
+// Writes the version's bytes, by the first one of the version that is carried over: 1, 0, 2 for 2.0, else 2, 0, 0.
 fn write_version(part: &mut [u8], major: u8)
     requires { ⌜ length (now part) ≡ 3 ⌝ }
     ensures { λ _. ⌜ now (part .exit) ≡ otherVersion major ⌝ }
