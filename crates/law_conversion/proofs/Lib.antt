@@ -1,5 +1,3 @@
-pub mod Entries
-pub mod Source
-pub mod Carrying
-pub mod Base
-pub mod Call
+-- Laws of the converter, of an accepted conversion.
+pub mod Ready  -- the target while messages are carried into it: what each step may rely on
+pub mod Places  -- the messages carried place by place

@@ -1,1 +1,2 @@
-// Document 02, Job 2: compaction as a definition, and cases of it. It holds no code; that is in crates/packing.
+// Document 02, Job 11: laws of the converter, of an accepted conversion. It holds no code; that is in
+// crates/call_convert.

@@ -33,13 +33,13 @@ use Rattle.law_file.proofs.Probe.{by-search, search-met, search-finds}
 use Rattle.law_file.proofs.Insert.{entry-taken, findable-keys}
 use Rattle.law_file.proofs.Stretch.{none-stored}
 use Rattle.law_compaction.proofs.Packing.{startAt, Live}
 use Rattle.law_agreement.proofs.File.{Allowed, allowed-length, allowed-zero, File, file-some, pointOf, pointOf-some, pointOf-none, valueOf, by-entry}
 use Rattle.law_agreement.proofs.Entries.{Distinct, find-none, find-here, find-on}
 use Rattle.law_agreement.proofs.Reflect.{Reflects, termsFor}
 use Rattle.law_agreement.proofs.Checked.{taken-allowed, entry-slot}
 use Rattle.spec_conversion.specs.Convert.{otherMajor, otherVersion, recast, otherLayout, bareSlot, bareSlots, bareImage}
-use Rattle.law_conversion.proofs.Carrying.{Carrying}
-use Rattle.law_conversion.proofs.Source.{is-taken, allowed-at, book-has, book-slot}
+use Rattle.law_agreement.proofs.Carrying.{Carrying}
+use Rattle.law_agreement.proofs.Named.{is-taken, allowed-at, book-has, book-slot}
 use Rattle.law_file.proofs.Bytes.{by-same}
 
 -- ---- the book without texts
@@ -89,7 +89,7 @@ space-bare head (e ∷ es) = omega (arith, space-bare head es)
 
 -- ---- bytes
 
-byte-part : (b : Bytes) (p n i : ℕ) → i < n → getD (part b p n) i 0 ≡ getD b (p + i) 0
+pub byte-part : (b : Bytes) (p n i : ℕ) → i < n → getD (part b p n) i 0 ≡ getD b (p + i) 0
 unfolding part
 byte-part b p n i h = getD-take n (drop p b) i 0 h ∙ getD-drop p b i 0
 
@@ -97,7 +97,7 @@ part-behind : (a c : Bytes) (k m : ℕ) → part (a ++ c) (length a + k) m ≡ p
 unfolding part
 part-behind a c k m = ap (take m) (drop-append-add a c k)
 
-length-version : (v : ℕ) → length (otherVersion v) ≡ 3
+pub length-version : (v : ℕ) → length (otherVersion v) ≡ 3
 unfolding otherVersion
 length-version v = by-bool (wide v) (λ y. rw y refl) (λ n. rw n refl)
 
@@ -109,7 +109,7 @@ module _ (img : Bytes) (o : Opened img) (L : ℕ) (page : L % pageSize ≡ 0) (s
   abbrev h : Layout
   h = otherLayout img
 
-  source-room : Room g (length img)
+  pub source-room : Room g (length img)
   source-room = opened-room img o
 
   -- ---- the slots that are written
@@ -158,10 +158,10 @@ module _ (img : Bytes) (o : Opened img) (L : ℕ) (page : L % pageSize ≡ 0) (s
   abbrev slots : Bytes
   slots = bareSlots g img (g .N) 0
 
-  length-slots : length slots ≡ g .N * slotSize g
+  pub length-slots : length slots ≡ g .N * slotSize g
   length-slots = length-bareSlots (g .N) 0 (omega arith)
 
-  length-scramble : length (scramble img) ≡ 4 * (field img lastField - field img firstField + 1)
+  pub length-scramble : length (scramble img) ≡ 4 * (field img lastField - field img firstField + 1)
   unfolding scramble
   length-scramble =
       part-length img scrambleStart (4 * (field img lastField - field img firstField + 1))
@@ -169,69 +169,69 @@ module _ (img : Bytes) (o : Opened img) (L : ℕ) (page : L % pageSize ≡ 0) (s
 
   -- ---- the image, in five steps
 
-  s₁ : Bytes
+  pub s₁ : Bytes
   s₁ = store (zeros L) 0 (part img 0 freeField)
 
-  s₂ : Bytes
+  pub s₂ : Bytes
   s₂ = store s₁ versionField (otherVersion (majorOf img))
 
-  s₃ : Bytes
+  pub s₃ : Bytes
   s₃ = store s₂ scrambleStart (scramble img)
 
-  s₄ : Bytes
+  pub s₄ : Bytes
   s₄ = store s₃ tableStart slots
 
-  s₅ : Bytes
+  pub s₅ : Bytes
   s₅ = setField s₄ freeField (g .D)
 
-  base : Bytes
+  pub base : Bytes
   base = setField s₅ pageField (lastPage (g .D) (g .D))
 
-  is-base : bareImage img L ≡ base
+  pub is-base : bareImage img L ≡ base
   unfolding bareImage setFree s₁ s₂ s₃ s₄ s₅ base
   is-base = refl
 
   front-length : length (part img 0 freeField) ≡ freeField
   front-length = part-length img 0 freeField (omega (arith, o .size-low))
 
-  in₁ : 0 + length (part img 0 freeField) ≤ length (zeros L)
+  pub in₁ : 0 + length (part img 0 freeField) ≤ length (zeros L)
   in₁ = omega (arith, front-length, length-zeros L, size-low)
 
-  len₁ : length s₁ ≡ L
+  pub len₁ : length s₁ ≡ L
   unfolding s₁
   len₁ = length-store (zeros L) 0 (part img 0 freeField) in₁ ∙ length-zeros L
 
-  in₂ : versionField + length (otherVersion (majorOf img)) ≤ length s₁
+  pub in₂ : versionField + length (otherVersion (majorOf img)) ≤ length s₁
   in₂ = omega (arith, len₁, length-version (majorOf img), size-low)
 
-  len₂ : length s₂ ≡ L
+  pub len₂ : length s₂ ≡ L
   unfolding s₂
   len₂ = length-store s₁ versionField (otherVersion (majorOf img)) in₂ ∙ len₁
 
-  in₃ : scrambleStart + length (scramble img) ≤ length s₂
+  pub in₃ : scrambleStart + length (scramble img) ≤ length s₂
   in₃ = omega (arith, len₂, length-scramble, o .last, size-low)
 
-  len₃ : length s₃ ≡ L
+  pub len₃ : length s₃ ≡ L
   unfolding s₃
   len₃ = length-store s₂ scrambleStart (scramble img) in₃ ∙ len₂
 
-  in₄ : tableStart + length slots ≤ length s₃
+  pub in₄ : tableStart + length slots ≤ length s₃
   in₄ = omega (arith, len₃, length-slots, source-room .table, room)
 
-  len₄ : length s₄ ≡ L
+  pub len₄ : length s₄ ≡ L
   unfolding s₄
   len₄ = length-store s₃ tableStart slots in₄ ∙ len₃
 
-  len₅ : length s₅ ≡ L
+  pub len₅ : length s₅ ≡ L
   unfolding s₅
   len₅ = length-setField s₄ freeField (g .D) (omega (arith, len₄, size-low)) ∙ len₄
 
-  base-length : length base ≡ L
+  pub base-length : length base ≡ L
   unfolding base
   base-length = length-setField s₅ pageField (lastPage (g .D) (g .D)) (omega (arith, len₅, size-low)) ∙ len₅
 
   -- X and M aside
-  behind : (q m : ℕ) → Apart q m freeField 8 → part base q m ≡ part s₄ q m
+  pub behind : (q m : ℕ) → Apart q m freeField 8 → part base q m ≡ part s₄ q m
   unfolding base s₅
   behind q m (inl a) =
       part-setField-other s₅ pageField (lastPage (g .D) (g .D)) q m (omega (arith, len₅, size-low)) (inl (omega arith))
@@ -241,7 +241,7 @@ module _ (img : Bytes) (o : Opened img) (L : ℕ) (page : L % pageSize ≡ 0) (s
       ∙ part-setField-other s₄ freeField (g .D) q m (omega (arith, len₄, size-low)) (inr (omega arith))
 
   -- below the scramble
-  below : (q m : ℕ) → q + m ≤ scrambleStart → part s₄ q m ≡ part s₂ q m
+  pub below : (q m : ℕ) → q + m ≤ scrambleStart → part s₄ q m ≡ part s₂ q m
   unfolding s₄ s₃
   below q m l =
       part-store-below s₃ tableStart slots q m (omega (arith, in₄)) (omega arith)
@@ -257,7 +257,7 @@ module _ (img : Bytes) (o : Opened img) (L : ℕ) (page : L % pageSize ≡ 0) (s
       ∙ ap (λ (p : ℕ). part img p m) e
 
   -- the header but for the version
-  base-part : (q m : ℕ) → Apart q m versionField 3 → q + m ≤ freeField → part base q m ≡ part img q m
+  pub base-part : (q m : ℕ) → Apart q m versionField 3 → q + m ≤ freeField → part base q m ≡ part img q m
   unfolding s₂
   base-part q m a l =
       behind q m (inl (omega arith)) ∙ below q m (omega arith)
@@ -265,24 +265,24 @@ module _ (img : Bytes) (o : Opened img) (L : ℕ) (page : L % pageSize ≡ 0) (s
       (subst (Apart q m versionField) (sym (length-version (majorOf img))) a)
       ∙ front q m l
 
-  base-version : part base versionField 3 ≡ otherVersion (majorOf img)
+  pub base-version : part base versionField 3 ≡ otherVersion (majorOf img)
   unfolding s₂
   base-version =
       behind versionField 3 (inl (omega arith)) ∙ below versionField 3 (omega arith)
       ∙ ap (part s₂ versionField) (sym (length-version (majorOf img)))
       ∙ part-store-same s₁ versionField (otherVersion (majorOf img)) (omega (arith, in₂))
 
-  base-field : (at : ℕ) → serialField ≤ at → at + 4 ≤ freeField → field base at ≡ field img at
+  pub base-field : (at : ℕ) → serialField ≤ at → at + 4 ≤ freeField → field base at ≡ field img at
   unfolding field
   base-field at lo hi = ap number (base-part at 4 (inr (omega arith)) hi)
 
-  base-free : field base freeField ≡ g .D
+  pub base-free : field base freeField ≡ g .D
   unfolding base s₅
   base-free =
       field-setField-other s₅ pageField (lastPage (g .D) (g .D)) freeField (omega (arith, len₅, size-low)) (inl (omega arith))
       ∙ field-setField-same s₄ freeField (g .D) (omega (arith, len₄, size-low)) (omega (arith, room, size-high))
 
-  base-scramble : scramble base ≡ scramble img
+  pub base-scramble : scramble base ≡ scramble img
   unfolding scramble
   base-scramble =
       ap₂ (λ (e f : ℕ). part base scrambleStart (4 * (e - f + 1)))
@@ -299,7 +299,7 @@ module _ (img : Bytes) (o : Opened img) (L : ℕ) (page : L % pageSize ≡ 0) (s
           ∙ ap (part s₃ scrambleStart) (sym length-scramble)
           ∙ (unfold scramble in part-store-same s₂ scrambleStart (scramble img) (omega (arith, in₃))))
 
-  base-slot : (i : ℕ) → i < g .N → slot g base i ≡ bareSlot g img i
+  pub base-slot : (i : ℕ) → i < g .N → slot g base i ≡ bareSlot g img i
   unfolding slot slotStart s₄
   base-slot i l =
       let p = tableStart + i * slotSize g in
@@ -354,7 +354,7 @@ module _ (img : Bytes) (o : Opened img) (L : ℕ) (page : L % pageSize ≡ 0) (s
         base-scramble,
       ) refl)
 
-  base-layout : layoutOf base ≡ h
+  pub base-layout : layoutOf base ≡ h
   unfolding layoutOf otherLayout recast
   base-layout =
       rw (
@@ -365,7 +365,7 @@ module _ (img : Bytes) (o : Opened img) (L : ℕ) (page : L % pageSize ≡ 0) (s
         base-hash,
       ) refl
 
-  base-opened : Opened base
+  pub base-opened : Opened base
   unfolding layoutOf
   base-opened =
       let fK = base-field keyField (omega arith) (omega arith) in
@@ -399,7 +399,7 @@ module _ (img : Bytes) (o : Opened img) (L : ℕ) (page : L % pageSize ≡ 0) (s
   unfolding vacant
   zero-key s l v = allZero-zeros-eq (keyOf g s) v ∙ ap zeros (length-keyOf g s l)
 
-  base-key : (i : ℕ) → i < g .N → keyAt g base i ≡ keyAt g img i
+  pub base-key : (i : ℕ) → i < g .N → keyAt g base i ≡ keyAt g img i
   unfolding bareSlot taken
   base-key i l =
       let size = length-slot g img source-room i l in
@@ -408,11 +408,11 @@ module _ (img : Bytes) (o : Opened img) (L : ℕ) (page : L % pageSize ≡ 0) (s
       (λ v. rw v (zero-key (blank g) (length-blank g) (vacant-blank g) ∙ sym (zero-key (slot g img i) size v)))
       (λ v. rw v (keyOf-entry g (keyOf g (slot g img i)) 0 (length-keyOf g (slot g img i) size)))
 
-  base-vacant : (i : ℕ) → i < g .N → vacant g (slot g base i) ≡ vacant g (slot g img i)
+  pub base-vacant : (i : ℕ) → i < g .N → vacant g (slot g base i) ≡ vacant g (slot g img i)
   unfolding vacant
   base-vacant i l = ap allZero (base-key i l)
 
-  base-offset : (i : ℕ) → i < g .N → Taken g base i → offsetOf g (slot g base i) ≡ 0
+  pub base-offset : (i : ℕ) → i < g .N → Taken g base i → offsetOf g (slot g base i) ≡ 0
   unfolding bareSlot taken
   base-offset i l t =
       let size = length-slot g img source-room i l in
@@ -524,7 +524,7 @@ module _ (img : Bytes) (b : Book) (r : Reflects (layoutOf img) img b) (L : ℕ) 
           total-same _ _ (G .N)
           (λ i l. ap (λ (v : Bool). cond v 0 1) (sym (base-vacant img o L page size-low size-high room i l)))
 
-  base-file : File H t₀
+  pub base-file : File H t₀
   base-file =
       record {
         layout = base-layout img o L page size-low size-high room;

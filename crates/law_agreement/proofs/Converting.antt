@@ -18,30 +18,26 @@ use Rattle.spec_file.specs.Image.{field, majorOf, wide, widthOf, mostOf, dataSt
 use Rattle.spec_file.specs.Messages.{headSize, lengthAt, textAt, isActive, shown}
 use Rattle.spec_file.specs.Questions.{Question, ask, firstNo, sizeAllowed, versionKnown, headerSound, opened, openNumber, nameAllowed}
 use Rattle.spec_file.specs.Calls.{Outcome, plain, settled}
-use Rattle.spec_file.specs.Lists.{answers, stateAfter}
 use Rattle.spec_file.specs.Inspect.{taken, check, sound}
 use Rattle.spec_compaction.specs.Compact.{isSound}
-use Rattle.spec_book.specs.Book.{Entry, Terms, Book, find, stepOf, trimmedAll, spaceFor, spaceForAll, bookStep}
-use Rattle.spec_book.specs.Steps.{Step, perform}
-use Rattle.spec_book.specs.Reopened.{entryAt, entriesFrom, bookOf, Starts}
+use Rattle.spec_book.specs.Book.{Entry, Terms, Book, find, stepOf, trimmedAll, spaceFor, spaceForAll, otherTerms, textFits, textsFit, convertedBook, convertAsks, bookConvert}
+use Rattle.spec_book.specs.Reopened.{entryAt, entriesFrom, bookOf}
 use Rattle.law_file.proofs.Tests.{by-bool, by-eq, and-left, and-right, and-true, not-both}
 use Rattle.law_file.proofs.Bytes.{part-length}
 use Rattle.law_file.proofs.Opened.{Opened, facts-opened, firstNo-yes, firstNo-no, firstNo-head, firstNo-tail, firstNo-opened}
 use Rattle.law_file.proofs.Outcomes.{settled-yes, settled-no}
 use Rattle.law_compaction.proofs.Packing.{startAt, Live, Stretches}
 use Rattle.law_agreement.proofs.File.{File, file-data}
 use Rattle.law_agreement.proofs.Entries.{Distinct, find-none, find-here, find-on}
 use Rattle.law_agreement.proofs.Reflect.{Reflects, Reflected, termsFor}
 use Rattle.law_agreement.proofs.Checked.{file-check}
 use Rattle.law_agreement.proofs.Compact.{file-stretches}
 use Rattle.law_agreement.proofs.Simple.{Same, Alike, same-refused, same-accepted}
 use Rattle.law_agreement.proofs.Reopened.{from-taken, from-vacant, file-reflects}
 use Rattle.law_agreement.proofs.Trimmed.{space-same}
-use Rattle.law_agreement.proofs.Theorem.{step, points-agree, started}
 use Rattle.spec_conversion.specs.Convert.{otherMajor, recast, otherLayout, bareImage, carriedFrom, converted, needs, needsFrom, told, toldFrom, lengthsTold, targetHolds, convertNumber, convert}
-use Rattle.spec_conversion.specs.Steps.{Turn, stepping, converting, performTurn, otherTerms, textFits, textsFit, convertedBook, convertAsks, bookConvert, bookTurn, TurnsAgree, AgreementOfTurns}
-use Rattle.law_conversion.proofs.Carrying.{Carrying, carry-all, reflects-carried}
-use Rattle.law_conversion.proofs.Base.{bareBook, base-carrying}
+use Rattle.law_agreement.proofs.Carrying.{Carrying, carry-all, reflects-carried}
+use Rattle.law_agreement.proofs.Bare.{bareBook, base-carrying}
 
 -- ---- question 20 by entries
 
@@ -153,7 +149,7 @@ module _ (g h : Layout) (img : Bytes) (f : File g img) where
       here k v t = unfold told in (rw (v .is, v .active) at t)
 
 -- question 1, by numbers
-abbrev sizeFacts : ℕ → Type 0
+abbrev pub sizeFacts : ℕ → Type 0
 sizeFacts L = (L % pageSize ≡ 0) × (pageSize ≤ L) × (L ≤ mostImage)
 
 size-facts : (L : ℕ) → sizeAllowed L ≡ true → sizeFacts L
@@ -204,6 +200,10 @@ module _ (img : Bytes) (b : Book) (r : Reflects (layoutOf img) img b) (L : ℕ) 
   unfolding layoutOf
   data-is = sym (f .opened .data-at)
 
+  other-data : dataStart (H .K) (H .N) ≡ G .D
+  unfolding otherLayout recast
+  other-data = data-is
+
   terms-are : otherTerms (b .terms) L ≡ termsFor H L
   terms-are = ap (λ (t : Terms). otherTerms t L) (r .terms) ∙ other
     where
@@ -216,7 +216,7 @@ module _ (img : Bytes) (b : Book) (r : Reflects (layoutOf img) img b) (L : ℕ) 
           (λ y. unfold otherTerms otherLayout recast headSize widthOf mostOf in rw (width y, other-yes (majorOf img) y, data-is) refl)
           (λ n. unfold otherTerms otherLayout recast headSize widthOf mostOf in rw (width n, other-no (majorOf img) n, data-is) refl)
 
-  needs-is : needsFrom G H img (G .N) 0 ≡ spaceForAll (headSize H) (b .entries)
+  pub needs-is : needsFrom G H img (G .N) 0 ≡ spaceForAll (headSize H) (b .entries)
   needs-is =
       needs-entries G H img f (G .N) 0 (omega arith)
       ∙ ap (spaceForAll (headSize H)) (sym entries-read)
@@ -230,10 +230,10 @@ module _ (img : Bytes) (b : Book) (r : Reflects (layoutOf img) img b) (L : ℕ) 
       ∙ sym (fits-same (H .most) (b .entries) (bookOf img .entries) (r .distinct) (read-off .distinct) same-book)
 
   -- 1, 20 and 13 decide
-  asks : List Question
+  pub asks : List Question
   asks = ask 1 (sizeAllowed L) ∷ ask 20 (lengthsTold img) ∷ ask 13 (targetHolds img L) ∷ []
 
-  is-file : convertNumber img L ≡ firstNo asks
+  pub is-file : convertNumber img L ≡ firstNo asks
   unfolding convertNumber asks isSound openNumber opened
   is-file =
       let z = facts-opened img (f .opened) in
@@ -255,17 +255,17 @@ module _ (img : Bytes) (b : Book) (r : Reflects (layoutOf img) img b) (L : ℕ) 
   is-book : firstNo (convertAsks b L) ≡ firstNo asks
   unfolding convertAsks asks targetHolds
   is-book =
-      rw (terms-are, r .terms, told-is, needs-is, data-is) refl
+      rw (terms-are, told-is, needs-is, other-data) refl
 
-  same-D : H .D ≡ G .D
+  pub same-D : H .D ≡ G .D
   unfolding otherLayout recast
   same-D = refl
 
-  same-K : H .K ≡ G .K
+  pub same-K : H .K ≡ G .K
   unfolding otherLayout recast
   same-K = refl
 
-  same-N : H .N ≡ G .N
+  pub same-N : H .N ≡ G .N
   unfolding otherLayout recast
   same-N = refl
 
@@ -278,7 +278,7 @@ module _ (img : Bytes) (b : Book) (r : Reflects (layoutOf img) img b) (L : ℕ) 
   tells-all h = h
 
   -- accepted
-  book-is : convertedBook b L
+  pub book-is : convertedBook b L
       ≡ record {
         terms = termsFor H L;
         entries = trimmedAll (b .entries);
@@ -287,33 +287,51 @@ module _ (img : Bytes) (b : Book) (r : Reflects (layoutOf img) img b) (L : ℕ) 
   unfolding convertedBook
   book-is = rw terms-are refl
 
-  accepted : firstNo asks ≡ 0 → Reflects H (converted img L) (convertedBook b L)
-  unfolding converted
-  accepted z₀ =
-      let z : firstNo (ask 1 (sizeAllowed L) ∷ ask 20 (lengthsTold img) ∷ ask 13 (targetHolds img L) ∷ []) ≡ 0 =
-      unfold asks in z₀ in
-      let size : sizeAllowed L ≡ true = firstNo-head 1 (sizeAllowed L) _ (λ q. omega arith) z in
-      let t₁ = firstNo-tail 1 (sizeAllowed L) _ (λ q. omega arith) z in
-      let tells : lengthsTold img ≡ true = firstNo-head 20 (lengthsTold img) _ (λ q. omega arith) t₁ in
-      let fits : targetHolds img L ≡ true =
-      firstNo-head 13 (targetHolds img L) [] (λ q. omega arith)
-      (firstNo-tail 20 (lengthsTold img) _ (λ q. omega arith) t₁) in
-      let holds : G .D + needsFrom G H img (G .N) 0 ≤ L = holds-le fits in
-      let n : sizeFacts L = size-facts L size in
-      let D : H .D ≡ G .D = same-D in
-      let lives : (i : ℕ) → Live G img i → lengthAt G img (startAt G img i) ≤ H .most =
-      λ i v. told-live G H img f (G .N) 0 (tells-all tells) i (omega arith) (omega (arith, v .low)) v in
-      let room : H .D + spaceForAll (headSize H) (b .entries) ≤ L = omega (arith, D, holds, needs-is) in
-      let S₀ = file-stretches G img f in
-      let start = base-carrying img b r L (n .0) (n .1) (n .2) (omega (arith, holds)) (S₀ .low) in
-      let w = carry-all G H img b r same-K same-N lives L room
-      (field img freeField - G .D) (G .D) (bareImage img L) (bareBook H L b) start in
-      let e : G .D + (field img freeField - G .D) ≡ field img freeField = omega (arith, S₀ .free-low) in
-      subst (Reflects H (carriedFrom G H img (field img freeField - G .D) (G .D) (bareImage img L))) (sym book-is)
-      (reflects-carried G H img b r same-K same-N lives L room
-      (carriedFrom G H img (field img freeField - G .D) (G .D) (bareImage img L)) (w .0)
-      (subst (λ (p : ℕ). Carrying G H img b L p
-      (carriedFrom G H img (field img freeField - G .D) (G .D) (bareImage img L)) (w .0)) e (w .1)))
+  -- where none of them answers no
+  module _ (z₀ : firstNo asks ≡ 0) where
+    z : firstNo (ask 1 (sizeAllowed L) ∷ ask 20 (lengthsTold img) ∷ ask 13 (targetHolds img L) ∷ []) ≡ 0
+    unfolding asks
+    z = z₀
+
+    z₁ : firstNo (ask 20 (lengthsTold img) ∷ ask 13 (targetHolds img L) ∷ []) ≡ 0
+    z₁ = firstNo-tail 1 (sizeAllowed L) _ (λ q. omega arith) z
+
+    pub size : sizeFacts L
+    size = size-facts L (firstNo-head 1 (sizeAllowed L) _ (λ q. omega arith) z)
+
+    -- each length is one that the target's headers can tell
+    pub lengths : (i : ℕ) → Live G img i → lengthAt G img (startAt G img i) ≤ H .most
+    lengths i v =
+        told-live G H img f (G .N) 0
+        (tells-all (firstNo-head 20 (lengthsTold img) _ (λ q. omega arith) z₁)) i (omega arith) (omega (arith, v .low))
+        v
+
+    pub holds : G .D + needsFrom G H img (G .N) 0 ≤ L
+    holds =
+        holds-le
+        (firstNo-head 13 (targetHolds img L) [] (λ q. omega arith)
+        (firstNo-tail 20 (lengthsTold img) _ (λ q. omega arith) z₁))
+
+    pub room : H .D + spaceForAll (headSize H) (b .entries) ≤ L
+    room = omega (arith, same-D, holds, needs-is)
+
+    -- the target with the messages of so many places, and its book
+    pub carrying : (left : ℕ)
+        → (c : Book) × Carrying G H img b L (G .D + left) (carriedFrom G H img left (G .D) (bareImage img L)) c
+    carrying left =
+        carry-all G H img b r same-K same-N lengths L room left (G .D) (bareImage img L) (bareBook H L b)
+        (base-carrying img b r L (size .0) (size .1) (size .2) (omega (arith, holds)) (file-stretches G img f .low))
+
+    pub accepted : Reflects H (converted img L) (convertedBook b L)
+    unfolding converted
+    accepted =
+        let all = field img freeField - G .D in
+        let w = carrying all in
+        let e : G .D + all ≡ field img freeField = omega (arith, file-stretches G img f .free-low) in
+        subst (Reflects H (carriedFrom G H img all (G .D) (bareImage img L))) (sym book-is)
+        (reflects-carried G H img b r same-K same-N lengths L room
+        (carriedFrom G H img all (G .D) (bareImage img L)) (w .0)
+        (subst (λ (p : ℕ). Carrying G H img b L p (carriedFrom G H img all (G .D) (bareImage img L)) (w .0)) e (w .1)))
 
   accept : firstNo (convertAsks b L) ≡ 0
       → Same H (record { after = settled (convertNumber img L) img (converted img L); answer = plain (convertNumber img L) })
@@ -331,42 +349,12 @@ module _ (img : Bytes) (b : Book) (r : Reflects (layoutOf img) img b) (L : ℕ) 
   same-layout =
       by-eq (firstNo (convertAsks b L)) 0
       (λ z. (H, accept z))
-      (λ z. (G, same-refused G img b r (convertNumber img L) (converted img L) (convertAsks b L) (convertedBook b L)
-      (is-file ∙ sym is-book) z))
+      (λ z. (
+        G,
+        same-refused G img b r (convertNumber img L) (converted img L) (convertAsks b L) (convertedBook b L)
+            (is-file ∙ sym is-book) z,
+      ))
 
 pub same-convert : (img : Bytes) (b : Book) → Reflected img b → (L : ℕ) → Alike (convert img L) (bookConvert b L)
 same-convert img b (g, r) L =
     same-layout img b (subst (λ (l : Layout). Reflects l img b) (sym (r .file .layout)) r) L
-
--- ---- lists
-
-pub turn : (img : Bytes) (b : Book) → Reflected img b → (t : Turn) → Alike (performTurn t img) (bookTurn t b)
-unfolding performTurn bookTurn
-turn img b r (stepping s) = step img b r s
-turn img b r (converting L) = same-convert img b r L
-
-turn-after : (img : Bytes) (b : Book) → Reflected img b → (t : Turn)
-    → Reflected (performTurn t img .after) (bookTurn t b .after)
-turn-after img b r t = (turn img b r t .0, turn img b r t .1 .after)
-
-turns-answers : (ts : List Turn) (img : Bytes) (b : Book) → Reflected img b
-    → answers performTurn ts img ≡ answers bookTurn ts b
-unfolding answers
-turns-answers [] img b r = refl
-turns-answers (t ∷ ts) img b r =
-    ap₂ _∷_ (turn img b r t .1 .answer)
-    (turns-answers ts (performTurn t img .after) (bookTurn t b .after) (turn-after img b r t))
-
-turns-after : (ts : List Turn) (img : Bytes) (b : Book) → Reflected img b
-    → Reflected (stateAfter performTurn ts img) (stateAfter bookTurn ts b)
-unfolding stateAfter
-turns-after [] img b r = r
-turns-after (t ∷ ts) img b r =
-    turns-after ts (performTurn t img .after) (bookTurn t b .after) (turn-after img b r t)
-
-pub agreement-of-turns : AgreementOfTurns
-unfolding AgreementOfTurns TurnsAgree
-agreement-of-turns img b s ts = (
-  turns-answers ts img b (started img b s),
-  λ name. points-agree (stateAfter performTurn ts img) (stateAfter bookTurn ts b) (turns-after ts img b (started img b s)) name,
-)

@@ -32,17 +32,18 @@ use Rattle.law_file.proofs.Stretch.{span, held-some}
 use Rattle.law_file.proofs.Effects.{active-some, Spaced}
 use Rattle.law_file.proofs.Verdict.{lowest-some, lowest-none}
 use Rattle.law_compaction.proofs.Packing.{startAt, Live, Stretches}
 use Rattle.law_agreement.proofs.File.{Allowed, allowed-length, allowed-zero, File, file-room, file-some, file-most, pointOf, pointOf-some, pointOf-none, valueOf, by-entry}
 use Rattle.law_agreement.proofs.Entries.{Distinct, find-withEntry, find-withEntry-other, distinct-withEntry, length-withEntry-old, find-same}
 use Rattle.law_agreement.proofs.Reflect.{Reflects, termsFor}
 use Rattle.law_agreement.proofs.Checked.{taken-allowed, entry-slot}
 use Rattle.law_agreement.proofs.Compact.{file-stretches}
 use Rattle.law_agreement.proofs.Simple.{found-met}
 use Rattle.law_agreement.proofs.Space.{space-is}
 use Rattle.law_agreement.proofs.Place.{relocate}
 use Rattle.law_agreement.proofs.Trimmed.{trimmedOf, find-trimmed, distinct-trimmed, length-trimmed, space-same}
 use Rattle.spec_conversion.specs.Convert.{slotWith, carried, carriedSlot, carriedAt, carriedFrom}
-use Rattle.law_conversion.proofs.Entries.{space-with, space-le}
+use Rattle.law_agreement.proofs.Spaces.{space-with, space-le}
+use Rattle.law_agreement.proofs.Named.{is-taken, allowed-at, book-has, book-slot}
 
 -- ---- one message
 
@@ -115,43 +116,20 @@ module _ (g h : Layout) (img : Bytes) (b : Book) (r : Reflects g img b) (eqK : h
 
   -- ---- the source's slots and its book
 
-  is-taken : (i : ℕ) → taken g img i ≡ true → Taken g img i
-  unfolding taken
-  is-taken i t = not-true (vacant g (slot g img i)) t
-
   allowed : (i : ℕ) → i < g .N → taken g img i ≡ true → Allowed g (key i)
-  allowed i l t = taken-allowed g img f i l (is-taken i t)
+  allowed = allowed-at g img b r
 
   allowed′ : (i : ℕ) → i < g .N → taken g img i ≡ true → Allowed h (key i)
   allowed′ i l t = ap (λ (k : ℕ). nameAllowed k (key i)) eqK ∙ allowed i l t
 
   one-slot : (i j : ℕ) → i < g .N → j < g .N → taken g img i ≡ true → taken g img j ≡ true → key i ≡ key j → i ≡ j
-  one-slot i j li lj ti tj e = f .table .distinct i j li lj (is-taken i ti) (is-taken j tj) e
+  one-slot i j li lj ti tj e = f .table .distinct i j li lj (is-taken g img b r i ti) (is-taken g img b r j tj) e
 
-  text-length : (i : ℕ) → Live g img i → length (text i) ≡ lengthAt g img (startAt g img i)
+  pub text-length : (i : ℕ) → Live g img i → length (text i) ≡ lengthAt g img (startAt g img i)
   unfolding textAt
   text-length i v =
       part-length img (startAt g img i + headSize g) (lengthAt g img (startAt g img i))
       (omega (arith, S .end i v, S .free-high))
-
-  -- what the book has under a taken slot's key
-  book-has : (i : ℕ) → i < g .N → taken g img i ≡ true
-      → find (key i) (b .entries) ≡ some (valueOf g img (key i) (startAt g img i))
-  book-has i l t =
-      sym (r .points (key i) (allowed i l t))
-      ∙ pointOf-some g img (key i) (slot g img i) (entry-taken g img i (file-some f) (f .table) l (is-taken i t))
-
-  -- and a slot for every name that it has
-  book-slot : (name : Bytes) (e : Entry) → find name (b .entries) ≡ some e
-      → (i : ℕ) × (i < g .N) × (taken g img i ≡ true) × (key i ≡ name)
-  book-slot name e h₀ =
-      by-bool (nameAllowed (g .K) name)
-      (λ a. by-entry (entryOf g img name)
-      (λ n. absurd (Option·none-ne-some e (sym (pointOf-none g img name n) ∙ r .points name a ∙ h₀)))
-      (λ s q.
-      let w = entry-slot g img name s (file-some f) a q in
-      (w .0, w .1, (unfold taken in ap not (w .2)), w .3)))
-      (λ n. absurd (Option·none-ne-some e (sym (r .others name n) ∙ h₀)))
 
   abbrev C : ℕ → Bytes → Book → Type 0
   C = Carrying g h img b L
@@ -178,10 +156,10 @@ module _ (g h : Layout) (img : Bytes) (b : Book) (r : Reflects g img b) (eqK : h
       by-found (find name (b .entries))
       (λ n. absurd (Option·none-ne-some e (sym (s .no-more name n) ∙ q)))
       (λ x y.
-      let w = book-slot name x y in
+      let w = book-slot g img b r name x y in
       let j = w .0 in
       let has : find name (b .entries) ≡ some (valueOf g img (key j) (startAt g img j)) =
-      ap (λ (k : Bytes). find k (b .entries)) (sym (w .3)) ∙ book-has j (w .1) (w .2) in
+      ap (λ (k : Bytes). find k (b .entries)) (sym (w .3)) ∙ book-has g img b r j (w .1) (w .2) in
       let at : find (key j) (c .entries) ≡ some e = ap (λ (k : Bytes). find k (c .entries)) (w .3) ∙ q in
       by-plan s j (w .1) (w .2)
       (λ v z.
@@ -204,9 +182,10 @@ module _ (g h : Layout) (img : Bytes) (b : Book) (r : Reflects g img b) (eqK : h
       nothing : {a : Option Bytes} → a ≡ none → spaceFor (headSize h) a ≡ 0
       nothing p = unfold spaceFor in ap (spaceFor (headSize h)) p
 
-  -- ---- the message of slot i, which begins at p
+  -- ---- the message of slot i, which begins at p or above
 
-  module _ (p : ℕ) (t : Bytes) (c : Book) (s : C p t c) (i : ℕ) (v : Live g img i) (at : startAt g img i ≡ p) where
+  module _ (p : ℕ) (t : Bytes) (c : Book) (s : C p t c) (i : ℕ) (v : Live g img i)
+      (late : p ≤ startAt g img i) where
     abbrev k : Bytes
     k = key i
 
@@ -226,7 +205,7 @@ module _ (g h : Layout) (img : Bytes) (b : Book) (r : Reflects g img b) (eqK : h
     a′ = allowed′ i (v .low) (v .is)
 
     bare-here : find k (c .entries) ≡ some (bare k)
-    bare-here = s .waiting i (v .low) (v .is) (λ q. omega (arith, at))
+    bare-here = s .waiting i (v .low) (v .is) (λ q. late)
 
     finds : search h t k ≡ met i
     unfolding vacant
@@ -234,7 +213,7 @@ module _ (g h : Layout) (img : Bytes) (b : Book) (r : Reflects g img b) (eqK : h
         search-finds h t k (file-some F) i (F .table) low′
         (ap allZero (s .keys i (v .low)) ∙ allowed-zero h k a′) (s .keys i (v .low))
 
-    no-offset : offsetOf h (slot h t i) ≡ 0
+    pub no-offset : offsetOf h (slot h t i) ≡ 0
     unfolding bare
     no-offset =
         let e : bare k ≡ valueOf h t k (offsetOf h (slot h t i)) =
@@ -272,20 +251,25 @@ module _ (g h : Layout) (img : Bytes) (b : Book) (r : Reflects g img b) (eqK : h
         (λ name e q.
         by-same name k
         (λ z.
-        let is : noting k m ≡ e = Option·some-injective _ _ (sym this ∙ ap (λ (x : Bytes). find x es) (sym z) ∙ q) in
-        (_, ap (λ (x : Bytes). find x (b .entries)) z ∙ book-has i (v .low) (v .is),
-        omega (arith, ap (λ (x : Entry). spaceFor (headSize h) (x .text)) is,
-        ap (spaceFor (headSize h)) (shown-yes g img (startAt g img i) (v .active)))))
+        let is : noting k m ≡ e = Option·some-injective _ _ (sym this ∙ ap (λ (x : Bytes). find x es) (sym z) ∙ q) in (
+          _,
+          ap (λ (x : Bytes). find x (b .entries)) z ∙ book-has g img b r i (v .low) (v .is),
+          omega (
+            arith,
+            ap (λ (x : Entry). spaceFor (headSize h) (x .text)) is,
+            ap (spaceFor (headSize h)) (shown-yes g img (startAt g img i) (v .active)),
+          ),
+        ))
         (λ n. plan-le s name e (sym (other name n) ∙ q)))
 
-    room : field t freeField + headSize h + length m ≤ length t
-    room = omega (arith, le, more, s .related .used, s .space, s .size, holds)
+    pub carry-room : field t freeField + headSize h + length m ≤ length t
+    carry-room = omega (arith, le, more, s .related .used, s .space, s .size, holds)
 
     related′ : Reflects h t′ (placed c k m)
-    related′ = carry h t c (s .related) k a′ m short room i finds no-offset
+    related′ = carry h t c (s .related) k a′ m short carry-room i finds no-offset
 
     spaced : Spaced h t m
-    spaced = space-is h t F m (omega (arith, short, file-most F)) room
+    spaced = space-is h t F m (omega (arith, short, file-most F)) carry-room
 
     grown-room : Room h (length (takeSpace h t m))
     grown-room = rw (spaced .kept .fixed .size) (file-room F)
@@ -322,8 +306,8 @@ module _ (g h : Layout) (img : Bytes) (b : Book) (r : Reflects g img b) (eqK : h
     unfolding placed entered
     used-is = refl
 
-    pub carry-live : C (suc p) t′ (placed c k m)
-    carry-live =
+    pub carry-live : startAt g img i ≡ p → C (suc p) t′ (placed c k m)
+    carry-live at =
         record {
           related = related′;
           size = size′;
@@ -344,7 +328,7 @@ module _ (g h : Layout) (img : Bytes) (b : Book) (r : Reflects g img b) (eqK : h
               ∙ s .waiting j l u (λ a. omega (arith, z a)));
           no-more = λ name n.
               rw entries-are
-              (other name (λ q. Option·none-ne-some _ (sym n ∙ ap (λ (x : Bytes). find x (b .entries)) q ∙ book-has i (v .low) (v .is)))
+              (other name (λ q. Option·none-ne-some _ (sym n ∙ ap (λ (x : Bytes). find x (b .entries)) q ∙ book-has g img b r i (v .low) (v .is)))
               ∙ s .no-more name n);
           count = rw entries-are (unfold es noting in (length-withEntry-old (noting k m) (c .entries) (bare k) bare-here ∙ s .count));
           space =
@@ -373,9 +357,12 @@ module _ (g h : Layout) (img : Bytes) (b : Book) (r : Reflects g img b) (eqK : h
       let test : ℕ → Bool = λ (i : ℕ). taken g img i && eqb (offsetOf g (slot g img i)) p in
       by-bool (isActive img p)
       (λ a. by-number (lowest test (g .N) 0)
-      (λ n. rw (a, n) (c, carry-none p t c s (λ i v e.
-      not-both (test i) (and-true (taken g img i) (eqb (startAt g img i) p) (v .is) (eq-eqb (startAt g img i) p e))
-      (lowest-none test (g .N) 0 n i (omega arith) (omega (arith, v .low))))))
+      (λ n. rw (a, n) (
+        c,
+        carry-none p t c s (λ i v e.
+            not-both (test i) (and-true (taken g img i) (eqb (startAt g img i) p) (v .is) (eq-eqb (startAt g img i) p e))
+            (lowest-none test (g .N) 0 n i (omega arith) (omega (arith, v .low)))),
+      ))
       (λ i y.
       let w = lowest-some test (g .N) 0 i y in
       let e : startAt g img i ≡ p = eqb-true (startAt g img i) p (and-right (taken g img i) (eqb (startAt g img i) p) (w .2)) in
@@ -385,8 +372,11 @@ module _ (g h : Layout) (img : Bytes) (b : Book) (r : Reflects g img b) (eqK : h
         is = and-left (taken g img i) (eqb (startAt g img i) p) (w .2);
         active = ap (isActive img) e ∙ a;
       } in
-      rw (a, y) (_, subst (λ (q : ℕ). C (suc p) (carried h t i (key i) (textAt g img q)) (placed c (key i) (text i))) e
-      (carry-live p t c s i v e))))
+      rw (a, y) (
+        _,
+        subst (λ (q : ℕ). C (suc p) (carried h t i (key i) (textAt g img q)) (placed c (key i) (text i))) e
+            (carry-live p t c s i v (omega (arith, e)) e),
+      )))
       (λ a. rw a (c, carry-none p t c s (λ i v e. not-both (isActive img p) (ap (isActive img) (sym e) ∙ v .active) a)))
 
   pub carry-all : (left p : ℕ) (t : Bytes) (c : Book) → C p t c
@@ -407,11 +397,11 @@ module _ (g h : Layout) (img : Bytes) (b : Book) (r : Reflects g img b) (eqK : h
         by-found (find name (b .entries))
         (λ n. s .no-more name n ∙ ap trimmedOf (sym n) ∙ sym (find-trimmed name (b .entries)))
         (λ x y.
-        let w = book-slot name x y in
+        let w = book-slot g img b r name x y in
         let j = w .0 in
         let o = startAt g img j in
         let has : find name (b .entries) ≡ some (valueOf g img (key j) o) =
-        ap (λ (k : Bytes). find k (b .entries)) (sym (w .3)) ∙ book-has j (w .1) (w .2) in
+        ap (λ (k : Bytes). find k (b .entries)) (sym (w .3)) ∙ book-has g img b r j (w .1) (w .2) in
         ap (λ (k : Bytes). find k (c .entries)) (sym (w .3))
         ∙ by-bool (isActive img o)
         (λ a.
