@@ -1,3 +1,4 @@
 -- Laws of the converter, of an accepted conversion.
 pub mod Ready  -- the target while messages are carried into it: what each step may rely on
 pub mod Places  -- the messages carried place by place
+pub mod Carry  -- one message carried: the bytes that it writes, and the others
