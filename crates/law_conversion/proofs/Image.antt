@@ -17,22 +17,35 @@ use mathlib.Core.Logic.{inl, inr}
 use lib.ListN.{length, length-append}
 use lib.Dec.{ltb, eqb}
 use borrow.Author.Tests.{eqb-true, ltb-true, lt-ltb, not-true}
-use Rattle.spec_file.specs.Bytes.{Bytes, part, zeros}
+use Rattle.spec_file.specs.Bytes.{Bytes, part, number, zeros}
 use Rattle.spec_file.specs.Limits.{pageSize, versionField, serialField, freeField, pageField, headerSize, scrambleStart, tableStart, firstField, lastField, word, mostImage}
 use Rattle.spec_file.specs.Image.{field, lastPage, scramble, majorOf, Layout, layoutOf, slotSize, slot, keyOf, offsetOf, slotBytes, blank}
 use Rattle.spec_file.specs.Messages.{headSize, lengthAt, textAt, isActive, message}
+use Rattle.spec_file.specs.Questions.{firstNo}
 use Rattle.spec_file.specs.Inspect.{taken, check, sound}
 use Rattle.spec_compaction.specs.Compact.{beginsAt}
-use Rattle.spec_conversion.specs.Convert.{otherVersion, recast, otherLayout, bareSlot, bareImage, carried, carriedAt, carriedFrom, converted, convertNumber}
+use Rattle.spec_conversion.specs.Convert.{otherMajor, otherVersion, recast, otherLayout, bareSlot, bareImage, carried, carriedAt, carriedFrom, converted, convertNumber}
 use Rattle.law_file.proofs.Tests.{by-bool, by-eq, by-le, by-either, and-left, and-right, and-true, not-both}
 use Rattle.law_file.proofs.Bytes.{Apart, AreBytes, part-length, part-add}
 use Rattle.law_file.proofs.Slots.{Room, length-slot, length-keyOf}
 use Rattle.law_file.proofs.Opened.{Opened, opened-room}
+use Rattle.law_file.proofs.Table.{keyAt}
 use Rattle.law_file.proofs.Effects.{length-message}
 use Rattle.law_compaction.proofs.Packing.{startAt, Live, Stretches, sound-stretches, begins-live, live-begins}
+use Rattle.spec_book.specs.Book.{Book, convertedBook}
+use Rattle.spec_book.specs.Reopened.{bookOf}
+use Rattle.spec_book.specs.Demand.{fileText}
+use Rattle.law_agreement.proofs.File.{File}
+use Rattle.law_agreement.proofs.Checked.{file-check, check-file}
+use Rattle.law_agreement.proofs.Reflect.{Reflects}
+use Rattle.law_agreement.proofs.Reopened.{file-reflects}
+use Rattle.law_agreement.proofs.Bare.{is-base, base-part, base-version, base-field, base-free, base-page, base-zeros, base-scramble, base-slot, recast-slot}
+use Rattle.law_agreement.proofs.Converting.{asks, is-file, sizeFacts, size, holds, accepted}
+use Rattle.law_agreement.proofs.Steps.{converted-text}
+use Rattle.law_agreement.proofs.Theorem.{points-agree}
 use Rattle.law_conversion.proofs.Ready.{Ready, ready, accepted-sound}
 use Rattle.law_conversion.proofs.Places.{from-append, by-place, Begins}
-use Rattle.law_conversion.proofs.Carry.{carry-size, carry-free, carry-page, carry-there, carry-slot, carry-slot-other, carry-other}
+use Rattle.law_conversion.proofs.Carry.{carry-free, carry-page, carry-there, carry-slot, carry-slot-other, carry-other}
 
 -- ---- the messages
 
@@ -227,9 +240,6 @@ module _ (img : Bytes) (bytes : AreBytes img) (L : ℕ) (ok : convertNumber img 
       abbrev X : ℕ
       X = field t freeField
 
-      size : length t′ ≡ L
-      size = carry-size h t (R .layout) (R .opened) i low key text long fits ∙ R .size
-
       free : field t′ freeField ≡ X + headSize h + length text
       free = carry-free h t (R .layout) (R .opened) i low key text long fits
 
@@ -330,3 +340,229 @@ module _ (img : Bytes) (bytes : AreBytes img) (L : ℕ) (ok : convertNumber img 
         (by-place g h img p t
         (λ n e. rw e (step-none n))
         (λ i b e. rw e (step-live i b)))
+
+  -- ---- before the first place
+
+  file : File g img
+  file = check-file img bytes (accepted-sound img L ok)
+
+  abbrev b : Book
+  b = bookOf img
+
+  r : Reflects g img b
+  r = file-reflects img file
+
+  none-asked : firstNo (asks img b r L) ≡ 0
+  none-asked = sym (is-file img b r L) ∙ ok
+
+  o : Opened img
+  o = file .opened
+
+  sized : sizeFacts L
+  sized = size img b r L none-asked
+
+  room : g .D ≤ L
+  room = omega (arith, holds img b r L none-asked)
+
+  slot-is : (i : ℕ) → slot h base i ≡ slot g base i
+  unfolding otherLayout
+  slot-is i = recast-slot (otherMajor (majorOf img)) g base i
+
+  -- the bare image, as its bytes are known
+  abbrev t₀ : Bytes
+  t₀ = Rattle.law_agreement.proofs.Bare.base img o L (sized .0) (sized .1) (sized .2) room
+
+  base-is : base ≡ t₀
+  base-is = is-base img o L (sized .0) (sized .1) (sized .2) room
+
+  sofar-none : Sofar g h img base 0 base
+  unfolding rewrittenFrom
+  sofar-none =
+      let from-D : field base freeField ≡ g .D =
+      ap (λ (x : Bytes). field x freeField) base-is ∙ base-free img o L (sized .0) (sized .1) (sized .2) room in
+      record {
+        free = from-D ∙ sym (add-zero (g .D));
+        page =
+            ap (λ (x : Bytes). field x pageField) base-is
+            ∙ base-page img o L (sized .0) (sized .1) (sized .2) room
+            ∙ ap (lastPage (g .D)) (sym from-D);
+        area = unfold part in refl;
+        slots = λ i l.
+            slot-is i
+            ∙ ap (λ (x : Bytes). slot g x i) base-is
+            ∙ base-slot img o L (sized .0) (sized .1) (sized .2) room i l
+            ∙ sym (slot-waits g h img 0 i l (λ v k. omega (arith, S .low i v)));
+        other = λ q m a c d. refl;
+      }
+
+  pub sofar : (left : ℕ) → Sofar g h img base left (T left)
+  sofar zero = unfold carriedFrom in sofar-none
+  sofar (suc left) = step left (sofar left)
+
+  -- ---- the whole
+
+  abbrev pub all : ℕ
+  all = field img freeField - g .D
+
+  -- the active messages in the order of their offsets
+  abbrev pub messages : Bytes
+  messages = rewrittenFrom g h img all (g .D)
+
+  abbrev img′ : Bytes
+  img′ = converted img L
+
+  whole : Sofar g h img base all img′
+  unfolding converted
+  whole = sofar all
+
+  R′ : Ready img L (g .D + all) img′
+  unfolding converted
+  R′ = ready img bytes L ok all
+
+  pub converted-length : length img′ ≡ L
+  converted-length = R′ .size
+
+  pub converted-layout : layoutOf img′ ≡ h
+  converted-layout = R′ .layout
+
+  relates : Reflects h img′ (convertedBook b L)
+  relates = accepted img b r L none-asked
+
+  pub converted-sound : check img′ ≡ sound
+  converted-sound = file-check h img′ (relates .file)
+
+  -- "Points, texts .. are equal before and after"
+  pub converted-texts : (name : Bytes) → fileText img′ name ≡ fileText img name
+  converted-texts name =
+      points-agree img′ (convertedBook b L) (h, relates) name
+      ∙ converted-text b L name
+      ∙ sym (points-agree img b (g, r) name)
+
+  -- "and each point's slot"
+  pub converted-keys : (i : ℕ) → i < g .N → keyAt h img′ i ≡ keyAt g img i
+  converted-keys = R′ .keys
+
+  -- ---- its slots
+
+  above-all : (i : ℕ) → Live g img i → startAt g img i < g .D + all
+  above-all i v = omega (arith, S .end i v, S .free-low, head-some)
+    where
+      head-some : 0 < headSize g
+      head-some = unfold headSize in omega arith
+
+  -- a message that is active stands behind those that began below it
+  pub converted-live : (i : ℕ) → Live g img i
+      → slot h img′ i
+      ≡ slotBytes (keyAt g img i) (g .D + length (rewrittenFrom g h img (startAt g img i - g .D) (g .D)))
+  converted-live i v = whole .slots i (v .low) ∙ slot-there g h img all i v (above-all i v)
+
+  -- a point without an active message has no offset
+  pub converted-bare : (i : ℕ) → i < g .N → taken g img i ≡ true → isActive img (startAt g img i) ≡ false
+      → slot h img′ i ≡ slotBytes (keyAt g img i) 0
+  converted-bare i l t n =
+      whole .slots i l
+      ∙ slot-waits g h img all i l (λ v k. not-both (isActive img (startAt g img i)) (v .active) n)
+      ∙ (unfold bareSlot in rw t refl)
+
+  -- an empty slot's bytes are zero, its offset bytes too
+  pub converted-empty : (i : ℕ) → i < g .N → taken g img i ≡ false → slot h img′ i ≡ blank g
+  converted-empty i l n =
+      whole .slots i l
+      ∙ slot-waits g h img all i l (λ v k. not-both (taken g img i) (v .is) n)
+      ∙ (unfold bareSlot in rw n refl)
+
+  -- ---- its data area
+
+  pub converted-free : field img′ freeField ≡ g .D + length messages
+  converted-free = whole .free
+
+  pub converted-page : field img′ pageField ≡ lastPage (g .D) (field img′ freeField)
+  converted-page = whole .page
+
+  -- "space is compacted as in Job 2"
+  pub converted-data : part img′ (g .D) (length messages) ≡ messages
+  converted-data = whole .area
+
+  -- ---- its header
+
+  table-same : h .N * slotSize h ≡ g .N * slotSize g
+  unfolding otherLayout recast slotSize
+  table-same = refl
+
+  table-low : tableStart + g .N * slotSize g ≤ g .D
+  table-low = S .room .table
+
+  -- below the table, X and M aside, it is as the bare image
+  below : (q m : ℕ) → Apart q m freeField 8 → q + m ≤ tableStart
+      → part img′ q m ≡ part t₀ q m
+  below q m a l =
+      whole .other q m a (inl l) (inl (omega (arith, table-low))) ∙ ap (λ (x : Bytes). part x q m) base-is
+
+  -- "header but for version, X and M"
+  pub converted-header : (q m : ℕ) → Apart q m versionField 3 → q + m ≤ freeField → part img′ q m ≡ part img q m
+  converted-header q m a l =
+      below q m (inl l) (omega arith) ∙ base-part img o L (sized .0) (sized .1) (sized .2) room q m a l
+
+  pub converted-version : part img′ versionField 3 ≡ otherVersion (majorOf img)
+  converted-version =
+      below versionField 3 (inl (omega arith)) (omega arith)
+      ∙ base-version img o L (sized .0) (sized .1) (sized .2) room
+
+  header-field : (at : ℕ) → serialField ≤ at → at + 4 ≤ freeField → field img′ at ≡ field img at
+  unfolding field
+  header-field at lo hi = ap number (converted-header at 4 (inr (omega arith)) hi)
+
+  abbrev numbers : ℕ
+  numbers = 4 * (field img lastField - field img firstField + 1)
+
+  pub converted-scramble : scramble img′ ≡ scramble img
+  unfolding scramble
+  converted-scramble =
+      ap₂ (λ (e f : ℕ). part img′ scrambleStart (4 * (e - f + 1)))
+      (header-field lastField (omega arith) (omega arith)) (header-field firstField (omega arith) (omega arith))
+      ∙ below scrambleStart numbers (inr (omega arith)) (omega (arith, o .last))
+      ∙ sym (ap₂ (λ (e f : ℕ). part t₀ scrambleStart (4 * (e - f + 1))) (same-field lastField (omega arith) (omega arith))
+      (same-field firstField (omega arith) (omega arith)))
+      ∙ base-scramble img o L (sized .0) (sized .1) (sized .2) room
+    where
+      same-field : (at : ℕ) → serialField ≤ at → at + 4 ≤ freeField → field t₀ at ≡ field img at
+      same-field at lo hi = base-field img o L (sized .0) (sized .1) (sized .2) room at lo hi
+
+  -- ---- "all other bytes are zero"
+
+  zero-part : (q m : ℕ) → headerSize ≤ q → q + m ≤ L → Apart q m scrambleStart numbers
+      → Apart q m tableStart (g .N * slotSize g) → Apart q m (g .D) (length messages)
+      → part img′ q m ≡ zeros m
+  zero-part q m lo hi a c d =
+      whole .other q m (inr (omega arith)) (subst (Apart q m tableStart) (sym table-same) c) d
+      ∙ ap (λ (x : Bytes). part x q m) base-is
+      ∙ base-zeros img o L (sized .0) (sized .1) (sized .2) room q m hi lo a c
+
+  -- bytes 60 to 511
+  pub zeros-header : part img′ headerSize (scrambleStart - headerSize) ≡ zeros (scrambleStart - headerSize)
+  zeros-header =
+      zero-part headerSize (scrambleStart - headerSize) (omega arith) (omega (arith, sized .1)) (inl (omega arith))
+      (inl (omega arith)) (inl (omega (arith, table-low)))
+
+  -- behind the scramble
+  pub zeros-scramble : part img′ (scrambleStart + numbers) (tableStart - (scrambleStart + numbers))
+      ≡ zeros (tableStart - (scrambleStart + numbers))
+  zeros-scramble =
+      zero-part (scrambleStart + numbers) (tableStart - (scrambleStart + numbers)) (omega arith)
+      (omega (arith, sized .1, o .last)) (inr (omega arith)) (inl (omega (arith, o .last)))
+      (inl (omega (arith, table-low, o .last)))
+
+  -- behind the table
+  pub zeros-table : part img′ (tableStart + g .N * slotSize g) (g .D - (tableStart + g .N * slotSize g))
+      ≡ zeros (g .D - (tableStart + g .N * slotSize g))
+  zeros-table =
+      zero-part (tableStart + g .N * slotSize g) (g .D - (tableStart + g .N * slotSize g)) (omega arith)
+      (omega (arith, table-low, room)) (inr (omega (arith, o .last))) (inr (omega arith))
+      (inl (omega (arith, table-low)))
+
+  -- from X on
+  pub zeros-free : part img′ (field img′ freeField) (L - field img′ freeField) ≡ zeros (L - field img′ freeField)
+  zeros-free =
+      zero-part (field img′ freeField) (L - field img′ freeField) (omega (arith, converted-free, table-low))
+      (omega (arith, R′ .opened .free-high, R′ .size)) (inr (omega (arith, converted-free, table-low, o .last)))
+      (inr (omega (arith, converted-free, table-low))) (inr (omega (arith, converted-free)))
