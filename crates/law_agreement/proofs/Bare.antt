@@ -15,7 +15,7 @@ use mathlib.Core.Option.{Option, none, some, Option·none-ne-some, Option·some-
 use lib.ListN.{length, length-append, getD, take, drop}
 use lib.Seq.{getD-take, getD-drop, take-at, drop-append-add}
 use lib.Dec.{eqb, leb}
-use borrow.Author.Tests.{eqb-true, leb-true, not-true, not-false}
+use borrow.Author.Tests.{eqb-true, eq-eqb, leb-true, not-true, not-false}
 use Rattle.spec_file.specs.Bytes.{Bytes, part, store, number, digits, zeros, allZero, same}
 use Rattle.spec_file.specs.Limits.{pageSize, mostImage, mostCharacter, magic, major, minor, patch, wideMajor, wideMinor, widePatch, versionField, serialField, keyField, slotsField, pointsField, multiplierField, startField, firstField, lastField, scrambleField, tableField, dataField, freeField, pageField, headerSize, scrambleStart, tableStart}
 use Rattle.spec_file.specs.Image.{field, setField, hash, scramble, majorOf, wide, widthOf, mostOf, lastPage, Layout, layoutOf, slotSize, slotStart, slot, keyOf, offsetOf, slotBytes, blank, vacant, home}
@@ -38,6 +38,7 @@ use Rattle.law_agreement.proofs.Entries.{Distinct, find-none, find-here
 use Rattle.law_agreement.proofs.Reflect.{Reflects, termsFor}
 use Rattle.law_agreement.proofs.Checked.{taken-allowed, entry-slot}
 use Rattle.spec_conversion.specs.Convert.{otherMajor, otherVersion, recast, otherLayout, bareSlot, bareSlots, bareImage}
+use Rattle.law_agreement.proofs.Fresh.{part-zeros}
 use Rattle.law_agreement.proofs.Carrying.{Carrying}
 use Rattle.law_agreement.proofs.Named.{is-taken, allowed-at, book-has, book-slot}
 use Rattle.law_file.proofs.Bytes.{by-same}
@@ -281,6 +282,28 @@ module _ (img : Bytes) (o : Opened img) (L : ℕ) (page : L % pageSize ≡ 0) (s
   base-free =
       field-setField-other s₅ pageField (lastPage (g .D) (g .D)) freeField (omega (arith, len₅, size-low)) (inl (omega arith))
       ∙ field-setField-same s₄ freeField (g .D) (omega (arith, len₄, size-low)) (omega (arith, room, size-high))
+
+  pub base-page : field base pageField ≡ lastPage (g .D) (g .D)
+  unfolding base lastPage
+  base-page =
+      field-setField-same s₅ pageField (lastPage (g .D) (g .D)) (omega (arith, len₅, size-low))
+      (rw (eq-eqb (g .D) (g .D) refl) (omega arith))
+
+  -- "all other bytes are zero": header, scramble and table aside
+  pub base-zeros : (q m : ℕ) → q + m ≤ L → headerSize ≤ q
+      → Apart q m scrambleStart (4 * (field img lastField - field img firstField + 1))
+      → Apart q m tableStart (g .N * slotSize g)
+      → part base q m ≡ zeros m
+  unfolding s₄ s₃ s₂ s₁
+  base-zeros q m in-target low scr tab =
+      behind q m (inr low)
+      ∙ part-store-other s₃ tableStart slots q m in₄ (subst (Apart q m tableStart) (sym length-slots) tab)
+      ∙ part-store-other s₂ scrambleStart (scramble img) q m in₃
+      (subst (Apart q m scrambleStart) (sym length-scramble) scr)
+      ∙ part-store-other s₁ versionField (otherVersion (majorOf img)) q m in₂
+      (inr (omega (arith, length-version (majorOf img))))
+      ∙ part-store-other (zeros L) 0 (part img 0 freeField) q m in₁ (inr (omega (arith, front-length)))
+      ∙ part-zeros L q m in-target
 
   pub base-scramble : scramble base ≡ scramble img
   unfolding scramble

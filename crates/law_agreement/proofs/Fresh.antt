@@ -52,7 +52,7 @@ part-behind a c p m n e h =
     split : length a ≡ n → n ≤ p → p ≡ length a + (p - n)
     split e h = omega arith
 
-part-zeros : (n p m : ℕ) → p + m ≤ n → part (zeros n) p m ≡ zeros m
+pub part-zeros : (n p m : ℕ) → p + m ≤ n → part (zeros n) p m ≡ zeros m
 unfolding part zeros
 part-zeros n p m h =
     ap (λ (x : ℕ). take m (drop p (replicate x 0))) (sum h)

@@ -1,1 +1,2 @@
-pub mod Cases
+-- Cases of the converter, by computation; its laws are in crates/law_conversion.
+pub mod CasesConvert
