@@ -395,7 +395,8 @@ module _ (s : State) (b : Book) (r : Reached s b) where
       (book-keeps (NotAdding key) (Lacks key) (λ t c x. effect-lacks key (step-effect t c x)) steps s b n
       (found-no b key (held-text key _ h)))
 
-  -- between compactions and conversions space once taken is never handed out again: new space is taken at X, and X does not fall
+  -- between compactions and conversions space once taken is never handed out again: new space is taken at X, and X
+  -- does not fall
   pub free-grows : (steps : List Step) → Permitted steps s → Each Keeping steps
       → freeOf s ≤ freeOf (stateAfter perform steps s)
   free-grows steps p k = free-keeps steps s b (reached-held s b r) p k

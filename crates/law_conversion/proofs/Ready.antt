@@ -1,8 +1,8 @@
 -- Document 02, Job 11: the converter's target while messages are carried into it, in terms of images alone. The proof
 -- goes by the book (crates/law_agreement/proofs/Carrying.antt); what is said here does not speak of it.
 --     accepted-sound     the converter accepts sound images alone
---     Ready              the target with the messages that begin below p: opened, in the other layout, with every key in
---                        its slot, and with room for each message that still waits
+--     Ready              the target with the messages that begin below p: opened, in the other layout, with every key
+--                        in its slot, and with room for each message that still waits
 --     ready              so it is at every place
 --     lengths-told       each length is one that the target's headers can tell
 -- Assumes nothing.
