@@ -32,8 +32,8 @@ wide-note = refl
 
 -- compaction: "QR" of 5 + 2 bytes moves down over "P", replaced by "ST" behind it; X falls to 14 above D
 pub wide-compacted : filed []
-    (compact (after (adding one (80 ∷ []) 1 ∷ adding two (81 ∷ 82 ∷ []) 1 ∷ adding one (83 ∷ 84 ∷ []) 2 ∷ []) wideHeaded)
-    .after)
+    (compact
+    (after (adding one (80 ∷ []) 1 ∷ adding two (81 ∷ 82 ∷ []) 1 ∷ adding one (83 ∷ 84 ∷ []) 2 ∷ []) wideHeaded) .after)
     ≡ shows 14 (97 ∷ 0 ∷ 0 ∷ 0 ∷ 2 ∷ 81 ∷ 82 ∷ 97 ∷ 0 ∷ 0 ∷ 0 ∷ 2 ∷ 83 ∷ 84 ∷ []) ∷ []
 unfolding compact-definitions filed after wideHeaded
 wide-compacted = refl
