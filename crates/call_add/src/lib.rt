@@ -5,6 +5,7 @@ use bytes_words::limits::MAJOR;
 use bytes_words::limits::MINOR;
 use bytes_words::limits::PATCH;
 use bytes_words::limits::VERSION_FIELD;
+use bytes_words::limits::WIDE_MAJOR;
 use call_add_absent::add_absent;
 use call_add_present::add_present;
 use header_layout::shape::Shape;

@@ -1,35 +1,28 @@
-// A message of one image carried into new space of another, whose header may have another size.
+// A message of one image carried into new space of another, whose headers have another size.
+use call_add_present::relocate;
 use header_layout::places::Offset;
 use header_layout::places::Slot;
 use header_layout::shape::Shape;
 use message_read::is_active;
 use message_read::length_at;
 use message_read::text_start;
-use call_add_present::relocate;
 use table_search::offset_of;
 ghost use mathlib.Core.Path.{_≡_};
-ghost use mathlib.Core.Bool.{true, cond};
-ghost use Prim.Native.Nat.{_+_, _≤_, _<_};
-ghost use lib.ListN.{length};
-ghost use Rattle.spec_file.specs.Bytes.{Bytes};
-ghost use Rattle.spec_file.specs.Image.{layoutOf};
-ghost use Rattle.spec_file.specs.Messages.{isActive, lengthAt, textAt, relocated};
-ghost use Rattle.spec_file.specs.Questions.{messageSound};
-ghost use Rattle.header_layout.specs.Shapes.{Open};
-ghost use Rattle.message_write.specs.Fits.{Fits};
-ghost use Rattle.table_search.specs.Slots.{keyIn, offsetIn};
+ghost use Prim.Native.Nat.{_<_};
+ghost use Rattle.convert_stages.specs.Stages.{Carriable, carriedTo, Passed};
+ghost use Rattle.table_search.specs.Slots.{offsetIn};
 
 // Carries the text of the message at o over, if it is active, and writes where it stands into the target's slot i.
-pub fn carry_message(source: &[u8], target: &mut [u8], from: Shape, to: Shape, i: Slot, o: Offset)
-    requires { ⌜ Open (now source) from × Open (now target) to × (i .0 < to .slots)
-        × (messageSound (layoutOf (now source)) (now source) (o .0) ≡ true)
-        × (isActive (now source) (o .0) ≡ true
-        → Fits (now target) to (lengthAt (layoutOf (now source)) (now source) (o .0))) ⌝ }
-    ensures { λ _. ⌜ now (target .exit)
-        ≡ cond (isActive (now (source .entry)) (o .0))
-        (relocated (layoutOf (now (target .entry))) (now (target .entry)) (i .0) 0 (keyIn (now (target .entry)) (i .0))
-        (textAt (layoutOf (now (source .entry))) (now (source .entry)) (o .0)))
-        (now (target .entry)) ⌝ }
+fn carry_message(
+    source: &[u8],
+    target: &mut [u8],
+    from: Shape,
+    to: Shape,
+    i: Slot,
+    o: Offset,
+)
+    requires { ⌜ Carriable (now source) (now target) from to (i .0) (o .0) ⌝ }
+    ensures { λ _. ⌜ now (target .exit) ≡ carriedTo (now (source .entry)) (now (target .entry)) (i .0) (o .0) ⌝ }
 {
     if !is_active(source, o) {
         return;
@@ -37,4 +30,16 @@ pub fn carry_message(source: &[u8], target: &mut [u8], from: Shape, to: Shape, i
     let at = text_start(from, o).at();
     let m = length_at(source, from, o);
     relocate(target, to, i, Offset::new(0), 0, &source[at..at + m]);
+}
+
+// Carries the message of the slot with that number, if there is one.
+pub fn carry_slot(source: &[u8], target: &mut [u8], from: Shape, to: Shape, i: usize)
+    requires { ⌜ (i < from .slots → Carriable (now source) (now target) from to i (offsetIn (now source) i)) ⌝ }
+    ensures { λ _. ⌜ Passed (now (source .entry)) from (now (target .entry)) (now (target .exit)) i ⌝ }
+{
+    if from.slots <= i {
+        return;
+    }
+    let slot = Slot::new(i);
+    carry_message(source, target, from, to, slot, offset_of(source, from, slot));
 }

@@ -1,19 +1,34 @@
 -- The shape's numbers are the layout's; and those of a message's header by the width that the code reads and writes.
 --     shape-area, area-field, shape-head, shape-most      D, the header's size, the largest length
+--     head-major             the header's size, by the version's first byte
 --     head-width, head-range      the header is a letter and W bytes: 4 or 5
 --     most-tells                  which can tell the largest length
 -- Assumes nothing.
 use mathlib.Core.Path.{_≡_, refl, ap, _∙_}
 use Prim.Native.Nat.{ℕ, _+_, _-_, _≤_, _<_}
 use native.Mathlib.Omega.{arith}
+use borrow.Author.Tests.{eqb-true}
 use Rattle.spec_file.specs.Bytes.{Bytes}
 use Rattle.spec_file.specs.Limits.{dataField}
 use Rattle.spec_file.specs.Image.{field, majorOf, wide, widthOf, mostOf, layoutOf}
 use Rattle.spec_file.specs.Messages.{headSize}
+use Rattle.spec_file.specs.Questions.{openNumber}
 use Rattle.law_file.proofs.Tests.{by-bool}
+use Rattle.law_file.proofs.Opened.{opened-facts}
+use Rattle.law_file.proofs.Kept.{major-narrow}
 use Rattle.law_file.proofs.Effects.{head-least, head-most}
 use Rattle.header_layout.specs.Shapes.{mostBy, shapeOf, Open, Tells}
 use Rattle.header_layout.specs.declared.shape.Shape.{Shape}
+
+-- by the version's first byte, of an accepted header
+pub head-major : (img : Bytes) → openNumber img ≡ 0 → headSize (layoutOf img) ≡ 3 + majorOf img
+unfolding headSize layoutOf widthOf
+head-major img h =
+    by-bool (wide (majorOf img))
+    (λ y. let e : majorOf img ≡ 2 = unfold wide in eqb-true (majorOf img) 2 y in rw y (omega (arith, e)))
+    (λ n.
+    let e : majorOf img ≡ 1 = major-narrow img (opened-facts img h .version) n in
+    rw n (omega (arith, e)))
 
 module _ {img : Bytes} {s : Shape} (o : Open img s) where
   pub shape-area : s .area .0 ≡ layoutOf img .D

@@ -13,13 +13,10 @@ use bytes_words::limits::SLOTS_FIELD;
 use bytes_words::limits::START_FIELD;
 use bytes_words::limits::VERSION_FIELD;
 use bytes_words::limits::WIDE_HEAD;
-use bytes_words::limits::WIDE_MAJOR;
 ghost use mathlib.Core.Path.{_≡_};
-ghost use Prim.Native.Nat.{_≤_};
-ghost use lib.ListN.{length};
-ghost use Rattle.spec_file.specs.Limits.{headerSize};
 ghost use Rattle.spec_file.specs.Image.{layoutOf};
 ghost use Rattle.spec_file.specs.Messages.{headSize};
+ghost use Rattle.spec_file.specs.Questions.{openNumber};
 ghost use Rattle.header_layout.specs.Shapes.{maskBy, mostBy, shapeOf};
 
 // K, N and D; the size of a message's header; the hash's numbers (its basis is 01's
@@ -35,15 +32,12 @@ pub struct Shape {
     pub last: u32,
 }
 
-// The size of a message's header, by the version's first byte.
+// The size of a message's header: 4 in version 1, 5 in version 2. Without a comparison: every call pays for it.
 fn head_size(image: &[u8]) -> usize
-    requires { ⌜ headerSize ≤ length (now image) ⌝ }
+    requires { ⌜ openNumber (now image) ≡ 0 ⌝ }
     ensures { λ r. ⌜ r ≡ headSize (layoutOf (now (image .entry))) ⌝ }
 {
-    if image[VERSION_FIELD] == WIDE_MAJOR {
-        return WIDE_HEAD;
-    }
-    HEAD
+    HEAD - 1 + (image[VERSION_FIELD] as usize)
 }
 
 // A message's largest length, by the size of its header.
@@ -67,7 +61,7 @@ pub fn length_mask(head: usize) -> u32
 }
 
 pub fn read_shape(image: &[u8]) -> Shape
-    requires { ⌜ headerSize ≤ length (now image) ⌝ }
+    requires { ⌜ openNumber (now image) ≡ 0 ⌝ }
     ensures { λ r. ⌜ r ≡ shapeOf (now (image .entry)) ⌝ }
 {
     let keylen = read_u32(image, KEY_FIELD) as usize;

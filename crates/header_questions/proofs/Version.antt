@@ -1,5 +1,5 @@
 -- Question 5 of eight bytes, put as two numbers.
---     version-words      "BHTF" as one number, v and the version bytes as another
+--     version-letters, version-narrow, version-wide      "BHTF" as one number, v and the version bytes as another
 -- Assumes nothing.
 use mathlib.Core.Path.{_≡_, refl, sym, ap, _∙_}
 use Prim.Native.Nat.{ℕ, _+_, _*_, _%_, _≤_, _<_}
@@ -8,7 +8,7 @@ use mathlib.Core.Bool.{Bool, true, false, _&&_, _||_}
 use mathlib.Core.List.{[], _∷_}
 use lib.ListN.{length, getD}
 use lib.Dec.{eqb, leb, ltb}
-use borrow.Author.Tests.{eqb-true, leb-true, ltb-true, eq-eqb, le-leb, lt-ltb}
+use borrow.Author.Tests.{eqb-true, leb-true, eq-eqb, ne-eqb, le-leb}
 use Rattle.spec_file.specs.Bytes.{Bytes, part, number, same}
 use Rattle.spec_file.specs.Limits.{magic}
 use Rattle.spec_file.specs.Image.{field}
@@ -108,7 +108,7 @@ module _ (a b c d e f g h : ℕ) (la : a < 256) (lb : b < 256) (lc : c < 256) (l
   words-bytes : words ≡ bytes
   words-bytes = both-ways words bytes forth back
 
-pub version-words : (img : Bytes) → AreBytes img → 8 ≤ length img
+version-words : (img : Bytes) → AreBytes img → 8 ≤ length img
     → (eqb (field img 0) 0x42485446
     && ((leb 0x76010000 (field img 4) && leb (field img 4) 0x76010002) || eqb (field img 4) 0x76020000))
     ≡ versionKnown img
@@ -123,168 +123,16 @@ version-words img bytes l =
     (words-bytes (at 0) (at 1) (at 2) (at 3) (at 4) (at 5) (at 6) (at 7) (bytes 0) (bytes 1) (bytes 2) (bytes 3)
     (bytes 4) (bytes 5) (bytes 6) (bytes 7))
 
--- both numbers as one
-pub one-word : (F S : ℕ) → S < 4294967296
-    → ((leb 0x4248544676010000 (F * 4294967296 + S) && leb (F * 4294967296 + S) 0x4248544676010002)
-    || eqb (F * 4294967296 + S) 0x4248544676020000)
-    ≡ (eqb F 0x42485446 && ((leb 0x76010000 S && leb S 0x76010002) || eqb S 0x76020000))
-one-word F S l = both-ways _ _ forth′ back′
-  where
-    w : ℕ
-    w = F * 4294967296 + S
+-- ---- asked one after the other
+module _ (img : Bytes) (bytes : AreBytes img) (l : 8 ≤ length img) where
+  abbrev first-kind : Bool
+  first-kind = leb 0x76010000 (field img 4) && leb (field img 4) 0x76010002
 
-    forth′ : ((leb 0x4248544676010000 (F * 4294967296 + S) && leb (F * 4294967296 + S) 0x4248544676010002)
-        || eqb (F * 4294967296 + S) 0x4248544676020000) ≡ true
-        → (eqb F 0x42485446 && ((leb 0x76010000 S && leb S 0x76010002) || eqb S 0x76020000)) ≡ true
-    forth′ t =
-        by-or (leb 0x4248544676010000 (F * 4294967296 + S) && leb (F * 4294967296 + S) 0x4248544676010002) _ t
-        (λ r.
-        let a : 0x4248544676010000 ≤ F * 4294967296 + S = leb-true _ _ (and-left _ (leb (F * 4294967296 + S) 0x4248544676010002) r) in
-        let b : F * 4294967296 + S ≤ 0x4248544676010002 = leb-true _ _ (and-right (leb 0x4248544676010000 (F * 4294967296 + S)) _ r) in
-        let f : F ≡ 0x42485446 = omega arith in
-        let lo : 0x76010000 ≤ S = omega arith in
-        let hi : S ≤ 0x76010002 = omega arith in
-        rw (f, le-leb 0x76010000 S lo, le-leb S 0x76010002 hi) refl)
-        (λ n r.
-        let a : F * 4294967296 + S ≡ 0x4248544676020000 = eqb-true _ _ r in
-        let f : F ≡ 0x42485446 = omega arith in
-        let s : S ≡ 0x76020000 = omega arith in
-        rw (f, s) refl)
+  pub version-letters : (field img 0 ≡ 0x42485446 → ⊥) → false ≡ versionKnown img
+  version-letters n = sym (sym (version-words img bytes l) ∙ rw (ne-eqb (field img 0) 0x42485446 n) refl)
 
-    back′ : (eqb F 0x42485446 && ((leb 0x76010000 S && leb S 0x76010002) || eqb S 0x76020000)) ≡ true
-        → ((leb 0x4248544676010000 (F * 4294967296 + S) && leb (F * 4294967296 + S) 0x4248544676010002)
-        || eqb (F * 4294967296 + S) 0x4248544676020000) ≡ true
-    back′ t =
-        let f : F ≡ 0x42485446 = eqb-true _ _ (and-left (eqb F 0x42485446) _ t) in
-        by-or (leb 0x76010000 S && leb S 0x76010002) (eqb S 0x76020000) (and-right (eqb F 0x42485446) _ t)
-        (λ r.
-        let lo : 0x76010000 ≤ S = leb-true _ _ (and-left (leb 0x76010000 S) _ r) in
-        let hi : S ≤ 0x76010002 = leb-true _ _ (and-right (leb 0x76010000 S) _ r) in
-        let a : 0x4248544676010000 ≤ F * 4294967296 + S = omega arith in
-        let b : F * 4294967296 + S ≤ 0x4248544676010002 = omega arith in
-        rw (le-leb _ _ a, le-leb _ _ b) refl)
-        (λ n r.
-        let s : S ≡ 0x76020000 = eqb-true _ _ r in
-        rw (f, s) refl)
+  pub version-narrow : field img 0 ≡ 0x42485446 → first-kind ≡ true → true ≡ versionKnown img
+  version-narrow e y = sym (sym (version-words img bytes l) ∙ rw (eq-eqb (field img 0) 0x42485446 e, y) refl)
 
--- halves of a number
-halves : (x y p q : ℕ) → y < 4294967296 → q < 4294967296 → x * 4294967296 + y ≡ p * 4294967296 + q → (x ≡ p) × (y ≡ q)
-halves x y p q ly lq e = (omega arith, omega arith)
-
--- "BHTF"
-letters-four : (a b c d : ℕ) → a < 256 → b < 256 → c < 256 → d < 256
-    → d * 16777216 + (c * 65536 + (b * 256 + a)) ≡ 1179928642 → (a ≡ 66) × (b ≡ 72) × (c ≡ 84) × (d ≡ 70)
-letters-four a b c d la lb lc ld q =
-    let ed : d ≡ 70 = omega arith in
-    let ec : c ≡ 84 = omega arith in
-    let eb : b ≡ 72 = omega arith in
-    let ea : a ≡ 66 = omega arith in
-    (ea, eb, ec, ed)
-
--- the eight bytes as one number, least significant first
-module _ (a b c d e f g h : ℕ) (la : a < 256) (lb : b < 256) (lc : c < 256) (ld : d < 256) (le : e < 256) (lf : f < 256)
-    (lg : g < 256) (lh : h < 256) where
-  abbrev low : ℕ
-  low = d * 16777216 + (c * 65536 + (b * 256 + a))
-
-  abbrev high : ℕ
-  high = h * 16777216 + (g * 65536 + (f * 256 + e))
-
-  abbrev whole : ℕ
-  whole = high * 4294967296 + low
-
-  abbrev whole? : Bool
-  whole? = (eqb (whole % 72057594037927936) 1607497697346 && ltb whole 216172782113783808) || eqb whole 2707009325122
-
-  abbrev bytes? : Bool
-  bytes? =
-      same (a ∷ b ∷ c ∷ d ∷ e ∷ []) magic
-      && ((eqb f 1 && eqb g 0 && leb h 2) || (eqb f 2 && eqb g 0 && eqb h 0))
-
-  -- without the last byte
-  seven : whole % 72057594037927936 ≡ (g * 65536 + (f * 256 + e)) * 4294967296 + low
-  seven = omega arith
-
-  forth₈ : whole? ≡ true → bytes? ≡ true
-  unfolding same
-  forth₈ t =
-      by-or (eqb (whole % 72057594037927936) 1607497697346 && ltb whole 216172782113783808) _ t
-      (λ r.
-      let q : (g * 65536 + (f * 256 + e)) * 4294967296 + low ≡ 1607497697346 =
-      sym seven ∙ eqb-true _ _ (and-left _ (ltb whole 216172782113783808) r) in
-      let u : whole < 216172782113783808 = ltb-true _ _ (and-right (eqb (whole % 72057594037927936) 1607497697346) _ r) in
-      let ll : low < 4294967296 = omega arith in
-      let hs = halves (g * 65536 + (f * 256 + e)) low 374 1179928642 ll (omega arith) q in
-      let s₁ : g * 65536 + (f * 256 + e) ≡ 374 = hs .0 in
-      let s₂ : low ≡ 1179928642 = hs .1 in
-      let four = letters-four a b c d la lb lc ld s₂ in
-      let ea : a ≡ 66 = four .0 in
-      let eb : b ≡ 72 = four .1 in
-      let ec : c ≡ 84 = four .2 in
-      let ed : d ≡ 70 = four .3 in
-      let eg : g ≡ 0 = omega (arith, s₁) in
-      let ef : f ≡ 1 = omega (arith, s₁) in
-      let ee : e ≡ 118 = omega (arith, s₁) in
-      let eh : h ≤ 2 = omega arith in
-      rw (ea, eb, ec, ed, ee, ef, eg, le-leb h 2 eh) refl)
-      (λ n r.
-      let q : whole ≡ 2707009325122 = eqb-true _ _ r in
-      let ll : low < 4294967296 = omega arith in
-      let hs = halves high low 630 1179928642 ll (omega arith) q in
-      let s₁ : high ≡ 630 = hs .0 in
-      let s₂ : low ≡ 1179928642 = hs .1 in
-      let four = letters-four a b c d la lb lc ld s₂ in
-      let ea : a ≡ 66 = four .0 in
-      let eb : b ≡ 72 = four .1 in
-      let ec : c ≡ 84 = four .2 in
-      let ed : d ≡ 70 = four .3 in
-      let eh : h ≡ 0 = omega (arith, s₁) in
-      let eg : g ≡ 0 = omega (arith, s₁) in
-      let ef : f ≡ 2 = omega (arith, s₁) in
-      let ee : e ≡ 118 = omega (arith, s₁) in
-      rw (ea, eb, ec, ed, ee, ef, eg, eh) refl)
-
-  back₈ : bytes? ≡ true → whole? ≡ true
-  back₈ t =
-      let S : Bool = same (a ∷ b ∷ c ∷ d ∷ e ∷ []) magic in
-      let one : Bool = eqb f 1 && eqb g 0 && leb h 2 in
-      let two : Bool = eqb f 2 && eqb g 0 && eqb h 0 in
-      let m : a ∷ b ∷ c ∷ d ∷ e ∷ [] ≡ magic =
-      same-true (a ∷ b ∷ c ∷ d ∷ e ∷ []) magic (and-left S (one || two) t) in
-      let ea : a ≡ 66 = ap (λ (l : Bytes). getD l 0 0) m in
-      let eb : b ≡ 72 = ap (λ (l : Bytes). getD l 1 0) m in
-      let ec : c ≡ 84 = ap (λ (l : Bytes). getD l 2 0) m in
-      let ed : d ≡ 70 = ap (λ (l : Bytes). getD l 3 0) m in
-      let ee : e ≡ 118 = ap (λ (l : Bytes). getD l 4 0) m in
-      by-or one two (and-right S (one || two) t)
-      (λ r.
-      let ef : f ≡ 1 = eqb-true f 1 (and-left (eqb f 1) (eqb g 0) (and-left (eqb f 1 && eqb g 0) (leb h 2) r)) in
-      let eg : g ≡ 0 = eqb-true g 0 (and-right (eqb f 1) (eqb g 0) (and-left (eqb f 1 && eqb g 0) (leb h 2) r)) in
-      let eh : h ≤ 2 = leb-true h 2 (and-right (eqb f 1 && eqb g 0) (leb h 2) r) in
-      let q : whole % 72057594037927936 ≡ 1607497697346 = seven ∙ omega arith in
-      let u : whole < 216172782113783808 = omega arith in
-      rw (eq-eqb _ _ q, lt-ltb _ _ u) refl)
-      (λ no′ r.
-      let ef : f ≡ 2 = eqb-true f 2 (and-left (eqb f 2) (eqb g 0) (and-left (eqb f 2 && eqb g 0) (eqb h 0) r)) in
-      let eg : g ≡ 0 = eqb-true g 0 (and-right (eqb f 2) (eqb g 0) (and-left (eqb f 2 && eqb g 0) (eqb h 0) r)) in
-      let eh : h ≡ 0 = eqb-true h 0 (and-right (eqb f 2 && eqb g 0) (eqb h 0) r) in
-      let q : whole ≡ 2707009325122 = omega arith in
-      or-right (eqb (whole % 72057594037927936) 1607497697346 && ltb whole 216172782113783808) _ (eq-eqb _ _ q))
-
-  whole-bytes : whole? ≡ bytes?
-  whole-bytes = both-ways whole? bytes? forth₈ back₈
-
-pub version-whole : (img : Bytes) → AreBytes img → 8 ≤ length img
-    → let at : ℕ → ℕ = λ i. getD img i 0 in
-    let w : ℕ =
-    (at 7 * 16777216 + (at 6 * 65536 + (at 5 * 256 + at 4))) * 4294967296
-    + (at 3 * 16777216 + (at 2 * 65536 + (at 1 * 256 + at 0))) in
-    ((eqb (w % 72057594037927936) 1607497697346 && ltb w 216172782113783808) || eqb w 2707009325122) ≡ versionKnown img
-unfolding versionKnown
-version-whole img bytes l =
-    let at : ℕ → ℕ = λ i. getD img i 0 in
-    let p : part img 0 5 ≡ at 0 ∷ at 1 ∷ at 2 ∷ at 3 ∷ at 4 ∷ [] =
-    part-cons img 0 4 (omega arith) ∙ ap (λ (t : Bytes). at 0 ∷ t) (part-four img 1 (omega arith)) in
-    rw p
-    (whole-bytes (at 0) (at 1) (at 2) (at 3) (at 4) (at 5) (at 6) (at 7) (bytes 0) (bytes 1) (bytes 2) (bytes 3)
-    (bytes 4) (bytes 5) (bytes 6) (bytes 7))
+  pub version-wide : field img 0 ≡ 0x42485446 → first-kind ≡ false → eqb (field img 4) 0x76020000 ≡ versionKnown img
+  version-wide e n = sym (sym (version-words img bytes l) ∙ rw (eq-eqb (field img 0) 0x42485446 e, n) refl)

@@ -34,9 +34,14 @@ pub fn version_known(image: &[u8]) -> bool
     requires { ⌜ 8 ≤ length (now image) ⌝ }
     ensures { λ r. ⌜ r ≡ versionKnown (now (image .entry)) ⌝ }
 {
+    if read_u32(image, MAGIC_FIELD) != MAGIC {
+        return false;
+    }
     let version = read_u32(image, VERSION_WORD);
-    (read_u32(image, MAGIC_FIELD) == MAGIC)
-        & (((OLDEST_VERSION <= version) & (version <= VERSION)) | (version == WIDE_VERSION))
+    if (OLDEST_VERSION <= version) & (version <= VERSION) {
+        return true;
+    }
+    version == WIDE_VERSION
 }
 
 // Question 6 up to the offsets: the fields that are compared with each other or with a fixed number.

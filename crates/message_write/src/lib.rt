@@ -38,7 +38,7 @@ pub fn retire(image: &mut [u8], o: Offset)
 }
 
 // Writes the header of an active message of m bytes.
-fn write_head(space: &mut [u8], head: usize, m: usize)
+pub fn write_head(space: &mut [u8], head: usize, m: usize)
     requires { ⌜ Tells head m × (head ≤ length (now space)) ⌝ }
     ensures { λ _. ⌜ now (space .exit) ≡ store (now (space .entry)) 0 (active ∷ digits (head - 1) m) ⌝ }
 {

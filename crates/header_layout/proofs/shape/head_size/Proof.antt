@@ -1,22 +1,29 @@
--- By cases of the version's first byte. Assumes nothing.
+-- The version's first byte is 1 or 2. Assumes nothing.
 use borrow.Author.Needs.{needs}
-use mathlib.Core.Path.{refl, sym}
-use borrow.Author.Tests.{ne-eqb}
-use Rattle.spec_file.specs.Image.{majorOf, wide, widthOf, layoutOf}
-use Rattle.spec_file.specs.Messages.{headSize}
+use native.Mathlib.Omega.{arith}
+use mathlib.Core.Path.{sym}
+use Rattle.spec_file.specs.Image.{majorOf}
+use Rattle.law_file.proofs.Opened.{opened-facts}
+use Rattle.header_layout.proofs.Shaped.{head-major}
 use Rattle.header_layout.proofs.shape.head_size.Statement.{statement}
 use Rattle.header_layout.proofs.shape.head_size.Tie as tie
 
-shared-slice-read-if1 : tie.Need-shared-slice-read-if1
-shared-slice-read-if1 c = search needs
+sub-result : tie.Need-sub-result
+sub-result c = search needs
+
+shared-slice-read-result : tie.Need-shared-slice-read-result
+shared-slice-read-result c = omega (arith, opened-facts (c .before .args .image .now) (c .before .pre) .size-low)
+
+cast-result : tie.Need-cast-result
+cast-result c = omega (arith, c .shared-slice-known .given 5)
+
+add-result : tie.Need-add-result
+add-result c = omega (arith, c .shared-slice-known .given 5)
 
 returns : tie.Need-returns
-unfolding headSize layoutOf widthOf wide majorOf
-returns c = sym (rw (c .if1 .taken) refl)
-
-returns-2 : tie.Need-returns-2
-unfolding headSize layoutOf widthOf wide majorOf
-returns-2 c = sym (rw (ne-eqb _ 2 (c .if1 .left)) refl)
+unfolding majorOf
+returns c = sym (head-major (c .before .args .image .now) (c .before .pre))
 
 pub head-size-spec : {M : Type 1} → statement M
-head-size-spec = tie.close (tie.spec shared-slice-read-if1 returns returns-2)
+head-size-spec =
+    tie.close (tie.spec sub-result shared-slice-read-result cast-result add-result returns)
