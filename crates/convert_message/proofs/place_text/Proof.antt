@@ -76,7 +76,9 @@ start-at-text-start c = new-at-text-start c .before .before .before .before .bef
 
 -- where the (empty) old text would begin
 from-is : (c : tie.After-text-start) → c .text-start .result .0 ≡ 0 + start-at-text-start c .args .to .head
-from-is c = c .text-start .ensures ∙ ap (λ (o : ℕ). o + start-at-text-start c .args .to .head) (c .before .new2 .ensures)
+from-is c =
+    c .text-start .ensures
+    ∙ ap (λ (o : ℕ). o + start-at-text-start c .args .to .head) (c .before .new2 .ensures)
 
 take-space-requires : tie.Need-take-space-requires
 take-space-requires c κs =
@@ -115,7 +117,8 @@ returns c =
     (T .text-start .result .0) 0 (from-is T) (low S) (room S) (P .take-space .ensures)
     (E .set-offset .last .0) (A .i .0) (N .new .result .0) (S .pre .1) (N .new .ensures ∙ N .before .read-u32 .ensures)
     (E .set-offset .ensures)
-    ∙ ap (λ (old : Bytes). relocated (layoutOf t) t (A .i .0) 0 (keyIn t (A .i .0)) (old ++ A .text .now)) (part-zero t _)
+    ∙ ap (λ (old : Bytes). relocated (layoutOf t) t (A .i .0) 0 (keyIn t (A .i .0)) (old ++ A .text .now))
+    (part-zero t _)
     ∙ relocated-carried t (A .i .0) (A .text .now)
 
 pub place-text-spec : {M : Type 1} → statement M
