@@ -29,7 +29,7 @@ static int put_held(struct buffer *line, const struct buffer *copy,
     if (!slot_stretch(copy->bytes, h, slot, &s) || s.end == 0)
         return buffer_put(line, " - ", 3);
     snprintf(held, sizeof held, " %lu ",
-             (unsigned long)(s.end - s.start - BHTF_MESSAGE_HEADER));
+             (unsigned long)(s.end - s.start - h->message_header));
     return buffer_put(line, held, strlen(held));
 }
 
