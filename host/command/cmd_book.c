@@ -45,12 +45,12 @@ static int print_entry(struct buffer *line, const struct buffer *copy,
     line->length = 0;
     done = quoted_put_name(line, key, h->key_size) |
            put_held(line, copy, h, slot);
-    if (offset == 0)
-        done |= buffer_put_byte(line, '-');
-    else
-        done |= quoted_put(line, copy->bytes + offset, length);
-    done |= buffer_put_byte(line, '\n');
     fwrite(line->bytes, 1, line->length, stdout);
+    if (offset == 0)
+        putchar('-');
+    else
+        done |= quoted_print(stdout, copy->bytes + offset, length);
+    putchar('\n');
     return done;
 }
 

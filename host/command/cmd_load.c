@@ -42,6 +42,9 @@ static int complain_of_line(struct load *l, const char *words)
 
 /* ---- lines ---- */
 
+/* Bytes of a long line after which it is shown how far the work is. */
+enum { SHOWN_AFTER = 1 << 20 };
+
 static int end_of_stream(struct load *l)
 {
     if (interrupted)
@@ -65,6 +68,8 @@ static int read_line(struct load *l, int *more)
             return complain_of_line(l, "the line is too long");
         if (buffer_put_byte(&l->line, (uint8_t)byte) != 0)
             return out_of_memory();
+        if (l->line.length % SHOWN_AFTER == 0)
+            progress_show(&l->progress, l->stored, l->taken + l->line.length);
     }
     l->number++;
     l->taken += l->line.length + 1;

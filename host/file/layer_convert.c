@@ -45,6 +45,10 @@ static int is_length(size_t length)
 
 static uint32_t refused(bhtf_file *f, uint32_t number)
 {
+    if (number == BHTF_NO_ROOM)
+        return layer_fail(f, number, 0, "refused (13): its messages need a file "
+                          "of %llu bytes in the other version",
+                          (unsigned long long)least_length(f->image, f->length));
     return layer_fail(f, number, 0, "refused (%lu): %s", (unsigned long)number,
                       bhtf_message(number));
 }
