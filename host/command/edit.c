@@ -262,8 +262,8 @@ static int ask_text_file(const struct options *o)
 {
     if (o->text_file == NULL || from_input(o))
         return DONE;
-    complain("add: --text-file gives the whole text; leave out TEXT, the fields "
-             "and --no-text");
+    complain("add: --text-file gives the whole text; leave out TEXT, the "
+             "fields and --no-text");
     return TROUBLE;
 }
 

@@ -4,9 +4,9 @@
 
 #include "commands.h"
 
-/* Reads a text, from the file of --text-file, or from standard input where it is
- * - or not given: DONE, or TROUBLE after a complaint. Of what is longer than any
- * text, one byte more. */
+/* Reads a text, from the file of --text-file, or from standard input where it
+ * is - or not given: DONE, or TROUBLE after a complaint. Of what is longer than
+ * any text, one byte more. */
 int text_read(struct buffer *text, const struct options *o);
 
 /* Makes the file of --text-file of a text, whole or not at all. One that is
