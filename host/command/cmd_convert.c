@@ -18,6 +18,8 @@ static uint64_t least_size(const struct buffer *view)
     const struct space s = space_measure(view, &h);
     uint64_t end = h.data + s.active;
 
+    if (end > h.next)
+        end = h.next; /* of one that is not sound, which will be refused */
     end = h.message_header == BHTF_MESSAGE_HEADER ? end + s.texts
                                                   : end - s.texts;
     return (end + BHTF_PAGE - 1) / BHTF_PAGE * BHTF_PAGE;

@@ -1,19 +1,17 @@
 /* The file layer: a new file of an open one's image, of the other version. */
 #include "layer.h"
 
-enum { KEY_SIZE_AT = 12, DATA_AT = 48 };
+enum { KEY_SIZE_AT = 12, DATA_AT = 48, NEXT_AT = 52 };
 
-/* The length of the shortest file of the other version that holds what an
- * accepted image does. A damaged message counts nothing: the image will be
- * refused. */
+/* The length of the shortest file of the other version that holds what a sound
+ * image does. One that is not sound will be refused. */
 static uint64_t least_length(const uint8_t *image, size_t length)
 {
     const uint32_t key_size = layer_u32(image + KEY_SIZE_AT);
-    const uint64_t header =
-        bhtf_message_header(image, length) == BHTF_MESSAGE_HEADER
-        ? BHTF_MESSAGE_HEADER_2 : BHTF_MESSAGE_HEADER;
+    const uint32_t header = bhtf_message_header(image, length);
+    const uint64_t next = layer_u32(image + NEXT_AT);
     uint64_t end = layer_u32(image + DATA_AT);
-    uint32_t slot, key;
+    uint32_t slot, key, texts = 0;
 
     bhtf_walk(image, length, 0, &slot, &key);
     while (key != 0) {
@@ -21,8 +19,11 @@ static uint64_t least_length(const uint8_t *image, size_t length)
 
         bhtf_lookup(image, length, image + key, key_size, &offset, &size);
         end += offset == 0 ? 0 : header + size;
+        texts += offset != 0;
         bhtf_walk(image, length, slot + 1, &slot, &key);
     }
+    end = end < next ? end : next; /* messages do not share bytes */
+    end = header == BHTF_MESSAGE_HEADER ? end + texts : end - texts;
     return (end + BHTF_PAGE - 1) / BHTF_PAGE * BHTF_PAGE;
 }
 
