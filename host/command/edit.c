@@ -268,13 +268,12 @@ static int ask_text_file(const struct options *o)
 }
 
 /* A file's text may be read at any time, one from standard input before the
- * file is opened. */
+ * file is opened. What was read then stays where it is. */
 static int text_of_input(const struct edit *e, struct buffer *text,
                          const struct options *o)
 {
     if (e->typed != NULL)
-        return buffer_put(text, e->typed->bytes, e->typed->length) == 0
-            ? DONE : out_of_memory();
+        return DONE;
     if (o->text_file != NULL && strcmp(o->text_file, "-") != 0)
         return text_read(text, o);
     complain("%s: add needs a text, or --no-text", e->place);
@@ -342,6 +341,7 @@ int edit_add(struct edit *e, const struct options *o)
 {
     struct buffer bytes = { NULL, 0, 0 };
     struct piece text = { (const uint8_t *)"", 0 };
+    const struct buffer *from;
     int status;
 
     if (ask_text_file(o) != DONE)
@@ -353,9 +353,10 @@ int edit_add(struct edit *e, const struct options *o)
         return TROUBLE;
     }
     status = read_text(e, &bytes, o);
-    if (bytes.length > 0)
-        text.bytes = bytes.bytes;
-    text.length = bytes.length;
+    from = from_input(o) && e->typed != NULL ? e->typed : &bytes;
+    if (from->length > 0)
+        text.bytes = from->bytes;
+    text.length = from->length;
     if (status == DONE)
         status = add_text(e, o, &text);
     buffer_free(&bytes);
