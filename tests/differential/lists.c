@@ -1,6 +1,8 @@
 /* The three kinds of lists. */
 #include "parts.h"
 
+#include <string.h>
+
 /* ---- with the book ---- */
 
 static const uint8_t usual[] = { 0, 52, 68, 73, 87, 90, 94, 98 };
@@ -50,12 +52,32 @@ static void close_list(void)
     walk_all();
 }
 
-/* Now and then as long as the old limit, or long enough for question 12. */
+/* Now and then as long as the old limit, or long enough for question 12, or
+ * for a text that is too long for version 1. */
 static uint32_t list_length(uint32_t data)
 {
-    if (data > MIB16 || !one_in(4000))
+    uint32_t lengths[] = { MIB16, 4 * MIB16, MIB16 + data + PAGE,
+                           MIB16 + data + PAGE };
+
+    if (data > MIB16 || !one_in(1500))
         return choose_image_length(data);
-    return one_in(2) || run.old_limits ? MIB16 : 4 * MIB16;
+    return run.old_limits ? MIB16 : PICK(lengths);
+}
+
+/* A long file of version 2.0.0: what is too long for version 1 stops the way
+ * back. */
+static void convert_long(void)
+{
+    static const uint32_t lengths[] = { MIB16 - 1, MIB16, MIB16 + 1 };
+
+    convert_list();
+    new_call(ADD);
+    memcpy(lend_key(list.key_size), list.name[0], list.key_size);
+    lend_data(PICK(lengths));
+    list.now.mode = 2;
+    list.now.form = PLAIN;
+    run_call();
+    convert_list();
 }
 
 void list_from_create(void)
@@ -82,6 +104,10 @@ void list_from_create(void)
         calls = 12;
         list.names = 3;
     }
+    if (!run.old_calls && lent.length > MIB16 && list.slots < OLD_SLOTS)
+        convert_long();
+    else if (!run.old_calls && one_in(3))
+        convert_list();
     if (one_in(2))
         add_all_names();
     while (calls-- > 0)
@@ -104,6 +130,8 @@ void list_reopened(void)
     close_list();
     if (one_in(3))
         step_compact();
+    else if (!run.old_calls && one_in(2))
+        step_convert();
     while (calls-- > 0)
         step(weights);
     close_list();
