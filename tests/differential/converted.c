@@ -75,7 +75,7 @@ static size_t choose_target_length(void)
 {
     size_t same = list.now.image_len <= lent.length ? list.now.image_len
                                                     : lent.length;
-    size_t wrong[] = { 0, 1, 4095, 4097, same + 1, same - 1, same / 2 + 1,
+    size_t wrong[] = { 0, 1, 4095, 4097, same + 1, same + 4095, same / 2 + 1,
                        (size_t)GIB + PAGE };
     size_t needed = is_sound() ? page_above(end_below(lent.before, ~0u)) : same;
     uint32_t style = below(32);

@@ -160,7 +160,7 @@ static int version_fits(const uint8_t *image)
 {
     if (memcmp(image, "BHTFv", AT_VERSION) != 0)
         return 0;
-    if (is_version_2(image))
+    if (is_version_2(image)) /* no later one of it */
         return 1;
     return image[AT_VERSION] == 1 && image[AT_VERSION + 1] == 0 &&
            image[AT_LAST_VERSION] <= NOTES_VERSION;
@@ -538,7 +538,7 @@ static uint32_t add_present(uint8_t *image, const struct view *v,
 /* A file that holds an empty note is of version 1.0.2, or 2.0.0. */
 static void mark_note(uint8_t *image, struct text text, uint32_t mode)
 {
-    if (is_version_2(image))
+    if (is_version_2(image)) /* never changes */
         return;
     if (text.length == 0 && (mode == MODE_NEW || mode == MODE_REPLACE))
         image[AT_LAST_VERSION] = NOTES_VERSION;
@@ -754,6 +754,16 @@ struct stretch {
     uint32_t slot;
 };
 
+/* Room for as many messages as there are slots. */
+static struct stretch *new_stretches(const struct view *v)
+{
+    struct stretch *s = malloc(v->slots * sizeof *s);
+
+    if (s == NULL)
+        abort();
+    return s;
+}
+
 static void note(struct stretch *s, const struct view *v, uint32_t slot,
                  const struct message *m)
 {
@@ -840,9 +850,7 @@ uint32_t plain_check(const uint8_t *image, size_t image_len,
     *slot = 0;
     if (answer != ACCEPTED)
         return answer;
-    s = malloc(v.slots * sizeof *s);
-    if (s == NULL)
-        abort();
+    s = new_stretches(&v);
     failing = first_failing(&v, s, &taken);
     free(s);
     if (failing < v.slots) {
@@ -856,18 +864,29 @@ uint32_t plain_check(const uint8_t *image, size_t image_len,
 
 /* ---- compaction ---- */
 
+/* Questions 1, 5 and 6, then 15. */
+static uint32_t ask_sound(const uint8_t *image, size_t image_len)
+{
+    uint32_t verdict, slot;
+    uint32_t answer = plain_check(image, image_len, &verdict, &slot);
+
+    if (answer != ACCEPTED)
+        return answer;
+    return verdict == 0 ? ACCEPTED : 15;
+}
+
 /* The active messages of taken slots, in the order of their offsets. */
 static uint32_t collect(const struct view *v, struct stretch *s)
 {
-    struct message m;
+    struct message old;
     uint32_t active = 0;
 
     for (uint32_t slot = 0; slot < v->slots; slot++) {
         if (!is_taken(v, slot))
             continue;
-        read_message(v, message_in(v, slot), &m);
-        if (m.active)
-            note(&s[active++], v, slot, &m);
+        read_message(v, message_in(v, slot), &old);
+        if (old.active)
+            note(&s[active++], v, slot, &old);
     }
     if (active > 0)
         qsort(s, active, sizeof *s, by_start);
@@ -902,17 +921,13 @@ uint32_t plain_compact(uint8_t *image, size_t image_len)
 {
     struct view v;
     struct stretch *s;
-    uint32_t verdict, slot, active, end;
-    uint32_t answer = plain_check(image, image_len, &verdict, &slot);
+    uint32_t active, end;
+    uint32_t answer = ask_sound(image, image_len);
 
     if (answer != ACCEPTED)
         return answer;
-    if (verdict != 0)
-        return 15;
     open_image(&v, image, image_len);
-    s = malloc(v.slots * sizeof *s);
-    if (s == NULL)
-        abort();
+    s = new_stretches(&v);
     active = collect(&v, s);
     forget_offsets(image, &v);
     end = move_down(image, &v, s, active);
@@ -932,78 +947,74 @@ static uint32_t text_length(const struct view *v, const struct stretch *s)
     return s->end - s->start - v->header_size;
 }
 
-/* Question 20: every text is one that the other version can tell. */
+/* Question 20, of messages that become narrower. */
 static int texts_fit(const struct view *v, const struct stretch *s,
-                     uint32_t active)
+                     uint32_t count)
 {
-    uint32_t most = is_version_2(v->image) ? MESSAGE_MAX : LONG_MESSAGE_MAX;
-
-    for (uint32_t i = 0; i < active; i++)
-        if (text_length(v, &s[i]) > most)
+    for (uint32_t i = 0; i < count; i++)
+        if (text_length(v, &s[i]) > MESSAGE_MAX)
             return 0;
     return 1;
 }
 
 /* Question 13: the table and the messages with their other headers. */
 static int target_fits(const struct view *v, const struct stretch *s,
-                       uint32_t active, uint32_t header_size,
-                       size_t target_len)
+                       uint32_t count, uint32_t header_size, size_t target_len)
 {
-    uint64_t end = v->data;
+    uint64_t needed = v->data;
 
-    for (uint32_t i = 0; i < active; i++)
-        end += header_size + (uint64_t)text_length(v, &s[i]);
-    return end <= target_len;
+    for (uint32_t i = 0; i < count; i++)
+        needed += header_size + (uint64_t)text_length(v, &s[i]);
+    return needed <= target_len;
 }
 
 /* The header but for X and M, the scramble, and the keys of taken slots. */
-static void carry_table(uint8_t *target, const struct view *v)
+static void carry_table(uint8_t *target, const struct view *v, int narrows)
 {
-    size_t scramble = 4 * (size_t)(v->last - v->first + 1);
+    size_t numbers = v->last - v->first + 1;
 
     memcpy(target, v->image, AT_NEXT);
-    memcpy(target + AT_VERSION,
-           is_version_2(v->image) ? version_1 : version_2, VERSION_SIZE);
-    memcpy(target + SCRAMBLE, v->image + SCRAMBLE, scramble);
-    for (uint32_t slot = 0; slot < v->slots; slot++)
-        if (is_taken(v, slot))
-            write_slot(target, v, slot, key_in(v, slot), 0);
+    memcpy(target + AT_VERSION, narrows ? version_1 : version_2, VERSION_SIZE);
+    memcpy(target + SCRAMBLE, v->image + SCRAMBLE, 4 * numbers);
+    for (uint32_t i = 0; i < v->slots; i++)
+        if (is_taken(v, i))
+            write_slot(target, v, i, key_in(v, i), 0);
 }
 
 /* The messages one behind the other; answers the end. */
 static uint32_t carry_messages(uint8_t *target, const struct view *v,
-                               const struct stretch *s, uint32_t active,
+                               const struct stretch *s, uint32_t count,
                                uint32_t header_size)
 {
-    uint32_t to = v->data;
+    uint32_t at = v->data;
 
-    for (uint32_t i = 0; i < active; i++) {
+    for (uint32_t i = 0; i < count; i++) {
+        const uint8_t *text = v->image + s[i].start + v->header_size;
         uint32_t length = text_length(v, &s[i]);
 
-        write_active(target + to, header_size, length);
-        memcpy(target + to + header_size,
-               v->image + s[i].start + v->header_size, length);
-        write_offset(target, v, s[i].slot, to);
-        to += header_size + length;
+        write_active(target + at, header_size, length);
+        memcpy(target + at + header_size, text, length);
+        write_offset(target, v, s[i].slot, at);
+        at += header_size + length;
     }
-    return to;
+    return at;
 }
 
 /* Questions 20 and 13; then the target. */
 static uint32_t carry(const struct view *v, struct stretch *s, uint8_t *target,
                       size_t target_len)
 {
-    uint32_t header_size = is_version_2(v->image) ? MESSAGE_HEADER
-                                                  : LONG_MESSAGE_HEADER;
-    uint32_t active = collect(v, s), end;
+    int narrows = is_version_2(v->image);
+    uint32_t header_size = narrows ? MESSAGE_HEADER : LONG_MESSAGE_HEADER;
+    uint32_t count = collect(v, s), end;
 
-    if (!texts_fit(v, s, active))
+    if (narrows && !texts_fit(v, s, count))
         return 20;
-    if (!target_fits(v, s, active, header_size, target_len))
+    if (!target_fits(v, s, count, header_size, target_len))
         return 13;
     memset(target, 0, target_len);
-    carry_table(target, v);
-    end = carry_messages(target, v, s, active, header_size);
+    carry_table(target, v, narrows);
+    end = carry_messages(target, v, s, count, header_size);
     put32(target + AT_NEXT, end);
     put32(target + AT_LAST_PAGE, last_page(v->data, end));
     return ACCEPTED;
@@ -1014,19 +1025,15 @@ uint32_t plain_convert(const uint8_t *source, size_t source_len,
 {
     struct view v;
     struct stretch *s;
-    uint32_t verdict, slot, answer;
+    uint32_t answer;
 
     if (!length_fits(source_len) || !length_fits(target_len))
         return 1;
-    answer = plain_check(source, source_len, &verdict, &slot);
+    answer = ask_sound(source, source_len);
     if (answer != ACCEPTED)
         return answer;
-    if (verdict != 0)
-        return 15;
     open_image(&v, source, source_len);
-    s = malloc(v.slots * sizeof *s);
-    if (s == NULL)
-        abort();
+    s = new_stretches(&v);
     answer = carry(&v, s, target, target_len);
     free(s);
     return answer;
