@@ -64,20 +64,42 @@ static uint32_t list_length(uint32_t data)
     return run.old_limits ? MIB16 : PICK(lengths);
 }
 
-/* A long file of version 2.0.0: what is too long for version 1 stops the way
- * back. */
-static void convert_long(void)
+/* A call on the first name, by its plain form. */
+static void call_first(enum kind kind, size_t size, uint32_t mode)
 {
-    static const uint32_t lengths[] = { MIB16 - 1, MIB16, MIB16 + 1 };
-
-    convert_list();
-    new_call(ADD);
+    new_call(kind);
     memcpy(lend_key(list.key_size), list.name[0], list.key_size);
-    lend_data(PICK(lengths));
-    list.now.mode = 2;
+    if (kind == ADD)
+        lend_data(size);
+    list.now.mode = mode;
     list.now.form = PLAIN;
     run_call();
+}
+
+/* In version 2.0.0 a text of about the length that is too long for version 1: it
+ * stops the way back as long as it is active. */
+static void convert_text(size_t size)
+{
+    call_first(ADD, size, 1);
     convert_list();
+    if (header_size() == 4)
+        convert_list();
+    if (one_in(2))
+        call_first(ADD, 0, 4);
+    else
+        call_first(DELETE, 0, 0);
+    convert_list();
+    if (header_size() == 4)
+        convert_list();
+    call_first(DELETE, 0, 0);
+}
+
+static void convert_long(void)
+{
+    convert_list();
+    convert_text(MIB16 - 1);
+    convert_text(MIB16);
+    convert_text(MIB16 + below(3));
 }
 
 void list_from_create(void)
