@@ -100,6 +100,9 @@ void lend_target(void)
 
     if (list.now.target_len == 0)
         list.now.target_len = choose_target_length();
+    if (run.old_limits && list.now.target_len > MIB16 &&
+        list.now.target_len <= GIB)
+        list.now.target_len = MIB16;
     lend_slice(&target, list.now.target_len);
     fill_slice(&target);
     seen = seen_of(&target);

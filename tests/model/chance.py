@@ -437,7 +437,9 @@ class Chance:
         n = len(image)
         if model.check(image)[:2] == (0, model.SOUND) and self.odds(0.6):
             n = (model.converted_end(image) + 4095) // 4096 * 4096
-            n = rng.choice((n, n, n, n - 4096, n + 4096, model.head(image).D, model.head(image).D - 4096))
+            n = rng.choice((n, n, n, n - 4096, n + 4096))
+        elif model.opening(image) == 0 and self.odds(0.4):
+            n = rng.choice((4096, model.head(image).D, model.head(image).D - 4096))
         if self.odds(0.05):
             n = rng.choice((0, 1, 4095, 4097, n + 1, n - 1))
         return self.stuff(max(0, n))
