@@ -853,13 +853,15 @@ fn converted(image: &[u8], length: usize) -> Vec<u8> {
     for slot in (0..field(image, 16)).filter(|&i| is_taken(image, i)) {
         let (key, offset) = (slot_at(image, slot), slot_offset(image, slot));
         target[key..offset].copy_from_slice(&image[key..offset]);
-        if let Some(text) = Point::read(image, field(image, offset)).text {
-            texts.insert(field(image, offset), (slot, text));
+        let at = field(image, offset);
+        if at != 0 && image[at] == b'a' {
+            let start = at + header_size(image);
+            texts.insert(at, (slot, &image[start..start + length_at(image, at)]));
         }
     }
     let mut next = data;
     for (slot, text) in texts.into_values() {
-        let bytes = message(header, &text);
+        let bytes = message(header, text);
         target[next..next + bytes.len()].copy_from_slice(&bytes);
         put(&mut target, slot_offset(image, slot), next);
         next += bytes.len();
@@ -878,8 +880,8 @@ fn convert(chance: &mut Chance, file: &mut File, book: &mut Book) -> (Answer, An
     let mut target = chance.bytes(length);
     let before = (file.0.clone(), target.clone());
     let want = book.convert(length);
-    let left = if want == 0 { converted(&before.0, length) } else { before.1 };
     let got = file.convert(&mut target);
+    let left = if got == 0 && want == 0 { converted(&before.0, length) } else { before.1 };
     let answer = (got, Some(vec![(file.0 == before.0) as u8, (target == left) as u8]), None);
     if got == 0 {
         file.0 = target;

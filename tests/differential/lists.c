@@ -81,6 +81,9 @@ static void call_first(enum kind kind, size_t size, uint32_t mode)
 static void convert_text(size_t size)
 {
     call_first(ADD, size, 1);
+    new_call(CONVERT);
+    list.now.target_len = PAGE;
+    run_call();
     convert_list();
     if (header_size() == 4)
         convert_list();

@@ -309,7 +309,7 @@ class Chance:
     def data(self, image, key):
         """Data of a length that matters to this key in this image, as far as there is one."""
         rng, model = self.rng, self.model
-        if self.odds(0.008):
+        if self.odds(0.013):
             return rng.choice(LONG)
         if self.odds(0.15):
             return b''
@@ -394,7 +394,7 @@ class Chance:
 
     def records(self):
         rng = self.rng
-        if self.odds(0.006):
+        if self.odds(0.01):
             return rng.choice(LONG), 1
         width = rng.choice((1, 2, 3, 5, 63, 64, rng.randint(1, 64)))
         records = self.stuff(width * rng.choice((0, 1, 2, 3, rng.randint(0, 9))))
