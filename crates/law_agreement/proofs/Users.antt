@@ -10,7 +10,7 @@
 --     count-added, count-replaced, count-deleted      C grows by 1, stays, falls by 1
 --     stays-found         a point that is found stays so until it is deleted
 --     stays-gone          a point that is not found stays so until it is added; so deleted-stays-gone
---     free-grows          X does not fall over calls other than compaction
+--     free-grows          X does not fall over calls other than compaction and conversion
 --     compact-accepted, no-fifteen     in a list compaction answers 0, and no call 15
 --     compact-texts       compaction changes no text; compact-free: X is then where the texts end; compact-once: doing
 --                         it twice is doing it once
@@ -37,7 +37,9 @@ use Rattle.spec_book.specs.Demand.{fileText, stateText, bookText, textOf, permi
 use Rattle.law_agreement.proofs.Entries.{Distinct, find-without-same, length-without}
 use Rattle.law_agreement.proofs.Reflect.{Reflects, Reflected}
 use Rattle.law_agreement.proofs.Simple.{same-count}
-use Rattle.law_agreement.proofs.Forms.{same-step}
+use Rattle.law_agreement.proofs.Add.{same-add}
+use Rattle.law_agreement.proofs.Compacting.{same-compact}
+use Rattle.law_agreement.proofs.Forms.{same-step, same-layout}
 use Rattle.law_agreement.proofs.Theorem.{Held, bookAt, bookAfter, same-answer, held-step, held-after, points-agree, texts-agree}
 use Rattle.law_agreement.proofs.Reached.{Reached, reached-held, reached-reflects, reached-step}
 use Rattle.law_agreement.proofs.Steps.{given-text, given-new, given-old, Added, refused, fresh, bared, replaced, appended, unchanged, withdrew, book-add, by-put, Deleted, gone, book-delete, asPlain, step-effect, NotDeleting, NotAdding, Has, Lacks, Keeping, effect-other, effect-has, effect-lacks, effect-used, compacted-text}
@@ -350,7 +352,10 @@ free-step : (c : Step) (s : State) (b : Book) → Held s b → permits c s ≡ t
     → freeOf s ≤ freeOf (perform c s .after)
 unfolding Held freeOf perform aloneAfter
 free-step c (alone img) b (g, r) p k =
-    omega (arith, r .used, effect-used (step-effect (tells c (alone img)) c b) k, same-step g img b r c .after .used)
+    let w = same-step g img b r c in
+    let same-D : w .0 .D ≡ g .D =
+    ap (λ (l : Layout). l .D) (same-layout g img b r c (λ L q. k .1 L (ap asPlain q ∙ (unfold asPlain in refl)))) in
+    omega (arith, same-D, r .used, effect-used (step-effect (tells c (alone img)) c b) k, w .1 .after .used)
 
 free-keeps : (steps : List Step) (s : State) (b : Book) → Held s b → Permitted steps s → Each Keeping steps
     → freeOf s ≤ freeOf (stateAfter perform steps s)
@@ -390,7 +395,7 @@ module _ (s : State) (b : Book) (r : Reached s b) where
       (book-keeps (NotAdding key) (Lacks key) (λ t c x. effect-lacks key (step-effect t c x)) steps s b n
       (found-no b key (held-text key _ h)))
 
-  -- between compactions space once taken is never handed out again: new space is taken at X, and X does not fall
+  -- between compactions and conversions space once taken is never handed out again: new space is taken at X, and X does not fall
   pub free-grows : (steps : List Step) → Permitted steps s → Each Keeping steps
       → freeOf s ≤ freeOf (stateAfter perform steps s)
   free-grows steps p k = free-keeps steps s b (reached-held s b r) p k
@@ -408,7 +413,8 @@ module _ (img : Bytes) (b : Book) (r : Reached (alone img) b) where
   no-fifteen c q =
       step-of (λ (n : ℕ). n ≡ 15 → ⊥) b (λ n l e. omega arith) (λ e. omega arith)
       (λ m. room-number (λ (n : ℕ). n ≡ 15 → ⊥) b m (λ e. omega arith) (λ e. omega arith) (λ e. omega arith))
-      (λ e. omega arith) (λ e. omega arith) (λ e. omega arith) (λ e. omega arith) (tells c (alone img)) c
+      (λ e. omega arith) (λ e. omega arith) (λ e. omega arith) (λ e. omega arith) (λ e. omega arith) (λ e. omega arith)
+      (tells c (alone img)) c
       (ap (λ (x : Answer). x .number) (sym (same-now img b r c)) ∙ q)
 
   -- it changes no point's text, and finds no other points
@@ -424,7 +430,7 @@ module _ (img : Bytes) (b : Book) (r : Reached (alone img) b) where
   compact-free =
       let s = rel img b r .1 in
       let g = rel img b r .0 in
-      same-step g img b s compacting .after .used
+      same-compact g img b s .after .used
       ∙ ap (λ (t : Terms). g .D + spaceForAll (t .head) (b .entries)) (s .terms)
       ∙ ap (λ (l : Layout). l .D + spaceForAll (headSize l) (b .entries)) (sym (s .file .layout))
 
@@ -438,7 +444,6 @@ module _ (img : Bytes) (b : Book) (r : Reached (alone img) b) where
   unfolding performOn call bookStep bookCall bookCompact compactedBook
   compact-room key bytes mode m short long fits q =
       let b′ = compactedBook b in
-      let at-name = calling (adding key bytes mode) in
       add-number (λ (n : ℕ). n ≡ 13 → ⊥) b′ key bytes mode (λ n l e. omega arith) (λ e. omega arith)
       (room-left b′ (length bytes) (omega (arith, left, short)))
       (λ e f n₁ n₂.
@@ -446,7 +451,7 @@ module _ (img : Bytes) (b : Book) (r : Reached (alone img) b) where
       let t = long (e .text) there n₁ n₂ in
       room-left b′ _ (omega (arith, left, t, length-append (bytesOf (e .text)) bytes)))
       (ap (λ (x : Answer). x .number)
-      (sym (same-step (reached .0) (compact img .after) b′ (reached .1) at-name .answer)) ∙ q)
+      (sym (same-add (reached .0) (compact img .after) b′ (reached .1) key bytes mode .answer)) ∙ q)
     where
       reached : Reflected (compact img .after) (compactedBook b)
       reached = unfold performOn bookStep bookCompact in rel-after img b r compacting

@@ -1,0 +1,91 @@
+-- What the call answers and leaves, by the check's verdict.
+--     number-length, number-refused, number-unsound, number-sound      the number
+--     into-refused, into-same      the target
+--     other-head, other-most       the other version's header
+-- Assumes nothing.
+use mathlib.Core.Path.{_≡_, refl, sym, ap, _∙_}
+use Prim.Native.Nat.{ℕ, _+_, _-_}
+use native.Mathlib.Omega.{arith}
+use mathlib.Core.Bool.{Bool, true, false}
+use mathlib.Core.List.{[], _∷_}
+use lib.ListN.{length}
+use Rattle.spec_file.specs.Bytes.{Bytes}
+use Rattle.spec_file.specs.Image.{majorOf, wide, widthOf, mostOf, layoutOf}
+use Rattle.spec_file.specs.Messages.{headSize}
+use Rattle.spec_file.specs.Questions.{ask, firstNo, sizeAllowed, versionKnown, headerSound, openNumber, opened}
+use Rattle.spec_file.specs.Calls.{settled}
+use Rattle.spec_file.specs.Inspect.{Verdict, sound, check}
+use Rattle.spec_compaction.specs.Compact.{isSound}
+use Rattle.spec_conversion.specs.Convert.{otherMajor, recast, otherLayout, lengthsTold, targetHolds, converted, convertNumber, convertInto}
+use Rattle.law_file.proofs.Tests.{by-bool}
+use Rattle.law_file.proofs.Opened.{firstNo-yes, firstNo-no, firstNo-opened, firstNo-refused}
+use Rattle.law_file.proofs.Outcomes.{settled-yes, settled-no}
+use Rattle.law_file.proofs.Verdict.{check-open}
+use Rattle.header_layout.specs.Shapes.{mostBy}
+use Rattle.call_compact.proofs.Told.{check-refused, check-unsound, sound-yes}
+
+module _ (img : Bytes) (L : ℕ) where
+  pub number-length : sizeAllowed L ≡ false → 1 ≡ convertNumber img L
+  unfolding convertNumber
+  number-length n =
+      sym (by-bool (sizeAllowed (length img))
+      (λ y. firstNo-yes 1 _ _ y ∙ firstNo-no 1 _ _ n)
+      (λ m. firstNo-no 1 _ _ m))
+
+  -- the target's 1 said, the number is that of the questions to the source
+  asked : sizeAllowed L ≡ true → convertNumber img L
+      ≡ firstNo (opened img (ask 15 (isSound (check img)) ∷ ask 20 (lengthsTold img) ∷ ask 13 (targetHolds img L) ∷ []))
+  unfolding convertNumber opened
+  asked y =
+      by-bool (sizeAllowed (length img))
+      (λ s. firstNo-yes 1 _ _ s ∙ firstNo-yes 1 _ _ y ∙ sym (firstNo-yes 1 _ _ s))
+      (λ n. firstNo-no 1 _ _ n ∙ sym (firstNo-no 1 _ _ n))
+
+  module _ (y : sizeAllowed L ≡ true) where
+    pub number-refused : (n : ℕ) → Verdict.refused n ≡ check img → (n ≡ convertNumber img L) × (n ≡ 0 → ⊥)
+    number-refused n e =
+        let w = check-refused img n e in
+        (w .0 ∙ sym (asked y ∙ firstNo-refused img _ w .1), λ z. w .1 (sym (w .0) ∙ z))
+
+    pub number-unsound : (v : Verdict) → v ≡ check img → isSound v ≡ false
+        → ((n : ℕ) → v ≡ Verdict.refused n → ⊥) → 15 ≡ convertNumber img L
+    number-unsound v e no′ open′ =
+        sym (asked y
+        ∙ firstNo-opened img _ (check-unsound img v e open′)
+        ∙ firstNo-no 15 (isSound (check img)) _ (ap isSound (sym e) ∙ no′))
+
+    pub number-sound : check img ≡ sound
+        → firstNo (ask 20 (lengthsTold img) ∷ ask 13 (targetHolds img L) ∷ []) ≡ convertNumber img L
+    number-sound e =
+        sym (asked y
+        ∙ firstNo-opened img _ (check-open img e)
+        ∙ firstNo-yes 15 (isSound (check img)) _ (ap isSound e ∙ sound-yes))
+
+-- ---- the target
+
+pub into-refused : (img t : Bytes) (n : ℕ) → n ≡ convertNumber img (length t) → (n ≡ 0 → ⊥) → t ≡ convertInto img t
+unfolding convertInto
+into-refused img t n e z =
+    sym (settled-no (convertNumber img (length t)) t (converted img (length t)) (λ q. z (e ∙ q)))
+
+pub into-same : (img t t′ : Bytes) (n : ℕ) → n ≡ convertNumber img (length t)
+    → t′ ≡ settled n t (converted img (length t)) → t′ ≡ convertInto img t
+unfolding convertInto
+into-same img t t′ n e q = q ∙ ap (λ (k : ℕ). settled k t (converted img (length t))) e
+
+-- ---- the other version's header
+
+-- 5 for 4, and 4 for 5
+pub other-head : (img : Bytes) (head : ℕ) → head ≡ headSize (layoutOf img) → 9 - head ≡ headSize (otherLayout img)
+unfolding headSize layoutOf otherLayout recast widthOf otherMajor wide
+other-head img head e =
+    by-bool (wide (majorOf img))
+    (λ y. let w : head ≡ 5 = e ∙ rw y refl in omega (arith, w) ∙ sym (rw y refl))
+    (λ n. let w : head ≡ 4 = e ∙ rw n refl in omega (arith, w) ∙ sym (rw n refl))
+
+pub other-most : (img : Bytes) (head : ℕ) → head ≡ headSize (otherLayout img) → mostBy head ≡ otherLayout img .most
+unfolding headSize otherLayout recast widthOf mostOf mostBy
+other-most img head e =
+    by-bool (wide (otherMajor (majorOf img)))
+    (λ y. let w : head ≡ 5 = e ∙ rw y refl in rw (w, y) refl)
+    (λ n. let w : head ≡ 4 = e ∙ rw n refl in rw (w, n) refl)
