@@ -63,11 +63,11 @@ pub sound-yes : isSound sound ≡ true
 unfolding isSound
 sound-yes = refl
 
-slot-no : (i : ℕ) → isSound (Verdict.slotBad i) ≡ false
+pub slot-no : (i : ℕ) → isSound (Verdict.slotBad i) ≡ false
 unfolding isSound
 slot-no i = refl
 
-count-no : isSound Verdict.countBad ≡ false
+pub count-no : isSound Verdict.countBad ≡ false
 unfolding isSound
 count-no = refl
 

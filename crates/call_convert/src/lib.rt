@@ -47,7 +47,11 @@ fn carry_over(source: &[u8], target: &mut [u8], from: Shape) -> u32
         return TOO_LONG_FOR_1;
     }
     let area = from.area;
-    if target.len() < area.at() + needed.bytes {
+    let start = area.at();
+    if target.len() < start {
+        return NO_ROOM;
+    }
+    if target.len() - start < needed.bytes {
         return NO_ROOM;
     }
     write_target(source, target, from);

@@ -1,56 +1,114 @@
+-- Questions 20 and 13 by what the target needs; then it is written. Assumes nothing.
+use native.Mathlib.Omega.{arith}
+use mathlib.Core.Path.{_≡_, refl, sym, _∙_}
+use mathlib.Core.Bool.{true}
+use mathlib.Core.List.{[], _∷_}
 use borrow.Author.Needs.{needs}
+use lib.ListN.{length}
+use Rattle.spec_file.specs.Image.{layoutOf}
+use Rattle.spec_file.specs.Questions.{ask, firstNo}
+use Rattle.spec_conversion.specs.Convert.{lengthsTold, targetHolds, converted}
+use Rattle.law_file.proofs.Tests.{was-no, was-yes}
+use Rattle.law_file.proofs.Outcomes.{settled-yes, settled-no}
+use Rattle.header_layout.proofs.Shaped.{shape-head, shape-area, head-range}
+use Rattle.call_convert.proofs.Told.{other-head, other-most, asks-20, asks-13, asks-0, number-sound, checked-all}
 use Rattle.call_convert.proofs.carry_over.Statement.{statement}
 use Rattle.call_convert.proofs.carry_over.Tie as tie
-use Rattle.call_convert.proofs.carry_over.Reads as reads
-use Rattle.call_convert.proofs.carry_over.Lts as lts
-use Rattle.call_convert.proofs.write_target.Reads as write-target-reads
-use Rattle.convert_need.proofs.need.Reads as need-reads
-use Rattle.header_layout.proofs.places.Offset.at.Reads as at-reads
-use Rattle.header_layout.proofs.shape.most_length.Reads as most-length-reads
 
--- src/lib.rt:44:16
 add-head : tie.Need-add-head
 add-head c = search needs
 
--- src/lib.rt:44:16
 sub-head : tie.Need-sub-head
-sub-head c = ?
+sub-head c = omega (arith, head-range (c .before .before .before .pre .0 .opened))
 
--- src/lib.rt:45:43
 most-length-requires : tie.Need-most-length-requires
-most-length-requires c κs = search needs
+most-length-requires c κs = tt
 
--- src/lib.rt:45:9
 need-requires : tie.Need-need-requires
-need-requires c κs = ?
+need-requires c κs =
+    let S = c .before .before .before .before in
+    let img = S .args .source .now in
+    let head = other-head img _ (shape-head (S .pre .0 .opened)) in
+    (checked-all img (S .args .from) (S .pre .0), head, c .most-length .ensures ∙ other-most img _ head)
 
--- src/lib.rt:47:9
+abbrev start : tie.After-need → tie.Start
+start c = c .before .before .before .before .before
+
 returns : tie.Need-returns
-returns c = ?
+returns c =
+    let N = c .before .before in
+    let A = start N .args in
+    let w = N .need .ensures in (
+      asks-20 (A .source .now) (length (A .target .now)) _ _ (w .0) (w .1) (was-no refl (c .if1 .taken)),
+      sym (settled-no 20 (A .target .now) (converted (A .source .now) (length (A .target .now))) (λ z. omega (arith, z))),
+    )
 
--- src/lib.rt:50:23
 at-requires : tie.Need-at-requires
-at-requires c κs = search needs
+at-requires c κs = tt
 
--- src/lib.rt:50:23
-add-if2 : tie.Need-add-if2
-add-if2 c = ?
+-- what was asked before the place is compared: 20
+told : (c : tie.After-at) → c .before .before .before .before .need .result .told ≡ true
+told c = was-yes refl (c .before .before .if1 .left)
 
--- src/lib.rt:51:9
+area-is : (c : tie.After-at) → c .at .result ≡ layoutOf (start (c .before .before .before .before) .args .source .now) .D
+area-is c = c .at .ensures ∙ shape-area (start (c .before .before .before .before) .pre .0 .opened)
+
 returns-2 : tie.Need-returns-2
-returns-2 c = ?
+returns-2 c =
+    let P = c .before in
+    let N = P .before .before .before .before in
+    let A = start N .args in
+    let w = N .need .ensures in (
+      asks-13 (A .source .now) (length (A .target .now)) _ _ (w .0) (w .1) (told P) (omega (arith, c .if2 .taken, area-is P)),
+      sym (settled-no 13 (A .target .now) (converted (A .source .now) (length (A .target .now))) (λ z. omega (arith, z))),
+    )
 
--- src/lib.rt:53:5
+sub-if3 : tie.Need-sub-if3
+sub-if3 c = search needs
+
+returns-3 : tie.Need-returns-3
+returns-3 c =
+    let P = c .before .before .before in
+    let N = P .before .before .before .before in
+    let A = start N .args in
+    let w = N .need .ensures in (
+      asks-13 (A .source .now) (length (A .target .now)) _ _ (w .0) (w .1) (told P)
+          (omega (arith, c .if3 .taken, c .before .before .if2 .left, area-is P)),
+      sym (settled-no 13 (A .target .now) (converted (A .source .now) (length (A .target .now))) (λ z. omega (arith, z))),
+    )
+
+-- no question is left
+none-left : (c : tie.After-write-target-arg)
+    → let A = start (c .before .before .before .before .before .before .before .before) .args in
+    0 ≡ firstNo (ask 20 (lengthsTold (A .source .now)) ∷ ask 13 (targetHolds (A .source .now) (length (A .target .now))) ∷ [])
+none-left c =
+    let P = c .before .before .before .before in
+    let N = P .before .before .before .before in
+    let A = start N .args in
+    let w = N .need .ensures in
+    asks-0 (A .source .now) (length (A .target .now)) _ _ (w .0) (w .1) (told P)
+    (omega (arith, c .before .if3 .left, c .before .before .before .if2 .left, area-is P))
+
 write-target-requires : tie.Need-write-target-requires
-write-target-requires c κs = ?
+write-target-requires c κs =
+    let S = start (c .before .before .before .before .before .before .before .before) in
+    let A = S .args in (
+      S .pre .0,
+      sym (number-sound (A .source .now) (length (A .target .now)) (S .pre .1) (S .pre .0 .checked)) ∙ sym (none-left c),
+    )
 
--- src/lib.rt:37:1
 same-length : tie.Need-same-length
 same-length c = search needs
 
--- src/lib.rt:37:1
-returns-3 : tie.Need-returns-3
-returns-3 c = ?
+returns-4 : tie.Need-returns-4
+returns-4 c =
+    let P = c .before .before in
+    let S = start (P .before .before .before .before .before .before .before .before .before) in
+    let A = S .args in (
+      none-left (P .before),
+      P .write-target .ensures
+          ∙ sym (settled-yes 0 (A .target .now) (converted (A .source .now) (length (A .target .now))) refl),
+    )
 
 pub carry-over-spec : {M : Type 1} → statement M
 carry-over-spec =
@@ -62,8 +120,9 @@ carry-over-spec =
     need-requires
     returns
     at-requires
-    add-if2
     returns-2
+    sub-if3
+    returns-3
     write-target-requires
     same-length
-    returns-3)
+    returns-4)

@@ -1,68 +1,116 @@
+-- The target's length, then the check's verdict; then a sound image is carried over. Assumes nothing.
+use native.Mathlib.Omega.{arith}
+use Prim.Native.Nat.{ℕ}
+use mathlib.Core.Path.{_≡_, refl, sym, ap, _∙_}
+use mathlib.Core.Bool.{true, false}
 use borrow.Author.Needs.{needs}
+use lib.ListN.{length}
+use Rattle.spec_file.specs.Questions.{sizeAllowed}
+use Rattle.spec_file.specs.Inspect.{Verdict, sound, check}
+use Rattle.law_file.proofs.Tests.{was-no, was-yes}
+use Rattle.law_file.proofs.Verdict.{check-open}
+use Rattle.call_check.specs.Verdicts.{verdictIn}
+use Rattle.call_compact.proofs.Told.{slot-no, count-no}
+use Rattle.call_convert.proofs.Told.{number-length, number-refused, number-unsound, number-sound, into-refused, into-same}
 use Rattle.call_convert.proofs.convert.Statement.{statement}
 use Rattle.call_convert.proofs.convert.Tie as tie
-use Rattle.call_convert.proofs.convert.Reads as reads
-use Rattle.call_convert.proofs.convert.Lts as lts
-use Rattle.call_check.proofs.check.Reads as check-reads
-use Rattle.call_convert.proofs.carry_over.Reads as carry-over-reads
-use Rattle.header_layout.proofs.shape.read_shape.Reads as read-shape-reads
-use Rattle.header_sizes.proofs.size_allowed.Reads as size-allowed-reads
 
--- src/lib.rt:63:9
 size-allowed-requires : tie.Need-size-allowed-requires
 size-allowed-requires c κs = search needs
 
--- src/lib.rt:64:9
 returns : tie.Need-returns
-returns c = ?
+returns c =
+    let z = c .before in
+    let A = c .before .before .before .before .args in
+    let n = number-length (A .source .now) (length (A .target .now)) (was-no (z .size-allowed .ensures) (c .if1 .taken)) in
+    (n, into-refused (A .source .now) (A .target .now) 1 n (λ e. omega (arith, e)))
 
--- src/lib.rt:66:9
+abbrev start : tie.After-check → tie.Start
+start c = c .before .before .before .before .before
+
 check-requires : tie.Need-check-requires
 check-requires c κs = search needs
 
--- src/lib.rt:68:26
 enum-known-found : tie.Need-enum-known-found
 enum-known-found c = search needs
 
--- src/lib.rt:69:46
 enum-told : tie.Need-enum-told
 enum-told c = search needs
 
--- src/lib.rt:69:54
+-- the target's length is allowed
+allowed : (c : tie.After-check) → sizeAllowed (length (start c .args .target .now)) ≡ true
+allowed c = was-yes (c .before .before .size-allowed .ensures) (c .before .if1 .left)
+
+-- the verdict is the one that the branch is for
+is-sound : (c : tie.After-carry-over-arg) → check (start (c .before .before .before) .args .source .now) ≡ sound
+unfolding verdictIn
+is-sound c =
+    let T = c .before in
+    sym (T .before .before .check .ensures) ∙ ap verdictIn (T .enum-told .given .1)
+
 read-shape-requires : tie.Need-read-shape-requires
-read-shape-requires c κs = ?
+read-shape-requires c κs = check-open _ (is-sound c)
 
--- src/lib.rt:69:27
 carry-over-requires : tie.Need-carry-over-requires
-carry-over-requires c κs = ?
+carry-over-requires c κs =
+    let P = c .before in
+    let K = P .before .before .before in
+    let ok = is-sound P in (
+      record {
+        opened = record { accepted = check-open _ ok; shape = c .read-shape .ensures };
+        bytes = λ i. omega (arith, K .before .before .before .before .shared-slice-known .given i);
+        checked = ok;
+      },
+      allowed K,
+    )
 
--- src/lib.rt:70:34
 enum-told-2 : tie.Need-enum-told-2
 enum-told-2 c = search needs
 
--- src/lib.rt:71:32
 enum-told-3 : tie.Need-enum-told-3
 enum-told-3 c = search needs
 
--- src/lib.rt:59:1
 returns-2 : tie.Need-returns-2
-returns-2 c = ?
+unfolding verdictIn
+returns-2 c =
+    let K = c .before .before .before in
+    let A = start K .args in
+    let n = number-refused (A .source .now) (length (A .target .now)) (allowed K) _
+    (sym (ap verdictIn (c .before .found .given .1)) ∙ K .check .ensures) in
+    (n .0, into-refused (A .source .now) (A .target .now) _ (n .0) (n .1))
 
--- src/lib.rt:59:1
 same-length : tie.Need-same-length
 same-length c = search needs
 
--- src/lib.rt:59:1
 returns-3 : tie.Need-returns-3
-returns-3 c = ?
+returns-3 c =
+    let P = c .before .before in
+    let Q = P .before .before in
+    let K = Q .before .before .before in
+    let A = start K .args in
+    let n = P .carry-over .ensures .0
+    ∙ number-sound (A .source .now) (length (A .target .now)) (allowed K) (is-sound Q) in
+    (n, into-same (A .source .now) (A .target .now) _ _ n (P .carry-over .ensures .1))
 
--- src/lib.rt:59:1
 returns-4 : tie.Need-returns-4
-returns-4 c = ?
+unfolding verdictIn
+returns-4 c =
+    let K = c .before .before in
+    let A = start K .args in
+    let n = number-unsound (A .source .now) (length (A .target .now)) (allowed K) _
+    (sym (ap verdictIn (c .enum-told2 .given .1)) ∙ K .check .ensures) (slot-no _)
+    (λ k q. let z : _≡_ {A = ℕ} 0 1 = cc in absurd (omega arith)) in
+    (n, into-refused (A .source .now) (A .target .now) 15 n (λ e. omega (arith, e)))
 
--- src/lib.rt:59:1
 returns-5 : tie.Need-returns-5
-returns-5 c = ?
+unfolding verdictIn
+returns-5 c =
+    let K = c .before .before in
+    let A = start K .args in
+    let n = number-unsound (A .source .now) (length (A .target .now)) (allowed K) _
+    (sym (ap verdictIn (c .enum-told3 .given .1)) ∙ K .check .ensures) count-no
+    (λ k q. let z : _≡_ {A = ℕ} 0 1 = cc in absurd (omega arith)) in
+    (n, into-refused (A .source .now) (A .target .now) 15 n (λ e. omega (arith, e)))
 
 pub convert-spec : {M : Type 1} → statement M
 convert-spec =
