@@ -44,7 +44,10 @@ fn note_version(image: &mut [u8], bytes: &[u8], mode: u32)
     requires { ⌜ versionField + 3 ≤ length (now image) ⌝ }
     ensures { λ _. ⌜ now (image .exit) ≡ noted (now (bytes .entry)) mode (now (image .entry)) ⌝ }
 {
-    if (bytes.len() == 0) & ((mode == NEW) | (mode == REPLACE)) & (image[VERSION_FIELD] != WIDE_MAJOR) {
+    if (bytes.len() == 0)
+        & ((mode == NEW) | (mode == REPLACE))
+        & (image[VERSION_FIELD] != WIDE_MAJOR)
+    {
         write_version(&mut image[VERSION_FIELD..VERSION_FIELD + 3]);
     }
 }

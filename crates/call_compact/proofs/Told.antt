@@ -110,7 +110,8 @@ pub told-unsound : (img : Bytes) (v : Verdict) → v ≡ check img → isSound v
     → (15 ≡ compact img .answer .number) × (img ≡ compact img .after)
 told-unsound img v e no′ open′ =
     let is : compactNumber img ≡ 15 =
-    number-opened img (check-unsound img v e open′) ∙ firstNo-no 15 (isSound (check img)) [] (ap isSound (sym e) ∙ no′) in
+    number-opened img (check-unsound img v e open′)
+    ∙ firstNo-no 15 (isSound (check img)) [] (ap isSound (sym e) ∙ no′) in
     (sym (number-is img 15 is), sym (unchanged img 15 is (λ y. omega (arith, y))))
 
 pub told-slot : (img : Bytes) (i : ℕ) → Verdict.slotBad i ≡ check img

@@ -91,11 +91,14 @@ module _ (img : Bytes) (L bytes : ℕ) (told : Bool)
   holds l = le-leb _ L (omega (arith, l, eb))
 
   pub asks-13 : told ≡ true → L < layoutOf img .D + bytes → 13 ≡ asks
-  asks-13 y l = sym (firstNo-yes 20 (lengthsTold img) _ (lengths true y) ∙ firstNo-no 13 (targetHolds img L) [] (short l))
+  asks-13 y l =
+      sym (firstNo-yes 20 (lengthsTold img) _ (lengths true y) ∙ firstNo-no 13 (targetHolds img L) [] (short l))
 
   pub asks-0 : told ≡ true → layoutOf img .D + bytes ≤ L → 0 ≡ asks
   asks-0 y l =
-      sym (firstNo-yes 20 (lengthsTold img) _ (lengths true y) ∙ firstNo-yes 13 (targetHolds img L) [] (holds l) ∙ firstNo-none)
+      sym (firstNo-yes 20 (lengthsTold img) _ (lengths true y)
+      ∙ firstNo-yes 13 (targetHolds img L) [] (holds l)
+      ∙ firstNo-none)
 
 -- ---- the target
 

@@ -1,12 +1,12 @@
 // The key walk: the lowest taken slot at or above a number, and its key.
-use header_questions::header_sound;
-use header_questions::version_known;
 use header_layout::places::Slot;
 use header_layout::shape::Shape;
 use header_layout::shape::read_shape;
+use header_questions::header_sound;
+use header_questions::version_known;
+use header_sizes::size_allowed;
 use table_search::is_vacant;
 use table_search::key_of;
-use header_sizes::size_allowed;
 ghost use Rattle.spec_file.specs.Questions.{openNumber};
 ghost use mathlib.Core.Path.{_≡_};
 ghost use Prim.Native.Nat.{_<_};

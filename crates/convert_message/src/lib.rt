@@ -13,14 +13,7 @@ ghost use Rattle.convert_stages.specs.Stages.{Carriable, carriedTo, Passed};
 ghost use Rattle.table_search.specs.Slots.{offsetIn};
 
 // Carries the text of the message at o over, if it is active, and writes where it stands into the target's slot i.
-fn carry_message(
-    source: &[u8],
-    target: &mut [u8],
-    from: Shape,
-    to: Shape,
-    i: Slot,
-    o: Offset,
-)
+fn carry_message(source: &[u8], target: &mut [u8], from: Shape, to: Shape, i: Slot, o: Offset)
     requires { ⌜ Carriable (now source) (now target) from to (i .0) (o .0) ⌝ }
     ensures { λ _. ⌜ now (target .exit) ≡ carriedTo (now (source .entry)) (now (target .entry)) (i .0) (o .0) ⌝ }
 {
@@ -41,5 +34,12 @@ pub fn carry_slot(source: &[u8], target: &mut [u8], from: Shape, to: Shape, i: u
         return;
     }
     let slot = Slot::new(i);
-    carry_message(source, target, from, to, slot, offset_of(source, from, slot));
+    carry_message(
+        source,
+        target,
+        from,
+        to,
+        slot,
+        offset_of(source, from, slot),
+    );
 }

@@ -1,5 +1,5 @@
--- Job 11: the target before the first message is carried over: the source's header in the other version, its scramble, and
--- its keys in their slots, without offsets. It is in the relation with a book whose entries have no text.
+-- Job 11: the target before the first message is carried over: the source's header in the other version, its scramble,
+-- and its keys in their slots, without offsets. It is in the relation with a book whose entries have no text.
 --     base-part, base-slot       its bytes
 --     base-layout, base-file     the other layout; the invariant
 --     bareBook, base-carrying    the start of the carrying
@@ -63,7 +63,8 @@ find-bare name [] = find-none name ∙ sym (ap bareOf (find-none name))
 find-bare name (e ∷ es) =
     let ih : find name (bareAll es) ≡ bareOf (find name es) = find-bare name es in
     by-same (e .name) name
-    (λ q. find-here (bare (e .name)) (bareAll es) name (bare-name (e .name) ∙ q) ∙ ap bareOf (sym (find-here e es name q)))
+    (λ q. find-here (bare (e .name)) (bareAll es) name (bare-name (e .name) ∙ q)
+    ∙ ap bareOf (sym (find-here e es name q)))
     (λ n. find-on (bare (e .name)) (bareAll es) name (λ q. n (sym (bare-name (e .name)) ∙ q)) ∙ ih
     ∙ ap bareOf (sym (find-on e es name n)))
 
@@ -280,7 +281,8 @@ module _ (img : Bytes) (o : Opened img) (L : ℕ) (page : L % pageSize ≡ 0) (s
   pub base-free : field base freeField ≡ g .D
   unfolding base s₅
   base-free =
-      field-setField-other s₅ pageField (lastPage (g .D) (g .D)) freeField (omega (arith, len₅, size-low)) (inl (omega arith))
+      field-setField-other s₅ pageField (lastPage (g .D) (g .D)) freeField (omega (arith, len₅, size-low))
+      (inl (omega arith))
       ∙ field-setField-same s₄ freeField (g .D) (omega (arith, len₄, size-low)) (omega (arith, room, size-high))
 
   pub base-page : field base pageField ≡ lastPage (g .D) (g .D)

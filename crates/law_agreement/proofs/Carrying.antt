@@ -1,5 +1,5 @@
--- Job 11: while messages are carried into the target one by one, the target is in the relation with a book whose entries
--- have the texts of those carried so far. No byte is looked at: each message is a `relocate` of agreement's Place.
+-- Job 11: while messages are carried into the target one by one, the target is in the relation with a book whose
+-- entries have the texts of those carried so far. No byte is looked at: each message is a `relocate` of Place.
 --     Carrying p t c      the target t and its book c, with the messages that begin below p
 --     carry-on            one place further; carry-all: to the end
 --     reflects-carried    the book then says what the compacted book says
@@ -58,7 +58,9 @@ carry : (h : Layout) (t : Bytes) (c : Book) → Reflects h t c → (key : Bytes)
     → Reflects h (carried h t i key text) (placed c key text)
 unfolding carried relocated
 carry h t c r key a text short room i m z =
-    subst (λ (u : Bytes). Reflects h (putSlot h (takeSpace h u text) i (slotBytes key (field t freeField))) (placed c key text))
+    subst
+    (λ (u : Bytes).
+    Reflects h (putSlot h (takeSpace h u text) i (slotBytes key (field t freeField))) (placed c key text))
     (ap (retire t) z ∙ retire-none t)
     (relocate h t c r key a text short room i m)
 
@@ -164,7 +166,9 @@ module _ (g h : Layout) (img : Bytes) (b : Book) (r : Reflects g img b) (eqK : h
       by-plan s j (w .1) (w .2)
       (λ v z.
       let is : e ≡ noting (key j) (text j) = Option·some-injective _ _ (sym at ∙ z) in
-      (_, has, omega (arith, both (ap (λ (x : Entry). x .text) is ∙ texts (key j) (text j)) (shown-yes g img (startAt g img j) (v .active)))))
+      let same′ =
+      both (ap (λ (x : Entry). x .text) is ∙ texts (key j) (text j)) (shown-yes g img (startAt g img j) (v .active)) in
+      (_, has, omega (arith, same′)))
       (λ z.
       let is : e ≡ bare (key j) = Option·some-injective _ _ (sym at ∙ z) in
       (_, has, omega (arith, nothing (ap (λ (x : Entry). x .text) is ∙ none-text (key j))))))
@@ -241,7 +245,8 @@ module _ (g h : Layout) (img : Bytes) (b : Book) (r : Reflects g img b) (eqK : h
 
     this : find k es ≡ some (noting k m)
     unfolding es
-    this = ap (λ (x : Bytes). find x (withEntry (noting k m) (c .entries))) (sym names) ∙ find-withEntry (noting k m) (c .entries)
+    this = ap (λ (x : Bytes). find x (withEntry (noting k m) (c .entries))) (sym names)
+        ∙ find-withEntry (noting k m) (c .entries)
 
     le : spaceForAll (headSize h) es ≤ spaceForAll (headSize h) (b .entries)
     unfolding es noting
@@ -282,7 +287,8 @@ module _ (g h : Layout) (img : Bytes) (b : Book) (r : Reflects g img b) (eqK : h
     keys′ j l =
         by-eq j i
         (λ q. ap (keyAt h t′) q
-        ∙ ap (keyOf h) (slot-putSlot-same h (takeSpace h t m) grown-room i (slotBytes k (field t freeField)) low′ (fits _))
+        ∙ ap (keyOf h)
+        (slot-putSlot-same h (takeSpace h t m) grown-room i (slotBytes k (field t freeField)) low′ (fits _))
         ∙ keyOf-entry h k (field t freeField) (allowed-length h k a′) ∙ ap key (sym q))
         (λ n. ap (keyOf h)
         (slot-putSlot-other h (takeSpace h t m) grown-room i (slotBytes k (field t freeField)) j low′ (fits _) n
@@ -324,13 +330,19 @@ module _ (g h : Layout) (img : Bytes) (b : Book) (r : Reflects g img b) (eqK : h
           waiting = λ j l u z.
               rw entries-are
               (other (key j) (differs j l u
-              (λ q. omega (arith, z (ap (λ (x : ℕ). isActive img (startAt g img x)) q ∙ v .active), ap (startAt g img) q, at)))
+              (λ q.
+              let a = z (ap (λ (x : ℕ). isActive img (startAt g img x)) q ∙ v .active) in
+              omega (arith, a, ap (startAt g img) q, at)))
               ∙ s .waiting j l u (λ a. omega (arith, z a)));
           no-more = λ name n.
               rw entries-are
-              (other name (λ q. Option·none-ne-some _ (sym n ∙ ap (λ (x : Bytes). find x (b .entries)) q ∙ book-has g img b r i (v .low) (v .is)))
+              (other name
+              (λ q. Option·none-ne-some _
+              (sym n ∙ ap (λ (x : Bytes). find x (b .entries)) q ∙ book-has g img b r i (v .low) (v .is)))
               ∙ s .no-more name n);
-          count = rw entries-are (unfold es noting in (length-withEntry-old (noting k m) (c .entries) (bare k) bare-here ∙ s .count));
+          count =
+              rw entries-are
+              (unfold es noting in (length-withEntry-old (noting k m) (c .entries) (bare k) bare-here ∙ s .count));
           space =
               used-is
               ∙ omega (arith, s .space, more, ap (λ (x : Terms). x .head) (s .related .terms))
@@ -338,7 +350,8 @@ module _ (g h : Layout) (img : Bytes) (b : Book) (r : Reflects g img b) (eqK : h
         }
 
   -- no message begins at p
-  carry-none : (p : ℕ) (t : Bytes) (c : Book) → C p t c → ((i : ℕ) → Live g img i → startAt g img i ≡ p → ⊥) → C (suc p) t c
+  carry-none : (p : ℕ) (t : Bytes) (c : Book) → C p t c → ((i : ℕ) → Live g img i → startAt g img i ≡ p → ⊥)
+      → C (suc p) t c
   carry-none p t c s n =
       record {
         related = s .related;
@@ -360,12 +373,14 @@ module _ (g h : Layout) (img : Bytes) (b : Book) (r : Reflects g img b) (eqK : h
       (λ n. rw (a, n) (
         c,
         carry-none p t c s (λ i v e.
-            not-both (test i) (and-true (taken g img i) (eqb (startAt g img i) p) (v .is) (eq-eqb (startAt g img i) p e))
+            not-both (test i)
+            (and-true (taken g img i) (eqb (startAt g img i) p) (v .is) (eq-eqb (startAt g img i) p e))
             (lowest-none test (g .N) 0 n i (omega arith) (omega (arith, v .low)))),
       ))
       (λ i y.
       let w = lowest-some test (g .N) 0 i y in
-      let e : startAt g img i ≡ p = eqb-true (startAt g img i) p (and-right (taken g img i) (eqb (startAt g img i) p) (w .2)) in
+      let e : startAt g img i ≡ p =
+      eqb-true (startAt g img i) p (and-right (taken g img i) (eqb (startAt g img i) p) (w .2)) in
       let v : Live g img i =
       record {
         low = omega (arith, w .1);

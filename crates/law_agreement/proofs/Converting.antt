@@ -1,7 +1,7 @@
--- Job 11: a conversion keeps the relation of file and book, in the other layout, with equal answers; and demand 3 over lists
--- that hold conversions.
---     same-convert          the call
---     agreement-of-turns    the theorem
+-- Job 11: a conversion keeps the relation of file and book, in the other layout, with equal answers.
+--     is-file          1 of the target, 20 and 13 decide, of a file that has the invariant
+--     carrying         where it is accepted, the target with the messages of so many places, and its book
+--     same-convert     the call
 -- Assumes nothing.
 use mathlib.Core.Path.{_≡_, refl, sym, ap, ap₂, _∙_, subst}
 use Prim.Native.Nat.{ℕ, zero, suc, _+_, _-_, _%_, _≤_, _<_}
@@ -90,7 +90,8 @@ module _ (g h : Layout) (img : Bytes) (f : File g img) where
       part-length img (startAt g img i + headSize g) (lengthAt g img (startAt g img i))
       (omega (arith, S .end i v, S .free-high))
 
-  needs-entry : (i : ℕ) → i < g .N → taken g img i ≡ true → needs g h img i ≡ spaceFor (headSize h) (entryAt g img i .text)
+  needs-entry : (i : ℕ) → i < g .N → taken g img i ≡ true
+      → needs g h img i ≡ spaceFor (headSize h) (entryAt g img i .text)
   unfolding needs entryAt shown spaceFor
   needs-entry i l t =
       by-bool (isActive img (startAt g img i))
@@ -105,7 +106,9 @@ module _ (g h : Layout) (img : Bytes) (f : File g img) where
       let ih : needsFrom g h img left (suc i) ≡ spaceForAll (headSize h) (entriesFrom g img left (suc i))
       = needs-entries left (suc i) (omega arith) in
       by-bool (taken g img i)
-      (λ t. ap₂ _+_ (needs-entry i (omega arith) t) ih ∙ ap (spaceForAll (headSize h)) (sym (from-taken g img left i t)))
+      (λ t.
+      ap₂ _+_ (needs-entry i (omega arith) t) ih
+      ∙ ap (spaceForAll (headSize h)) (sym (from-taken g img left i t)))
       (λ t. omega (arith, ih, nothing i t, ap (spaceForAll (headSize h)) (from-vacant g img left i t)))
     where
       nothing : (i : ℕ) → taken g img i ≡ false → needs g h img i ≡ 0
@@ -213,8 +216,12 @@ module _ (img : Bytes) (b : Book) (r : Reflects (layoutOf img) img b) (L : ℕ) 
       other : otherTerms (termsFor G (length img)) L ≡ termsFor H L
       other =
           by-bool (wide (majorOf img))
-          (λ y. unfold otherTerms otherLayout recast headSize widthOf mostOf in rw (width y, other-yes (majorOf img) y, data-is) refl)
-          (λ n. unfold otherTerms otherLayout recast headSize widthOf mostOf in rw (width n, other-no (majorOf img) n, data-is) refl)
+          (λ y.
+          unfold otherTerms otherLayout recast headSize widthOf mostOf in
+          rw (width y, other-yes (majorOf img) y, data-is) refl)
+          (λ n.
+          unfold otherTerms otherLayout recast headSize widthOf mostOf in
+          rw (width n, other-no (majorOf img) n, data-is) refl)
 
   pub needs-is : needsFrom G H img (G .N) 0 ≡ spaceForAll (headSize H) (b .entries)
   needs-is =
@@ -334,7 +341,8 @@ module _ (img : Bytes) (b : Book) (r : Reflects (layoutOf img) img b) (L : ℕ) 
         (subst (λ (p : ℕ). Carrying G H img b L p (carriedFrom G H img all (G .D) (bareImage img L)) (w .0)) e (w .1)))
 
   accept : firstNo (convertAsks b L) ≡ 0
-      → Same H (record { after = settled (convertNumber img L) img (converted img L); answer = plain (convertNumber img L) })
+      → Same H
+      (record { after = settled (convertNumber img L) img (converted img L); answer = plain (convertNumber img L) })
       (stepOf b (convertAsks b L) (convertedBook b L))
   unfolding stepOf
   accept z =

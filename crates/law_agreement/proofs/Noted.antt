@@ -56,7 +56,9 @@ noted-reflects g img b bytes mode r =
     by-bool (eqb (length bytes) 0 && (eqb mode 1 || eqb mode 2) && not (wide (majorOf img)))
     (λ y.
     rw y
-    (reflect-same g img _ b r (version-change g img (r .file) (not-true _ (and-right (eqb (length bytes) 0 && (eqb mode 1 || eqb mode 2)) _ y)))
+    (reflect-same g img _ b r
+    (version-change g img (r .file)
+    (not-true _ (and-right (eqb (length bytes) 0 && (eqb mode 1 || eqb mode 2)) _ y)))
     (version-field g img (r .file) freeField (omega arith))
     (version-field g img (r .file) pointsField (omega arith))))
     (λ n. rw n r)

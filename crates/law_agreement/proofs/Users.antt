@@ -15,6 +15,7 @@
 --     compact-texts       compaction changes no text; compact-free: X is then where the texts end; compact-once: doing
 --                         it twice is doing it once
 --     compact-room        where the texts leave room, no add is refused with 13
+--     convert-texts       the converter changes no text; what it leaves, byte by byte: crates/law_conversion
 -- Assumes nothing.
 use mathlib.Core.Path.{_≡_, refl, sym, ap, _∙_, subst}
 use Prim.Native.Nat.{ℕ, suc, _+_, _≤_}
@@ -29,8 +30,9 @@ use Rattle.spec_file.specs.Image.{field, Layout, layoutOf}
 use Rattle.spec_file.specs.Messages.{headSize, bytesOf}
 use Rattle.spec_file.specs.Calls.{Answer, Outcome, plain, add, delete, count}
 use Rattle.spec_compaction.specs.Compact.{compacted, compact}
+use Rattle.spec_conversion.specs.Convert.{convert}
 use Rattle.spec_file.specs.Lists.{adding, deleting, stateAfter, call}
-use Rattle.spec_book.specs.Steps.{Step, calling, compacting, performOn, State, alone, aloneAfter, perform}
+use Rattle.spec_book.specs.Steps.{Step, calling, compacting, converting, performOn, State, alone, aloneAfter, perform}
 use Rattle.spec_book.specs.Book.{Entry, Terms, Book, find, bookDelete, bookCount, spaceForAll, compactedBook, bookCompact, bookCall}
 use Rattle.spec_book.specs.Told.{bookStep, tells, toldBy, bookTold}
 use Rattle.spec_book.specs.Demand.{fileText, stateText, bookText, textOf, permits, Permitted}
@@ -395,7 +397,8 @@ module _ (s : State) (b : Book) (r : Reached s b) where
       (book-keeps (NotAdding key) (Lacks key) (λ t c x. effect-lacks key (step-effect t c x)) steps s b n
       (found-no b key (held-text key _ h)))
 
-  -- between compactions and conversions space once taken is never handed out again: new space is taken at X, and X does not fall
+  -- between compactions and conversions space once taken is never handed out again: new space is taken at X, and X
+  -- does not fall
   pub free-grows : (steps : List Step) → Permitted steps s → Each Keeping steps
       → freeOf s ≤ freeOf (stateAfter perform steps s)
   free-grows steps p k = free-keeps steps s b (reached-held s b r) p k
@@ -480,6 +483,25 @@ module _ (img : Bytes) (b : Book) (r : Reached (alone img) b) where
       ∙ compact-after g (compacted g img) (file-compact g img f)
       ∙ compact-twice g img f
       ∙ sym first
+
+-- ---- conversion
+
+not-adding : {L : ℕ} {a b : Bytes} {m : ℕ} → converting L ≡ calling (adding a b m) → ⊥
+not-adding q =
+    let y : _≡_ {A = ℕ} 0 1 = cc in
+    omega arith
+
+not-deleting : {L : ℕ} {a : Bytes} → converting L ≡ calling (deleting a) → ⊥
+not-deleting q =
+    let y : _≡_ {A = ℕ} 0 1 = cc in
+    omega arith
+
+-- the list goes on with the same points and texts, in the target or, refused, in the source
+pub convert-texts : (img : Bytes) (b : Book) → Reached (alone img) b → (L : ℕ) (name : Bytes)
+    → fileText (convert img L .after) name ≡ fileText img name
+unfolding performOn asPlain
+convert-texts img b r L name =
+    call-others img b r (converting L) name (λ bytes mode q. not-adding q) (λ q. not-deleting q)
 
 -- a point that was deleted stays so until it is added again
 pub deleted-stays-gone : (img : Bytes) (b : Book) → Reached (alone img) b → (key : Bytes)

@@ -1,7 +1,8 @@
 -- Document 02, Job 11: one message carried into a target: which bytes it writes, and which it leaves.
 --     carry-size, carry-free, carry-page     the length stays; X and M
 --     carry-there       the message, header and text, stands where X was
---     carry-slot        its slot has the key, and the offset where it stands; carry-slot-other: the others are as before
+--     carry-slot        its slot has the key, and the offset where it stands
+--     carry-slot-other  the other slots are as before
 --     carry-other       all other bytes are as before
 -- Assumes nothing.
 use mathlib.Core.Path.{_≡_, refl, sym, ap, _∙_, subst}

@@ -73,7 +73,8 @@ module _ (g h : Layout) (img : Bytes) where
   rewritten-on (suc left) p =
       let e : suc p + left ≡ p + suc left = omega arith in
       ap (λ (x : Bytes). rewrittenAt g h img p ++ x) (rewritten-on left (suc p))
-      ∙ sym (append-assoc (rewrittenAt g h img p) (rewrittenFrom g h img left (suc p)) (rewrittenAt g h img (suc p + left)))
+      ∙ sym
+      (append-assoc (rewrittenAt g h img p) (rewrittenFrom g h img left (suc p)) (rewrittenAt g h img (suc p + left)))
       ∙ ap (λ (q : ℕ). (rewrittenAt g h img p ++ rewrittenFrom g h img left (suc p)) ++ rewrittenAt g h img q) e
 
   rewritten-none : (p : ℕ) → ((i : ℕ) → Begins g h img p i → ⊥) → rewrittenAt g h img p ≡ []
@@ -298,7 +299,8 @@ module _ (img : Bytes) (bytes : AreBytes img) (L : ℕ) (ok : convertNumber img 
           left-is : left ≡ startAt g img i - g .D
           left-is = omega (arith, b .1)
 
-          same-slot : (j : ℕ) → j < g .N → (j ≡ i → ⊥) → rewrittenSlot g h img left j ≡ rewrittenSlot g h img (suc left) j
+          same-slot : (j : ℕ) → j < g .N → (j ≡ i → ⊥)
+              → rewrittenSlot g h img left j ≡ rewrittenSlot g h img (suc left) j
           same-slot j l n =
               by-bool (taken g img j && isActive img (startAt g img j))
               (λ y.
@@ -521,7 +523,8 @@ module _ (img : Bytes) (bytes : AreBytes img) (L : ℕ) (ok : convertNumber img 
       ap₂ (λ (e f : ℕ). part img′ scrambleStart (4 * (e - f + 1)))
       (header-field lastField (omega arith) (omega arith)) (header-field firstField (omega arith) (omega arith))
       ∙ below scrambleStart numbers (inr (omega arith)) (omega (arith, o .last))
-      ∙ sym (ap₂ (λ (e f : ℕ). part t₀ scrambleStart (4 * (e - f + 1))) (same-field lastField (omega arith) (omega arith))
+      ∙ sym
+      (ap₂ (λ (e f : ℕ). part t₀ scrambleStart (4 * (e - f + 1))) (same-field lastField (omega arith) (omega arith))
       (same-field firstField (omega arith) (omega arith)))
       ∙ base-scramble img o L (sized .0) (sized .1) (sized .2) room
     where

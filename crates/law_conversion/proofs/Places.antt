@@ -64,12 +64,14 @@ module _ (g h : Layout) (img : Bytes) where
       let w = lowest-some (stands p) (g .N) 0 i y in
       let e : startAt g img i ≡ p =
       eqb-true (startAt g img i) p (and-right (taken g img i) (eqb (startAt g img i) p) (w .2)) in
-      yes′ i
-      (record {
-        low = omega (arith, w .1);
-        is = and-left (taken g img i) (eqb (startAt g img i) p) (w .2);
-        active = ap (isActive img) e ∙ a;
-      }, e)
+      yes′ i (
+        record {
+          low = omega (arith, w .1);
+          is = and-left (taken g img i) (eqb (startAt g img i) p) (w .2);
+          active = ap (isActive img) e ∙ a;
+        },
+        e,
+      )
       (rw (a, y) refl)))
       (λ a. no′
       (λ i v. not-both (isActive img p) (ap (isActive img) (sym (v .1)) ∙ v .0 .active) a)

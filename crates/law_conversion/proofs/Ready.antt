@@ -1,32 +1,35 @@
 -- Document 02, Job 11: the converter's target while messages are carried into it, in terms of images alone. The proof
 -- goes by the book (crates/law_agreement/proofs/Carrying.antt); what is said here does not speak of it.
 --     accepted-sound     the converter accepts sound images alone
---     Ready              the target with the messages that begin below p: opened, in the other layout, with every key in
---                        its slot, and with room for each message that still waits
+--     Ready              the target with the messages that begin below p: opened, in the other layout, with every key
+--                        in its slot, and with room for each message that still waits
 --     ready              so it is at every place
 --     lengths-told       each length is one that the target's headers can tell
+--     widening-told      "20 on narrowing": on widening no length is above the bound, for an image is not so long
 -- Assumes nothing.
 use mathlib.Core.Path.{_≡_, refl, sym, ap, _∙_}
-use Prim.Native.Nat.{ℕ, _+_, _-_, _≤_, _<_}
+use Prim.Native.Nat.{ℕ, zero, suc, _+_, _-_, _≤_, _<_}
 use native.Mathlib.Omega.{arith}
-use mathlib.Core.Bool.{true, false}
+use mathlib.Core.Bool.{true, false, _&&_}
 use mathlib.Core.List.{[], _∷_}
 use lib.ListN.{length}
+use borrow.Author.Tests.{le-leb}
 use Rattle.spec_file.specs.Bytes.{Bytes}
-use Rattle.spec_file.specs.Limits.{freeField}
-use Rattle.spec_file.specs.Image.{field, Layout, layoutOf, slot, offsetOf}
-use Rattle.spec_file.specs.Messages.{headSize, lengthAt}
+use Rattle.spec_file.specs.Limits.{freeField, mostWide}
+use Rattle.spec_file.specs.Image.{field, majorOf, wide, mostOf, Layout, layoutOf, slot, offsetOf}
+use Rattle.spec_file.specs.Messages.{headSize, lengthAt, isActive}
 use Rattle.spec_file.specs.Questions.{ask, firstNo, sizeAllowed, versionKnown, headerSound}
-use Rattle.spec_file.specs.Inspect.{Verdict, sound, slotBad, countBad, check}
+use Rattle.spec_file.specs.Inspect.{taken, Verdict, sound, slotBad, countBad, check}
 use Rattle.spec_compaction.specs.Compact.{isSound}
-use Rattle.spec_conversion.specs.Convert.{otherLayout, bareImage, carriedFrom, lengthsTold, targetHolds, convertNumber}
+use Rattle.spec_conversion.specs.Convert.{otherMajor, recast, otherLayout, bareImage, carriedFrom, told, toldFrom, lengthsTold, targetHolds, convertNumber}
 use Rattle.spec_book.specs.Book.{Book}
 use Rattle.spec_book.specs.Reopened.{bookOf}
-use Rattle.law_file.proofs.Tests.{not-both}
+use Rattle.law_file.proofs.Tests.{by-bool, and-left, and-right, and-true, not-both}
 use Rattle.law_file.proofs.Bytes.{AreBytes}
-use Rattle.law_file.proofs.Opened.{Opened, firstNo-head, firstNo-tail}
+use Rattle.law_file.proofs.Opened.{Opened, opened-facts, firstNo-head, firstNo-tail}
+use Rattle.law_file.proofs.Verdict.{check-open}
 use Rattle.law_file.proofs.Table.{keyAt}
-use Rattle.law_compaction.proofs.Packing.{startAt, Live}
+use Rattle.law_compaction.proofs.Packing.{startAt, Live, Stretches, sound-stretches}
 use Rattle.law_agreement.proofs.File.{File}
 use Rattle.law_agreement.proofs.Reflect.{Reflects}
 use Rattle.law_agreement.proofs.Checked.{check-file}
@@ -51,6 +54,51 @@ accepted-sound img L z =
     let c = firstNo-tail 5 (versionKnown img) _ (λ q. omega arith) b in
     let d = firstNo-tail 6 (headerSound img) _ (λ q. omega arith) c in
     sound-verdict (check img) (firstNo-head 15 (isSound (check img)) _ (λ q. omega arith) d)
+
+-- ---- 20
+
+module _ (img : Bytes) (ok : check img ≡ sound) (narrow : wide (majorOf img) ≡ false) where
+  other-wide : wide (otherMajor (majorOf img)) ≡ true
+  unfolding otherMajor
+  other-wide = rw narrow (unfold wide in refl)
+
+  most-is : otherLayout img .most ≡ mostWide
+  unfolding otherLayout recast mostOf
+  most-is = rw other-wide refl
+
+  live-told : (i : ℕ) → Live (layoutOf img) img i
+      → lengthAt (layoutOf img) img (startAt (layoutOf img) img i) ≤ otherLayout img .most
+  live-told i v =
+      let s = sound-stretches img ok in
+      let o = opened-facts img (check-open img ok) in
+      omega (arith, most-is, s .end i v, s .free-high, s .head, o .size-high)
+
+  one-told : (i : ℕ) → i < layoutOf img .N → told (layoutOf img) (otherLayout img) img i ≡ true
+  unfolding told
+  one-told i low =
+      by-bool (taken (layoutOf img) img i && isActive img (startAt (layoutOf img) img i))
+      (λ y. rw (
+        y,
+        le-leb _ _
+            (live-told i
+            (record {
+              low = low;
+              is = and-left (taken (layoutOf img) img i) _ y;
+              active = and-right (taken (layoutOf img) img i) _ y;
+            })),
+      ) refl)
+      (λ n. rw n refl)
+
+  all-told : (left i : ℕ) → i + left ≤ layoutOf img .N → toldFrom (layoutOf img) (otherLayout img) img left i ≡ true
+  unfolding toldFrom
+  all-told zero i l = refl
+  all-told (suc left) i l =
+      and-true (told (layoutOf img) (otherLayout img) img i) _ (one-told i (omega arith))
+      (all-told left (suc i) (omega arith))
+
+  pub widening-told : lengthsTold img ≡ true
+  unfolding lengthsTold
+  widening-told = all-told (layoutOf img .N) 0 (omega arith)
 
 -- ---- the target so far
 

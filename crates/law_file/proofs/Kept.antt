@@ -253,7 +253,9 @@ major-narrow img v n =
     by-or (eqb (getD img 5 0) major && eqb (getD img 6 0) minor && leb (getD img 7 0) patch) _
     (and-right (same (part img 0 5) magic) _ v)
     (λ one. eqb-true (getD img 5 0) major (and-left _ _ (and-left _ _ one)))
-    (λ no′ two. absurd (not-both _ (and-left _ _ (and-left (eqb (getD img 5 0) wideMajor && eqb (getD img 6 0) wideMinor) _ two)) n))
+    (λ no′ two.
+    let other = and-left (eqb (getD img 5 0) wideMajor && eqb (getD img 6 0) wideMinor) _ two in
+    absurd (not-both _ (and-left _ _ other) n))
 
 module _ (img : Bytes) (o : Opened img) where
   abbrev versioned : Bytes

@@ -57,8 +57,12 @@ length-tells img s open₀ o m b h l =
       high = r .1;
       short = λ e.
           let w : layoutOf img .W ≡ 3 = omega (arith, e, head-width open₀) in
-          omega (arith, l, ap (λ (k : ℕ). number (part img (o + 1) k)) w,
-          part-below img (o + 1) 3 b (omega (arith, e, h)));
+          omega (
+            arith,
+            l,
+            ap (λ (k : ℕ). number (part img (o + 1) k)) w,
+            part-below img (o + 1) 3 b (omega (arith, e, h)),
+          );
       small = omega (arith, l, length-bound img o b (omega (arith, h, shape-head open₀)));
     }
 

@@ -86,10 +86,11 @@ pub numbers : convertNumber (zeros 4095) 8192 ∷ convertNumber (zeros 4096) 819
 unfolding convert-definitions others
 numbers = refl
 
--- D and 5 + 2 and 5 + 1: such a target holds the messages, one byte fewer does not
-pub target-holds : (targetHolds others 4109 ≡ true) × (targetHolds others 4108 ≡ false)
-unfolding convert-definitions others
-target-holds = (refl, refl)
+-- D and 5 + 2 and 5 + 1: such a target holds the messages, one byte fewer does not; nor does one below D hold none
+pub target-holds : (targetHolds others 4109 ≡ true) × (targetHolds others 4108 ≡ false) × (targetHolds left 4096 ≡ true)
+    × (targetHolds left 4095 ≡ false)
+unfolding convert-definitions others left
+target-holds = (refl, refl, refl, refl)
 
 -- refused, it leaves the list in the source, and the target as it was
 pub refused-convert : (convert others 4096 ≡ record { after = others; answer = refused 13 })

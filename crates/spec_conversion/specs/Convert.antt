@@ -121,7 +121,8 @@ targetHolds img L =
 -- "The converter puts 1 to both slices, 5 and 6, then 15 if unsound, 20 .., and 13 .."
 unfoldable pub convertNumber : Bytes → ℕ → ℕ
 convertNumber img L =
-    firstNo (ask 1 (sizeAllowed (length img)) ∷ ask 1 (sizeAllowed L) ∷ ask 5 (versionKnown img) ∷ ask 6 (headerSound img)
+    firstNo
+    (ask 1 (sizeAllowed (length img)) ∷ ask 1 (sizeAllowed L) ∷ ask 5 (versionKnown img) ∷ ask 6 (headerSound img)
     ∷ ask 15 (isSound (check img)) ∷ ask 20 (lengthsTold img) ∷ ask 13 (targetHolds img L) ∷ [])
 
 -- in a list: "go on in the target", where it is accepted; a refused one leaves the list in the source. The target's own

@@ -1,14 +1,14 @@
 // What every call on a named point does first: questions 1, 5, 6 and 7, add's 8, and the search for the key.
 use bytes_words::answers::BAD_KEY;
 use bytes_words::answers::BAD_MODE;
-use header_questions::header_sound;
-use header_questions::version_known;
 use header_layout::shape::Shape;
 use header_layout::shape::read_shape;
 use header_open::name_allowed;
+use header_questions::header_sound;
+use header_questions::version_known;
+use header_sizes::size_allowed;
 use table_search::Found;
 use table_search::search;
-use header_sizes::size_allowed;
 ghost use Rattle.spec_file.specs.Questions.{openNumber};
 ghost use mathlib.Core.Path.{_≡_};
 ghost use Rattle.table_seek.specs.Seeks.{SoughtIs, readOf};

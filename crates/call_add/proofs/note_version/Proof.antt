@@ -33,7 +33,9 @@ same-length : tie.Need-same-length
 same-length c = search needs
 
 abbrev start-at-slice-known2 : tie.After-slice-known3 → tie.Start
-start-at-slice-known2 c = c .before .before .before .before .before .before .before .before
+start-at-slice-known2 c =
+    let w = c .before .before .before .before in
+    w .before .before .before .before
 
 returns : tie.Need-returns
 unfolding noted wide majorOf

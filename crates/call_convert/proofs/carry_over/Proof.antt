@@ -40,27 +40,33 @@ returns c =
     let A = start N .args in
     let w = N .need .ensures in (
       asks-20 (A .source .now) (length (A .target .now)) _ _ (w .0) (w .1) (was-no refl (c .if1 .taken)),
-      sym (settled-no 20 (A .target .now) (converted (A .source .now) (length (A .target .now))) (λ z. omega (arith, z))),
+      sym (settled-no 20 (A .target .now) (converted (A .source .now) (length (A .target .now)))
+          (λ z. omega (arith, z))),
     )
 
 at-requires : tie.Need-at-requires
 at-requires c κs = tt
 
+abbrev needed : tie.After-at → tie.After-need
+needed c = c .before .before .before .before
+
 -- what was asked before the place is compared: 20
-told : (c : tie.After-at) → c .before .before .before .before .need .result .told ≡ true
+told : (c : tie.After-at) → needed c .need .result .told ≡ true
 told c = was-yes refl (c .before .before .if1 .left)
 
-area-is : (c : tie.After-at) → c .at .result ≡ layoutOf (start (c .before .before .before .before) .args .source .now) .D
-area-is c = c .at .ensures ∙ shape-area (start (c .before .before .before .before) .pre .0 .opened)
+area-is : (c : tie.After-at) → c .at .result ≡ layoutOf (start (needed c) .args .source .now) .D
+area-is c = c .at .ensures ∙ shape-area (start (needed c) .pre .0 .opened)
 
 returns-2 : tie.Need-returns-2
 returns-2 c =
     let P = c .before in
-    let N = P .before .before .before .before in
+    let N = needed P in
     let A = start N .args in
     let w = N .need .ensures in (
-      asks-13 (A .source .now) (length (A .target .now)) _ _ (w .0) (w .1) (told P) (omega (arith, c .if2 .taken, area-is P)),
-      sym (settled-no 13 (A .target .now) (converted (A .source .now) (length (A .target .now))) (λ z. omega (arith, z))),
+      asks-13 (A .source .now) (length (A .target .now)) _ _ (w .0) (w .1) (told P)
+          (omega (arith, c .if2 .taken, area-is P)),
+      sym (settled-no 13 (A .target .now) (converted (A .source .now) (length (A .target .now)))
+          (λ z. omega (arith, z))),
     )
 
 sub-if3 : tie.Need-sub-if3
@@ -69,21 +75,27 @@ sub-if3 c = search needs
 returns-3 : tie.Need-returns-3
 returns-3 c =
     let P = c .before .before .before in
-    let N = P .before .before .before .before in
+    let N = needed P in
     let A = start N .args in
     let w = N .need .ensures in (
       asks-13 (A .source .now) (length (A .target .now)) _ _ (w .0) (w .1) (told P)
           (omega (arith, c .if3 .taken, c .before .before .if2 .left, area-is P)),
-      sym (settled-no 13 (A .target .now) (converted (A .source .now) (length (A .target .now))) (λ z. omega (arith, z))),
+      sym (settled-no 13 (A .target .now) (converted (A .source .now) (length (A .target .now)))
+          (λ z. omega (arith, z))),
     )
+
+abbrev placed : tie.After-write-target-arg → tie.After-at
+placed c = c .before .before .before .before
 
 -- no question is left
 none-left : (c : tie.After-write-target-arg)
-    → let A = start (c .before .before .before .before .before .before .before .before) .args in
-    0 ≡ firstNo (ask 20 (lengthsTold (A .source .now)) ∷ ask 13 (targetHolds (A .source .now) (length (A .target .now))) ∷ [])
+    → let A = start (needed (placed c)) .args in
+    0
+    ≡ firstNo (ask 20 (lengthsTold (A .source .now))
+    ∷ ask 13 (targetHolds (A .source .now) (length (A .target .now))) ∷ [])
 none-left c =
-    let P = c .before .before .before .before in
-    let N = P .before .before .before .before in
+    let P = placed c in
+    let N = needed P in
     let A = start N .args in
     let w = N .need .ensures in
     asks-0 (A .source .now) (length (A .target .now)) _ _ (w .0) (w .1) (told P)
@@ -91,10 +103,11 @@ none-left c =
 
 write-target-requires : tie.Need-write-target-requires
 write-target-requires c κs =
-    let S = start (c .before .before .before .before .before .before .before .before) in
+    let S = start (needed (placed c)) in
     let A = S .args in (
       S .pre .0,
-      sym (number-sound (A .source .now) (length (A .target .now)) (S .pre .1) (S .pre .0 .checked)) ∙ sym (none-left c),
+      sym (number-sound (A .source .now) (length (A .target .now)) (S .pre .1) (S .pre .0 .checked))
+          ∙ sym (none-left c),
     )
 
 same-length : tie.Need-same-length
@@ -103,7 +116,7 @@ same-length c = search needs
 returns-4 : tie.Need-returns-4
 returns-4 c =
     let P = c .before .before in
-    let S = start (P .before .before .before .before .before .before .before .before .before) in
+    let S = start (needed (placed (P .before))) in
     let A = S .args in (
       none-left (P .before),
       P .write-target .ensures

@@ -22,7 +22,8 @@ returns : tie.Need-returns
 returns c =
     let z = c .before in
     let A = c .before .before .before .before .args in
-    let n = number-length (A .source .now) (length (A .target .now)) (was-no (z .size-allowed .ensures) (c .if1 .taken)) in
+    let n = number-length (A .source .now) (length (A .target .now))
+    (was-no (z .size-allowed .ensures) (c .if1 .taken)) in
     (n, into-refused (A .source .now) (A .target .now) 1 n (λ e. omega (arith, e)))
 
 abbrev start : tie.After-check → tie.Start

@@ -16,7 +16,8 @@ use Rattle.call_convert.proofs.write_target.Statement.{statement}
 use Rattle.call_convert.proofs.write_target.Tie as tie
 
 -- the bare target, of an accepted conversion
-first : (S : tie.Start) → Ready (S .args .source .now) (length (S .args .target .now)) (layoutOf (S .args .source .now) .D)
+first : (S : tie.Start)
+    → Ready (S .args .source .now) (length (S .args .target .now)) (layoutOf (S .args .source .now) .D)
     (bareImage (S .args .source .now) (length (S .args .target .now)))
 unfolding carriedFrom
 first S =
@@ -35,7 +36,8 @@ unfolding layoutOf
 write-bare-requires c κs =
     let S = c .before .before .before in
     let r = first S in
-    (S .pre .0 .opened, omega (arith, r .opened .free-low, r .opened .free-high, r .size, ap (λ (l : Layout). l .D) (r .layout), same-area (S .args .source .now)))
+    let area = ap (λ (l : Layout). l .D) (r .layout) ∙ same-area (S .args .source .now) in
+    (S .pre .0 .opened, omega (arith, r .opened .free-low, r .opened .free-high, r .size, area))
 
 read-shape-requires : tie.Need-read-shape-requires
 read-shape-requires c κs =

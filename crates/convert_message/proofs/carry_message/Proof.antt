@@ -40,13 +40,18 @@ inside S =
     (omega (arith, message-fits img f (S .args .o .0) (S .pre .sound), shape-head (S .pre .source)), f .size-high)
 
 whole : (S : tie.Start) → isActive (S .args .source .now) (S .args .o .0) ≡ true
-    → S .args .o .0 + S .args .from .head + lengthAt (layoutOf (S .args .source .now)) (S .args .source .now) (S .args .o .0)
+    → S .args .o .0 + S .args .from .head
+    + lengthAt (layoutOf (S .args .source .now)) (S .args .source .now) (S .args .o .0)
     ≤ length (S .args .source .now)
 whole S a =
     let img = S .args .source .now in
     let f = opened-facts img (S .pre .source .accepted) in
-    omega (arith, message-end img f (S .args .o .0) (S .pre .sound) (active-some img (S .args .o .0) a),
-    f .free-high, shape-head (S .pre .source))
+    omega (
+      arith,
+      message-end img f (S .args .o .0) (S .pre .sound) (active-some img (S .args .o .0) a),
+      f .free-high,
+      shape-head (S .pre .source),
+    )
 
 is-active-requires : tie.Need-is-active-requires
 is-active-requires c κs = omega (arith, inside (c .before .before), head-range (c .before .before .pre .source))
@@ -77,7 +82,12 @@ record Known (S : tie.Start) (at m : ℕ) : Type 0 where
   pub starts : at ≡ S .args .o .0 + S .args .from .head
   pub long : m ≡ lengthAt (layoutOf (S .args .source .now)) (S .args .source .now) (S .args .o .0)
 
-known : (c : tie.After-new) → Known (c .before .before .before .before .before .before .before .before .before)
+abbrev start : tie.After-new → tie.Start
+start c =
+    let A = c .before .before .before .before .before in
+    A .before .before .before .before
+
+known : (c : tie.After-new) → Known (start c)
     (c .before .before .before .at .result) (c .before .before .length-at .result)
 known c =
     record {
@@ -89,7 +99,7 @@ known c =
 
 add-relocate : tie.Need-add-relocate
 add-relocate c =
-    let S = c .before .before .before .before .before .before .before .before .before in
+    let S = start c in
     let k = known c in
     omega (arith, k .starts, k .long, whole S (k .active), inside S)
 
@@ -101,13 +111,13 @@ part-relocate-start c = search needs
 
 part-relocate-end : tie.Need-part-relocate-end
 part-relocate-end c =
-    let S = c .before .before .before .before .before .before .before .before .before in
+    let S = start c in
     let k = known c in
     omega (arith, k .starts, k .long, whole S (k .active))
 
 relocate-requires : tie.Need-relocate-requires
 relocate-requires c κs =
-    let S = c .before .before .before .before .before .before .before .before .before .before in
+    let S = start (c .before) in
     let k = known (c .before) in
     let f = opened-facts _ (S .pre .target .accepted) in
     let at = c .before .before .before .before .at .result in
@@ -131,7 +141,7 @@ returns-2 : tie.Need-returns-2
 unfolding textAt carriedTo
 returns-2 c =
     let R = c .before .before .before in
-    let S = R .before .before .before .before .before .before .before .before .before .before in
+    let S = start (R .before) in
     let k = known (R .before) in
     let t = S .args .target .now in
     let at = R .before .before .before .before .at .result in
@@ -140,8 +150,10 @@ returns-2 c =
     ∙ ap₂ (λ (o : ℕ) (x : Bytes). relocated (layoutOf t) t (S .args .i .0) o (keyIn t (S .args .i .0)) x)
     (R .before .new .ensures)
     (ap₂ _++_ (part-zero t _) (part-lent (S .args .source .now) at m)
-    ∙ ap₂ (part (S .args .source .now)) (k .starts ∙ ap (λ (h : ℕ). S .args .o .0 + h) (shape-head (S .pre .source))) (k .long))
-    ∙ relocated-carried t (S .args .i .0) (textAt (layoutOf (S .args .source .now)) (S .args .source .now) (S .args .o .0))
+    ∙ ap₂ (part (S .args .source .now))
+    (k .starts ∙ ap (λ (h : ℕ). S .args .o .0 + h) (shape-head (S .pre .source))) (k .long))
+    ∙ relocated-carried t (S .args .i .0)
+    (textAt (layoutOf (S .args .source .now)) (S .args .source .now) (S .args .o .0))
     ∙ sym (rw (k .active) refl)
 
 pub carry-message-spec : {M : Type 1} → statement M

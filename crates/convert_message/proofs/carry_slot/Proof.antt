@@ -30,7 +30,8 @@ offset-of-requires c κs =
 slot-is : (c : tie.After-offset-of) → c .before .before .new .result .0 ≡ start c .args .i
 slot-is c = c .before .before .new .ensures
 
-offset-is : (c : tie.After-offset-of) → c .offset-of .result .0 ≡ offsetIn (start c .args .source .now) (start c .args .i)
+offset-is : (c : tie.After-offset-of)
+    → c .offset-of .result .0 ≡ offsetIn (start c .args .source .now) (start c .args .i)
 offset-is c = c .offset-of .ensures ∙ ap (offsetIn (start c .args .source .now)) (slot-is c)
 
 carry-message-requires : tie.Need-carry-message-requires

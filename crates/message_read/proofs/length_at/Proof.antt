@@ -43,9 +43,13 @@ masked c =
 cast-result : tie.Need-cast-result
 cast-result c =
     let S = c .before .before .before .before .before in
-    omega (arith, masked c, length-bound (S .args .image .now) (S .args .o .0)
-    (λ i. omega (arith, c .before .before .before .before .shared-slice-known .given i))
-    (omega (arith, S .pre .1, shape-head (S .pre .0))))
+    omega (
+      arith,
+      masked c,
+      length-bound (S .args .image .now) (S .args .o .0)
+          (λ i. omega (arith, c .before .before .before .before .shared-slice-known .given i))
+          (omega (arith, S .pre .1, shape-head (S .pre .0))),
+    )
 
 returns : tie.Need-returns
 returns c = masked c

@@ -18,7 +18,9 @@ returns : tie.Need-returns
 returns c =
     let S = (c .before .before .before) in
     let img = S .args .image .now in
-    λ t l. sym (place-12 (layoutOf img) img t (omega (arith, c .if1 .taken, c .before .most-length .ensures, l, shape-most (S .pre))))
+    λ t l.
+    sym (place-12 (layoutOf img) img t
+    (omega (arith, c .if1 .taken, c .before .most-length .ensures, l, shape-most (S .pre))))
 
 read-u32-requires : tie.Need-read-u32-requires
 read-u32-requires c κs = omega (arith, opened-facts _ (c .before .before .before .pre .accepted) .size-low)
@@ -58,8 +60,13 @@ returns-2 c =
     let S = (start-at-then2 c) in
     let img = S .args .image .now in
     λ t l.
-    sym (place-13 (layoutOf img) img t (omega (arith, c .before .before .before .if1 .left, c .before .before .before .before .most-length .ensures, l,
-    shape-most (S .pre)))
+    sym (place-13 (layoutOf img) img t (omega (
+      arith,
+      c .before .before .before .if1 .left,
+      c .before .before .before .before .most-length .ensures,
+      l,
+      shape-most (S .pre),
+    ))
     (omega (arith, c .if2 .taken, c .before .before .read-u32 .ensures, l, shape-head (S .pre))))
 
 abbrev start-at-else2 : tie.Else2 → tie.Start
@@ -70,8 +77,13 @@ returns-3 c =
     let S = (start-at-else2 c) in
     let img = S .args .image .now in
     λ t l.
-    sym (place-0 (layoutOf img) img t (omega (arith, c .before .before .before .if1 .left, c .before .before .before .before .most-length .ensures, l,
-    shape-most (S .pre)))
+    sym (place-0 (layoutOf img) img t (omega (
+      arith,
+      c .before .before .before .if1 .left,
+      c .before .before .before .before .most-length .ensures,
+      l,
+      shape-most (S .pre),
+    ))
     (omega (arith, c .if2 .left, c .before .before .read-u32 .ensures, l, shape-head (S .pre))))
 
 pub room-number-spec : {M : Type 1} → statement M

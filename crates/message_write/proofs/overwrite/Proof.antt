@@ -102,8 +102,9 @@ write-message-requires c κs =
     let head = A .shape .head in
     let i = inside (start-at-write-message-arg c) in
     let tells =
-    length-tells (A .image .now) (A .shape) (start-at-write-message-arg c .pre .0) (A .o .0) (0 + length (A .bytes .now))
-    (λ k. omega (arith, (slice-known-at-write-message-arg c) .slice-known .given k)) (omega (arith, i .0)) (omega (arith, i .1)) in (
+    length-tells (A .image .now) (A .shape) (start-at-write-message-arg c .pre .0) (A .o .0)
+    (0 + length (A .bytes .now)) (λ k. omega (arith, (slice-known-at-write-message-arg c) .slice-known .given k))
+    (omega (arith, i .0)) (omega (arith, i .1)) in (
       tells,
       mid-len at (at + head + length (A .bytes .now)) (A .image .now) (omega arith) ∙ omega arith,
     )
@@ -151,10 +152,12 @@ returns c =
     let S = (start-at-slice-known3 c) in
     let img = S .args .image .now in
     let v = S .args .bytes .now in
-    overwrite-steps (layoutOf img) img v (S .args .o .0) (m .result) (S .args .shape .head) (head-width (S .pre .0)) (S .pre .2)
+    overwrite-steps (layoutOf img) img v (S .args .o .0) (m .result) (S .args .shape .head)
+    (head-width (S .pre .0)) (S .pre .2)
     (m .ensures) (ends L .1) (omega (arith, m .ensures, inside S .0))
     (w .last .0) (z .last .0) (at .result) (at .ensures)
-    (w .ensures ∙ ap₂ (λ (k : ℕ) (t : Bytes). message k (t ++ v)) (width-is (S .pre .0)) (part-zero _ (S .args .shape .head)))
+    (w .ensures
+    ∙ ap₂ (λ (k : ℕ) (t : Bytes). message k (t ++ v)) (width-is (S .pre .0)) (part-zero _ (S .args .shape .head)))
     (z .ensures)
 
 pub overwrite-spec : {M : Type 1} → statement M

@@ -181,7 +181,9 @@ returns c =
     c .before .before .set-free .ensures
     ∙ ap₂ (setFree (A .shape .area .0))
     (place-steps (layoutOf img) img v (x .result) from n head (k .2) below room (u .last .0) (w .last .0) copied
-    (w .ensures ∙ ap (λ (k : ℕ). message k (part (midOf (x .result) (x .result + head + (n + length v) - x .result) (u .last .0)) head n ++ v))
+    (w .ensures
+    ∙ ap (λ (k : ℕ). message k
+    (part (midOf (x .result) (x .result + head + (n + length v) - x .result) (u .last .0)) head n ++ v))
     (width-is (S .pre .0))))
     (c .before .before .before .new .ensures)
     ∙ takeSpace-set (layoutOf img) img v (x .result) from n head (k .2) below room (A .shape .area .0)

@@ -1,3 +1,4 @@
+-- By the size: a letter and the number after it are one store. Assumes nothing.
 use borrow.Author.Needs.{needs}
 use native.Mathlib.Omega.{arith}
 use Prim.Native.Nat.{ℕ}
@@ -10,26 +11,18 @@ use Rattle.spec_file.specs.Image.{setField}
 use Rattle.message_write.proofs.Placed.{head-wide}
 use Rattle.message_write.proofs.write_head.Statement.{statement}
 use Rattle.message_write.proofs.write_head.Tie as tie
-use Rattle.message_write.proofs.write_head.Reads as reads
-use Rattle.message_write.proofs.write_head.Lts as lts
-use Rattle.bytes_words.proofs.fields.write_low_u24.Reads as write-low-u24-reads
-use Rattle.bytes_words.proofs.fields.write_u32.Reads as write-u32-reads
 
--- src/lib.rt:46:39
 cast-write-low-u24 : tie.Need-cast-write-low-u24
 cast-write-low-u24 c = search needs
 
--- src/lib.rt:46:9
 write-low-u24-requires : tie.Need-write-low-u24-requires
 write-low-u24-requires c κs =
     let S = c .before .before .before in
     (omega (arith, S .pre .0 .low, S .pre .1), S .pre .0 .short (c .before .if1 .taken))
 
--- src/lib.rt:47:9
 same-length : tie.Need-same-length
 same-length c = search needs
 
--- src/lib.rt:47:9
 returns : tie.Need-returns
 returns c =
     let S = c .before .before .before .before .before .before in
@@ -37,26 +30,22 @@ returns c =
     ∙ ap (λ (w : ℕ). store (S .args .space .now) 0 (active ∷ digits w (S .args .m)))
     (omega (arith, c .before .before .before .before .if1 .taken))
 
--- src/lib.rt:49:5
 slice-write-space : tie.Need-slice-write-space
 slice-write-space c = search needs
 
--- src/lib.rt:50:25
 cast-write-u32 : tie.Need-cast-write-u32
 cast-write-u32 c = search needs
 
--- src/lib.rt:50:5
 write-u32-requires : tie.Need-write-u32-requires
 write-u32-requires c κs =
     let S = c .before .before .before in
     omega (arith, length-set (S .args .space .now) 0 97, S .pre .0 .low, c .before .if1 .left, S .pre .1)
 
--- src/lib.rt:41:1
 same-length-2 : tie.Need-same-length-2
 same-length-2 c =
-    c .before .before .write-u32 .kept .0 ∙ length-set (c .before .before .before .before .before .before .args .space .now) 0 97
+    c .before .before .write-u32 .kept .0
+    ∙ length-set (c .before .before .before .before .before .before .args .space .now) 0 97
 
--- src/lib.rt:41:1
 returns-2 : tie.Need-returns-2
 unfolding setField
 returns-2 c =

@@ -74,7 +74,9 @@ new-requires : tie.Need-new-requires
 new-requires c κs = search needs
 
 head-size-requires : tie.Need-head-size-requires
-head-size-requires c κs = c .before .before .before .before .before .before .before .before .before .pre
+head-size-requires c κs =
+    let b = c .before .before .before .before in
+    b .before .before .before .before .before .pre
 
 returns : tie.Need-returns
 returns c =
