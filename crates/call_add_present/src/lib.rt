@@ -37,7 +37,7 @@ ghost use Rattle.table_search.specs.Slots.{keyIn};
 
 // The old message, if there is one, becomes inactive; the first `before` bytes of its text, and the bytes, are placed
 // in new space, where the point's offset then points.
-pub fn relocate(image: &mut [u8], shape: Shape, slot: Slot, o: Offset, before: usize, bytes: &[u8])
+fn relocate(image: &mut [u8], shape: Shape, slot: Slot, o: Offset, before: usize, bytes: &[u8])
     requires { ⌜ Open (now image) shape × (slot .0 < shape .slots)
         × (messageSound (layoutOf (now image)) (now image) (o .0) ≡ true)
         × (o .0 + shape .head + before ≤ field (now image) freeField)

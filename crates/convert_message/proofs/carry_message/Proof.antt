@@ -9,7 +9,7 @@ use lib.ListN.{length, take, drop}
 use Rattle.spec_file.specs.Bytes.{Bytes, part}
 use Rattle.spec_file.specs.Limits.{mostImage, freeField}
 use Rattle.spec_file.specs.Image.{field, layoutOf}
-use Rattle.spec_file.specs.Messages.{headSize, isActive, lengthAt, textAt, retire, relocated}
+use Rattle.spec_file.specs.Messages.{headSize, isActive, lengthAt, textAt}
 use Rattle.spec_file.specs.Questions.{messageSound}
 use Rattle.spec_conversion.specs.Convert.{carried}
 use Rattle.law_file.proofs.Tests.{was-no, was-yes}
@@ -24,12 +24,6 @@ use Rattle.table_search.specs.Slots.{keyIn}
 use Rattle.convert_stages.specs.Stages.{carriedTo}
 use Rattle.convert_message.proofs.carry_message.Statement.{statement}
 use Rattle.convert_message.proofs.carry_message.Tie as tie
-
--- a point without an offset has no message to retire
-relocated-carried : (t : Bytes) (i : ℕ) (text : Bytes)
-    → relocated (layoutOf t) t i 0 (keyIn t i) text ≡ carried (layoutOf t) t i (keyIn t i) text
-unfolding relocated carried retire isActive
-relocated-carried t i text = refl
 
 -- the header, and the whole of an active message, lie in the source
 inside : (S : tie.Start) → (S .args .o .0 + S .args .from .head ≤ length (S .args .source .now))
@@ -73,64 +67,58 @@ length-at-requires c κs =
     let S = c .before .before .before .before .before .before in
     (S .pre .source, inside S .0)
 
-new-requires : tie.Need-new-requires
-new-requires c κs = search needs
-
 -- the text's place in the source
 record Known (S : tie.Start) (at m : ℕ) : Type 0 where
   pub active : isActive (S .args .source .now) (S .args .o .0) ≡ true
   pub starts : at ≡ S .args .o .0 + S .args .from .head
   pub long : m ≡ lengthAt (layoutOf (S .args .source .now)) (S .args .source .now) (S .args .o .0)
 
-abbrev start : tie.After-new → tie.Start
+abbrev start : tie.After-place-text-arg → tie.Start
 start c =
-    let A = c .before .before .before .before .before in
+    let A = c .before .before .before .before in
     A .before .before .before .before
 
-known : (c : tie.After-new) → Known (start c)
-    (c .before .before .before .at .result) (c .before .before .length-at .result)
+known : (c : tie.After-place-text-arg)
+    → Known (start c) (c .before .before .at .result) (c .before .length-at .result)
 known c =
+    let T = c .before .before .before in
     record {
-      active = was-yes (c .before .before .before .before .before .before .is-active .ensures)
-          (c .before .before .before .before .before .if1 .left);
-      starts = c .before .before .before .at .ensures ∙ c .before .before .before .before .text-start .ensures;
-      long = c .before .before .length-at .ensures;
+      active = was-yes (T .before .before .is-active .ensures) (T .before .if1 .left);
+      starts = c .before .before .at .ensures ∙ T .text-start .ensures;
+      long = c .before .length-at .ensures;
     }
 
-add-relocate : tie.Need-add-relocate
-add-relocate c =
+add-place-text : tie.Need-add-place-text
+add-place-text c =
     let S = start c in
     let k = known c in
     omega (arith, k .starts, k .long, whole S (k .active), inside S)
 
-sub-relocate : tie.Need-sub-relocate
-sub-relocate c = search needs
+sub-place-text : tie.Need-sub-place-text
+sub-place-text c = search needs
 
-part-relocate-start : tie.Need-part-relocate-start
-part-relocate-start c = search needs
+part-place-text-start : tie.Need-part-place-text-start
+part-place-text-start c = search needs
 
-part-relocate-end : tie.Need-part-relocate-end
-part-relocate-end c =
+part-place-text-end : tie.Need-part-place-text-end
+part-place-text-end c =
     let S = start c in
     let k = known c in
     omega (arith, k .starts, k .long, whole S (k .active))
 
-relocate-requires : tie.Need-relocate-requires
-relocate-requires c κs =
-    let S = start (c .before) in
-    let k = known (c .before) in
-    let f = opened-facts _ (S .pre .target .accepted) in
-    let at = c .before .before .before .before .at .result in
-    let m = c .before .before .before .length-at .result in
+place-text-requires : tie.Need-place-text-requires
+place-text-requires c κs =
+    let P = c .before in
+    let S = start P in
+    let k = known P in
+    let at = P .before .before .at .result in
+    let m = P .before .length-at .result in
     let len : length (take (at + m - at) (drop at (S .args .source .now))) ≡ m =
     ap length (part-lent (S .args .source .now) at m)
     ∙ part-length (S .args .source .now) at m (omega (arith, k .starts, k .long, whole S (k .active))) in
     let fits = S .pre .fits (k .active) in (
       S .pre .target,
       S .pre .there,
-      ap (messageSound (layoutOf (S .args .target .now)) (S .args .target .now)) (c .before .new .ensures)
-          ∙ none-sound (layoutOf (S .args .target .now)) (S .args .target .now),
-      omega (arith, c .before .new .ensures, head-range (S .pre .target), area-above _ f, f .free-low),
       record { small = omega (arith, len, k .long, fits .small); room = omega (arith, len, k .long, fits .room) },
     )
 
@@ -140,20 +128,18 @@ same-length c = search needs
 returns-2 : tie.Need-returns-2
 unfolding textAt carriedTo
 returns-2 c =
-    let R = c .before .before .before in
-    let S = start (R .before) in
-    let k = known (R .before) in
+    let R = c .before .before in
+    let P = R .before .before in
+    let S = start P in
+    let k = known P in
     let t = S .args .target .now in
-    let at = R .before .before .before .before .at .result in
-    let m = R .before .before .before .length-at .result in
-    c .before .before .relocate .ensures
-    ∙ ap₂ (λ (o : ℕ) (x : Bytes). relocated (layoutOf t) t (S .args .i .0) o (keyIn t (S .args .i .0)) x)
-    (R .before .new .ensures)
-    (ap₂ _++_ (part-zero t _) (part-lent (S .args .source .now) at m)
+    let at = P .before .before .at .result in
+    let m = P .before .length-at .result in
+    R .place-text .ensures
+    ∙ ap (carried (layoutOf t) t (S .args .i .0) (keyIn t (S .args .i .0)))
+    (part-lent (S .args .source .now) at m
     ∙ ap₂ (part (S .args .source .now))
     (k .starts ∙ ap (λ (h : ℕ). S .args .o .0 + h) (shape-head (S .pre .source))) (k .long))
-    ∙ relocated-carried t (S .args .i .0)
-    (textAt (layoutOf (S .args .source .now)) (S .args .source .now) (S .args .o .0))
     ∙ sym (rw (k .active) refl)
 
 pub carry-message-spec : {M : Type 1} → statement M
@@ -165,11 +151,10 @@ carry-message-spec =
     text-start-requires
     at-requires
     length-at-requires
-    new-requires
-    add-relocate
-    sub-relocate
-    part-relocate-start
-    part-relocate-end
-    relocate-requires
+    add-place-text
+    sub-place-text
+    part-place-text-start
+    part-place-text-end
+    place-text-requires
     same-length
     returns-2)
