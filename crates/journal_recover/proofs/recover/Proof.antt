@@ -85,7 +85,7 @@ add-settle c = search needs
 settle-requires : tie.Need-settle-requires
 settle-requires c κs =
     let R = c .before .before in
-    (sound (R .before .before), counted R)
+    (sound (R .before .before), counted R, omega arith)
 
 same-length-3 : tie.Need-same-length-3
 same-length-3 c = search needs
