@@ -1053,6 +1053,8 @@ at_a_cut "the mark is cleared before the image is written" \
 at_a_cut "recovery clears the mark before the image is written" \
     'if (journal[mark] == MARK)' \
     'if (journal[mark] == MARK && (journal[mark] = 0, 1))'
+at_a_cut "recovery writes 0 where it is 0 already" \
+    'if (journal[mark] != 0)' 'if (journal[mark] < 256)'
 at_a_cut "a stretch is taken for written where its first byte is" \
     'copy(image + get32(pair), from, get32(pair + 4));' \
     'if (get32(pair + 4) > 0 && image[get32(pair)] != *from) copy(image + get32(pair), from, get32(pair + 4));'

@@ -109,8 +109,8 @@ fn journal_sound(size: usize, journal: &[u8]) -> bool
     true
 }
 
-// Rewrites the image from a journal that is marked, and takes the mark away. Answers 0, or 18 for a journal that is
-// empty or, being marked, not sound, and then changes no byte.
+// Rewrites the image from a journal that is marked, and takes the mark away; where the mark is 0 already it writes
+// nothing. Answers 0, or 18 for a journal that is empty or, being marked, not sound, and then changes no byte.
 pub fn recover(image: &mut [u8], journal: &mut [u8]) -> u32
     ensures { λ r. ⌜ (r ≡ recoverNumber (length (now (image .entry))) (now (journal .entry)))
         × Updates (recovered (record { image = now (image .entry); journal = now (journal .entry) }))
@@ -121,6 +121,9 @@ pub fn recover(image: &mut [u8], journal: &mut [u8]) -> u32
         return UNRECOVERABLE;
     }
     let last = end - 1;
+    if journal[last] == 0 {
+        return 0;
+    }
     if journal[last] != MARKED {
         journal[last] = 0;
         return 0;

@@ -1,0 +1,4 @@
+-- Laws of a disk that loses what was not flushed. Assumes nothing.
+pub mod Left  -- what a cut may leave, in two forms
+pub mod Life  -- the promises
+pub mod Merged  -- runs that lie close together, as one stretch

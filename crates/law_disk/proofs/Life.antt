@@ -1,0 +1,785 @@
+-- Whatever happens to image and journal, a power cut leaves what recovery makes the image acknowledged last, or the one
+-- begun.
+--     Clear, Either, After      the three states that an update and a recovery go through
+--     Later x, Stage x y        x, whatever comes; x or y
+--     .. -cut, .. -goes         a cut, and the actions, lead from one to the other
+--     life-safe, reader-safe    the promises
+-- Assumes nothing.
+use mathlib.Core.Path.{_≡_, refl, sym, ap, ap₂, _∙_, subst}
+use Prim.Native.Nat.{ℕ, zero, suc, _+_, _-_, _^_, _≤_, _<_}
+use native.Mathlib.Omega.{arith}
+use mathlib.Core.Bool.{Bool, true, false, cond, not, _&&_, _||_, true≢false}
+use mathlib.Core.List.{List, [], _∷_}
+use mathlib.Core.Logic.{_⊎_, inl, inr}
+use lib.ListN.{length, take, getD}
+use lib.Seq.{ext-getD, getD-take, length-take-le}
+use lib.Dec.{eqb}
+use Rattle.spec_file.specs.Bytes.{Bytes, part, store}
+use Rattle.spec_changes.specs.Changes.{Pair, covered, Spread, Near}
+use Rattle.spec_changes.specs.Journal.{content, markPlace, mark, marked, Disk, Block, toJournal, toImage, put, putAll, stretches, blocksOf, isMarked, journalSound, recoverNumber, recovered}
+use Rattle.spec_disk.specs.Disk.{Held, Slices, Action, write, flushImage, flushJournal, wrote, flushed, done, allDone, still, found, Update, setMarkAt, writeImage, completion, commit, acknowledged, recovery, Fits, Life, begun, updating, told, lost, redoing, opened, renewed, decided, seenDisk, ReaderSafe, LifeSafe}
+use Rattle.law_file.proofs.Tests.{by-bool, or-no}
+use Rattle.law_file.proofs.Bytes.{part-length, length-store}
+use Rattle.spec_changes.proofs.Changes.{inside, inside-below, inside-above, covered-cons, near-none, near-copy, copied-near}
+use Rattle.spec_changes.proofs.Journal.{Holds, holds-content, holds-mark, content-blocks, content-sound}
+use Rattle.spec_changes.proofs.Recovery.{mark-set, mark-kept, number-other, number-marked, recovered-other, recovered-marked, putAll-stretches}
+use Rattle.law_disk.proofs.Left.{Cut, cut-near}
+
+-- ---- bytes that are not late
+
+near-same : (b : Bytes) (rs : List Pair) → Near rs b b
+near-same b rs = record { size = refl; outside = λ i f. refl }
+
+-- late bytes that lie in the stretches
+Within : List Pair → List Pair → Type 0
+Within rs late = (i : ℕ) → covered rs i ≡ false → covered late i ≡ false
+
+near-within : (rs late : List Pair) (b sure new : Bytes) → Within rs late → Near late b sure → Near rs sure new
+    → Near rs b new
+unfolding Within
+near-within rs late b sure new w h n =
+    record { size = h .size ∙ n .size; outside = λ i f. h .outside i (w i f) ∙ n .outside i f }
+
+module _ (p : ℕ) where
+  -- the mark's byte
+  marked-at : (a b : Bytes) → p + 1 ≡ length a → length b ≡ length a → getD b p 0 ≡ getD a p 0 → isMarked b ≡ isMarked a
+  unfolding isMarked mark markPlace
+  marked-at a b e l h =
+      let ea : length a - 1 ≡ p = omega arith in
+      let eb : length b - 1 ≡ p = omega arith in
+      ap (λ (x : ℕ). eqb (getD b x 0) marked) eb
+      ∙ ap (λ (x : ℕ). eqb x marked) h
+      ∙ ap (λ (x : ℕ). eqb (getD a x 0) marked) (sym ea)
+
+  -- nothing late in front of the mark
+  MarkOnly : List Pair → Type 0
+  MarkOnly late = (i : ℕ) → i < p → covered late i ≡ false
+
+  -- content is still there
+  holds-near : (c : Bytes) (late : List Pair) (b J : Bytes) → MarkOnly late → p + 1 ≡ length J → Near late b J
+      → Holds c J → Holds c b
+  unfolding MarkOnly
+  holds-near c late b J only e n h =
+      let lb : length b ≡ length J = n .size in
+      let room : length c < length J = h .room in
+      let tb : length (take (length c) b) ≡ length c = length-take-le (length c) b (omega arith) in
+      record {
+        front =
+            ext-getD 0 (take (length c) b) c tb
+            (λ i l.
+            let k : i < length c = omega arith in
+            getD-take (length c) b i 0 k
+            ∙ n .outside i (only i (omega arith))
+            ∙ sym (getD-take (length c) J i 0 k)
+            ∙ ap (λ (t : Bytes). getD t i 0) (h .front));
+        room = omega arith;
+      }
+
+  -- ---- the states
+
+  -- a slice in which nothing is late
+  record Quiet (b : Bytes) (h : Held) : Type 0 where
+    sure : h .sure ≡ b
+    seen : h .seen ≡ b
+    late : h .late ≡ []
+
+  -- the image x, and a journal that is surely not marked
+  record Clear (x : Bytes) (s : Slices) : Type 0 where
+    image : Quiet x (s .image)
+    long : p + 1 ≡ length (s .journal .sure)
+    no : isMarked (s .journal .sure) ≡ false
+    kept : covered (s .journal .late) p ≡ false
+    seen-long : p + 1 ≡ length (s .journal .seen)
+    seen-no : isMarked (s .journal .seen) ≡ false
+
+  -- a journal that surely has its content; its mark may be late
+  record Whole (c : Bytes) (h : Held) : Type 0 where
+    long : p + 1 ≡ length (h .sure)
+    holds : Holds c (h .sure)
+    seen-long : p + 1 ≡ length (h .seen)
+    seen-holds : Holds c (h .seen)
+    only : MarkOnly (h .late)
+
+  -- the old image, and the content that leads to the new one
+  record Either (rs : List Pair) (old new : Bytes) (s : Slices) : Type 0 where
+    image : Quiet old (s .image)
+    near : Near rs old new
+    whole : Whole (content rs new) (s .journal)
+
+  -- surely marked; the stretches may have any bytes
+  record After (rs : List Pair) (new : Bytes) (s : Slices) : Type 0 where
+    near : Near rs (s .image .sure) new
+    within : Within rs (s .image .late)
+    seen-near : Near rs (s .image .seen) new
+    whole : Whole (content rs new) (s .journal)
+    yes : isMarked (s .journal .sure) ≡ true
+    kept : s .journal .late ≡ []
+    seen-yes : isMarked (s .journal .seen) ≡ true
+
+  record Sound (rs : List Pair) (new : Bytes) : Type 0 where
+    spread : Spread 0 (length new) rs
+    small : length new < 256 ^ 4
+    few : length rs < 256 ^ 4
+
+  -- x, whatever comes
+  data Later (x : Bytes) (s : Slices) : Type 0 where
+    clear : Clear x s → Later x s
+    over : (rs : List Pair) → Sound rs x → Either rs x x s → Later x s
+    after : (rs : List Pair) → Sound rs x → After rs x s → Later x s
+
+  -- old or new
+  data Stage (old new : Bytes) (s : Slices) : Type 0 where
+    old-yet : Later old s → Stage old new s
+    between : (rs : List Pair) → Sound rs new → Either rs old new s → isMarked (s .journal .seen) ≡ true
+        → Stage old new s
+    new-now : Later new s → Stage old new s
+
+  -- ---- a power cut
+
+  quiet-left : (x : Bytes) (h : Held) (b : Bytes) → Quiet x h → Near (h .late) b (h .sure) → b ≡ x
+  quiet-left x h b q n =
+      near-none b (h .sure) (subst (λ (l : List Pair). Near l b (h .sure)) (q .late) n) ∙ q .sure
+
+  clear-cut : (x : Bytes) (s : Slices) (d : Disk) → Clear x s → Cut s d → Clear x (found d)
+  unfolding found still
+  clear-cut x s d c m =
+      let i : d .image ≡ x = quiet-left x (s .image) (d .image) (c .image) (m .image) in
+      let l : p + 1 ≡ length (d .journal) = c .long ∙ sym (m .journal .size) in
+      let u : isMarked (d .journal) ≡ false =
+      marked-at (s .journal .sure) (d .journal) (c .long) (m .journal .size) (m .journal .outside p (c .kept))
+      ∙ c .no in
+      record {
+        image = record { sure = i; seen = i; late = refl };
+        long = l;
+        no = u;
+        kept = unfold covered in refl;
+        seen-long = l;
+        seen-no = u;
+      }
+
+  whole-left : (c : Bytes) (h : Held) (b : Bytes) → Whole c h → Near (h .late) b (h .sure) → Whole c (still b)
+  unfolding still MarkOnly
+  whole-left c h b w n =
+      let l : p + 1 ≡ length b = w .long ∙ sym (n .size) in
+      let k : Holds c b = holds-near c (h .late) b (h .sure) (w .only) (w .long) n (w .holds) in
+      record { long = l; holds = k; seen-long = l; seen-holds = k; only = λ i f. unfold covered in refl }
+
+  either-cut : (rs : List Pair) (old new : Bytes) (s : Slices) (d : Disk) → Either rs old new s → Cut s d
+      → Clear old (found d) ⊎ After rs new (found d)
+  unfolding found still Within
+  either-cut rs old new s d e m =
+      let i : d .image ≡ old = quiet-left old (s .image) (d .image) (e .image) (m .image) in
+      let w : Whole (content rs new) (still (d .journal)) =
+      whole-left (content rs new) (s .journal) (d .journal) (e .whole) (m .journal) in
+      let n : Near rs (d .image) new = subst (λ (b : Bytes). Near rs b new) (sym i) (e .near) in
+      by-bool (isMarked (d .journal))
+      (λ y. inr (record {
+        near = n;
+        within = λ i f. unfold covered in refl;
+        seen-near = n;
+        whole = w;
+        yes = y;
+        kept = refl;
+        seen-yes = y;
+      }))
+      (λ u. inl (record {
+        image = record { sure = i; seen = i; late = refl };
+        long = w .long;
+        no = u;
+        kept = unfold covered in refl;
+        seen-long = w .long;
+        seen-no = u;
+      }))
+
+  after-cut : (rs : List Pair) (new : Bytes) (s : Slices) (d : Disk) → After rs new s → Cut s d
+      → After rs new (found d)
+  unfolding found still Within
+  after-cut rs new s d a m =
+      let n : Near rs (d .image) new =
+      near-within rs (s .image .late) (d .image) (s .image .sure) new (a .within) (m .image) (a .near) in
+      let y : isMarked (d .journal) ≡ true =
+      marked-at (s .journal .sure) (d .journal) (a .whole .long) (m .journal .size)
+      (m .journal .outside p (ap (λ (l : List Pair). covered l p) (a .kept) ∙ (unfold covered in refl)))
+      ∙ a .yes in
+      record {
+        near = n;
+        within = λ i f. unfold covered in refl;
+        seen-near = n;
+        whole = whole-left (content rs new) (s .journal) (d .journal) (a .whole) (m .journal);
+        yes = y;
+        kept = refl;
+        seen-yes = y;
+      }
+
+  later-cut : (x : Bytes) (s : Slices) (d : Disk) → Later x s → Cut s d → Later x (found d)
+  later-cut x s d (clear c) m = clear (clear-cut x s d c m)
+  later-cut x s d (over rs so e) m = go (either-cut rs x x s d e m)
+    where
+      go : Clear x (found d) ⊎ After rs x (found d) → Later x (found d)
+      go (inl c) = clear c
+      go (inr a) = after rs so a
+  later-cut x s d (after rs so a) m = after rs so (after-cut rs x s d a m)
+
+  stage-cut : (old new : Bytes) (s : Slices) (d : Disk) → Stage old new s → Cut s d → Stage old new (found d)
+  stage-cut old new s d (old-yet l) m = old-yet (later-cut old s d l m)
+  stage-cut old new s d (new-now l) m = new-now (later-cut new s d l m)
+  stage-cut old new s d (between rs so e y) m = go (either-cut rs old new s d e m)
+    where
+      go : Clear old (found d) ⊎ After rs new (found d) → Stage old new (found d)
+      go (inl c) = old-yet (clear c)
+      go (inr a) = new-now (after rs so a)
+
+  -- ---- what recovery gives
+
+  record Gives (x : Bytes) (d : Disk) : Type 0 where
+    accepted : recoverNumber (length (d .image)) (d .journal) ≡ 0
+    image : recovered d .image ≡ x
+
+  clear-gives : (x : Bytes) (d : Disk) → Clear x (found d) → Gives x d
+  unfolding found still
+  clear-gives x d c =
+      let some : 1 ≤ length (d .journal) = omega (arith, c .long) in
+      record {
+        accepted = number-other (d .image) (d .journal) some (c .no);
+        image = ap (λ (e : Disk). e .image) (recovered-other (d .image) (d .journal) some (c .no)) ∙ c .image .sure;
+      }
+
+  after-gives : (rs : List Pair) (new : Bytes) (d : Disk) → Sound rs new → After rs new (found d) → Gives new d
+  unfolding found still
+  after-gives rs new d so a =
+      let some : 1 ≤ length (d .journal) = omega (arith, a .whole .long) in
+      let h : Holds (content rs new) (d .journal) = a .whole .holds in
+      let ok : journalSound (length (d .image)) (d .journal) ≡ true =
+      ap (λ (n : ℕ). journalSound n (d .journal)) (a .near .size)
+      ∙ content-sound rs new (d .journal) h (so .spread) (so .few) (so .small) in
+      record {
+        accepted = number-marked (d .image) (d .journal) some (a .yes) ok;
+        image =
+            ap (λ (e : Disk). e .image) (recovered-marked (d .image) (d .journal) some (a .yes) ok)
+            ∙ ap (putAll (d .image)) (content-blocks rs new (d .journal) h (so .spread) (so .few) (so .small))
+            ∙ putAll-stretches rs new (d .image)
+            ∙ copied-near 0 rs new (d .image) (so .spread) (a .near);
+      }
+
+  later-gives : (x : Bytes) (s : Slices) (d : Disk) → Later x s → Cut s d → Gives x d
+  later-gives x s d (clear c) m = clear-gives x d (clear-cut x s d c m)
+  later-gives x s d (over rs so e) m = go (either-cut rs x x s d e m)
+    where
+      go : Clear x (found d) ⊎ After rs x (found d) → Gives x d
+      go (inl c) = clear-gives x d c
+      go (inr a) = after-gives rs x d so a
+  later-gives x s d (after rs so a) m = after-gives rs x d so (after-cut rs x s d a m)
+
+  stage-gives : (old new : Bytes) (s : Slices) (d : Disk) → Stage old new s → Cut s d → Gives old d ⊎ Gives new d
+  stage-gives old new s d (old-yet l) m = inl (later-gives old s d l m)
+  stage-gives old new s d (new-now l) m = inr (later-gives new s d l m)
+  stage-gives old new s d (between rs so e y) m = go (either-cut rs old new s d e m)
+    where
+      go : Clear old (found d) ⊎ After rs new (found d) → Gives old d ⊎ Gives new d
+      go (inl c) = inl (clear-gives old d c)
+      go (inr a) = inr (after-gives rs new d so a)
+
+  -- ---- actions on the journal
+
+  length-mark : (J : Bytes) (m : ℕ) → p + 1 ≡ length J → p + 1 ≡ length (store J p (m ∷ []))
+  length-mark J m e = e ∙ sym (length-store J p (m ∷ []) (omega arith))
+
+  isMarked-set : (J : Bytes) (m : ℕ) → p + 1 ≡ length J → isMarked (store J p (m ∷ [])) ≡ eqb m marked
+  unfolding isMarked
+  isMarked-set J m e =
+      let place : p ≡ markPlace J = unfold markPlace in omega arith in
+      ap (λ (n : ℕ). eqb (mark (store J n (m ∷ []))) marked) place
+      ∙ ap (λ (n : ℕ). eqb n marked) (mark-set J m (omega arith))
+
+  mark-only : (late : List Pair) → MarkOnly late → MarkOnly (record { at = p; size = 1 } ∷ late)
+  unfolding MarkOnly
+  mark-only late only i f =
+      covered-cons (record { at = p; size = 1 }) late i
+      ∙ ap₂ _||_ (inside-below (record { at = p; size = 1 }) i f) (only i f)
+
+  whole-mark : (c : Bytes) (h : Held) (m : ℕ) → Whole c h → Whole c (wrote (record { place = p; bytes = m ∷ [] }) h)
+  unfolding wrote put
+  whole-mark c h m w =
+      record {
+        long = w .long;
+        holds = w .holds;
+        seen-long = length-mark (h .seen) m (w .seen-long);
+        seen-holds = holds-mark c (h .seen) p m (w .seen-holds) (w .seen-long);
+        only = mark-only (h .late) (w .only);
+      }
+
+  whole-flushed : (c : Bytes) (h : Held) → Whole c h → Whole c (flushed h)
+  unfolding flushed MarkOnly
+  whole-flushed c h w =
+      record {
+        long = w .seen-long;
+        holds = w .seen-holds;
+        seen-long = w .seen-long;
+        seen-holds = w .seen-holds;
+        only = λ i f. unfold covered in refl;
+      }
+
+  -- ---- behind the mark
+
+  module _ (rs : List Pair) (new : Bytes) (so : Sound rs new) where
+    after-flushed : (s : Slices) → After rs new s → After rs new (done flushJournal s)
+    unfolding done flushed
+    after-flushed s a =
+        record {
+          near = a .near;
+          within = a .within;
+          seen-near = a .seen-near;
+          whole = whole-flushed (content rs new) (s .journal) (a .whole);
+          yes = a .seen-yes;
+          kept = refl;
+          seen-yes = a .seen-yes;
+        }
+
+    -- one stretch
+    module _ (r : Pair) (rs′ : List Pair) (fits : r .at + r .size ≤ length new) (sub : Within rs (r ∷ rs′)) where
+      sub-rest : Within rs rs′
+      unfolding Within
+      sub-rest i f = or-no (inside r i) (covered rs′ i) (sym (covered-cons r rs′ i) ∙ sub i f) .1
+
+      late-more : (late : List Pair) → Within rs late
+          → Within rs (record { at = r .at; size = length (part new (r .at) (r .size)) } ∷ late)
+      unfolding Within
+      late-more late w i f =
+          ap (λ (n : ℕ). covered (record { at = r .at; size = n } ∷ late) i) (part-length new (r .at) (r .size) fits)
+          ∙ covered-cons r late i
+          ∙ ap₂ _||_ (or-no (inside r i) (covered rs′ i) (sym (covered-cons r rs′ i) ∙ sub i f) .0) (w i f)
+
+      abbrev next : Slices → Slices
+      next s = done (write (toImage (record { place = r .at; bytes = part new (r .at) (r .size) }))) s
+
+      next-near : (s : Slices) → Near (r ∷ rs′) (s .image .seen) new → Near rs′ (next s .image .seen) new
+      unfolding done wrote put
+      next-near s n = near-copy r rs′ (s .image .seen) new fits n
+
+      after-next : (s : Slices) → Near (r ∷ rs′) (s .image .seen) new → After rs new s → After rs new (next s)
+      unfolding done wrote put Within
+      after-next s n a =
+          let m : Near rs′ (next s .image .seen) new = next-near s n in
+          record {
+            near = a .near;
+            within = late-more (s .image .late) (a .within);
+            seen-near = record { size = m .size; outside = λ i f. m .outside i (sub-rest i f) };
+            whole = a .whole;
+            yes = a .yes;
+            kept = a .kept;
+            seen-yes = a .seen-yes;
+          }
+
+    -- all stretches written, and flushed
+    after-image : (s : Slices) → Near [] (s .image .seen) new → After rs new s → After rs new (done flushImage s)
+    unfolding done flushed Within
+    after-image s n a =
+        record {
+          near = a .seen-near;
+          within = λ i f. unfold covered in refl;
+          seen-near = a .seen-near;
+          whole = a .whole;
+          yes = a .yes;
+          kept = a .kept;
+          seen-yes = a .seen-yes;
+        }
+
+    over-mark : (s : Slices) → Near [] (s .image .seen) new → After rs new s
+        → Either rs new new (done (setMarkAt p 0) (done flushImage s))
+    unfolding done flushed setMarkAt
+    over-mark s n a =
+        let e : s .image .seen ≡ new = near-none (s .image .seen) new n in
+        record {
+          image = record { sure = e; seen = e; late = refl };
+          near = near-same new rs;
+          whole = whole-mark (content rs new) (s .journal) 0 (a .whole);
+        }
+
+    completion-goes : (k : ℕ) (rs′ : List Pair) → Spread k (length new) rs′ → Within rs rs′ → (s : Slices)
+        → Near rs′ (s .image .seen) new → After rs new s → (n : ℕ)
+        → Later new (allDone (take n (completion p (stretches rs′ new))) s)
+    unfolding completion writeImage stretches allDone
+    completion-goes k [] sp sub s m a zero = after rs so a
+    completion-goes k [] sp sub s m a (suc zero) = after rs so (after-image s m a)
+    completion-goes k [] sp sub s m a (suc (suc zero)) = over rs so (over-mark s m a)
+    completion-goes k [] sp sub s m a (suc (suc (suc n))) = over rs so (over-mark s m a)
+    completion-goes k (r ∷ rs′) sp sub s m a zero = after rs so a
+    completion-goes k (r ∷ rs′) sp sub s m a (suc n) =
+        completion-goes (suc (r .at + r .size)) rs′ (sp .3) (sub-rest r rs′ (sp .2) sub) (next r rs′ (sp .2) sub s)
+        (next-near r rs′ (sp .2) sub s m) (after-next r rs′ (sp .2) sub s m a) n
+
+    all-goes : (s : Slices) → After rs new s → (n : ℕ)
+        → Later new (allDone (take n (completion p (stretches rs new))) s)
+    unfolding Within
+    all-goes s a n = completion-goes 0 rs (so .spread) (λ i f. f) s (a .seen-near) a n
+
+  -- ---- recovery
+
+  recovery-yes : (rs : List Pair) (new : Bytes) (J : Bytes) → Sound rs new → Holds (content rs new) J
+      → isMarked J ≡ true → recovery p J ≡ flushJournal ∷ completion p (stretches rs new)
+  unfolding recovery
+  recovery-yes rs new J so h y =
+      ap (λ (b : Bool). cond b (flushJournal ∷ completion p (blocksOf J)) []) y
+      ∙ ap (λ (l : List Block). flushJournal ∷ completion p l)
+      (content-blocks rs new J h (so .spread) (so .few) (so .small))
+
+  recovery-no : (J : Bytes) → isMarked J ≡ false → recovery p J ≡ []
+  unfolding recovery
+  recovery-no J u = ap (λ (b : Bool). cond b (flushJournal ∷ completion p (blocksOf J)) []) u
+
+  nothing-done : (n : ℕ) (s : Slices) → allDone (take n []) s ≡ s
+  unfolding allDone
+  nothing-done zero s = refl
+  nothing-done (suc n) s = refl
+
+  -- flushed, an image near the new one and a marked journal
+  either-flushed : (rs : List Pair) (old new : Bytes) (s : Slices) → Either rs old new s
+      → isMarked (s .journal .seen) ≡ true → After rs new (done flushJournal s)
+  unfolding done flushed Within
+  either-flushed rs old new s e y =
+      let q : Quiet old (s .image) = e .image in
+      record {
+        near = subst (λ (b : Bytes). Near rs b new) (sym (q .sure)) (e .near);
+        within = λ i f. ap (λ (l : List Pair). covered l i) (q .late) ∙ (unfold covered in refl);
+        seen-near = subst (λ (b : Bytes). Near rs b new) (sym (q .seen)) (e .near);
+        whole = whole-flushed (content rs new) (s .journal) (e .whole);
+        yes = y;
+        kept = refl;
+        seen-yes = y;
+      }
+
+  abbrev recovering-from : Slices → ℕ → Slices
+  recovering-from s n = allDone (take n (recovery p (s .journal .seen))) s
+
+  stays : (x : Bytes) (s : Slices) → Later x s → isMarked (s .journal .seen) ≡ false → (n : ℕ)
+      → Later x (recovering-from s n)
+  stays x s l u n =
+      subst (Later x)
+      (sym (ap (λ (a : List Action). allDone (take n a) s) (recovery-no (s .journal .seen) u) ∙ nothing-done n s)) l
+
+  either-goes : (rs : List Pair) (old new : Bytes) (s : Slices) → Sound rs new → Either rs old new s
+      → isMarked (s .journal .seen) ≡ true → (n : ℕ) → Later new (recovering-from s (suc n))
+  either-goes rs old new s so e y n =
+      unfold allDone in
+      subst (λ (a : List Action). Later new (allDone (take (suc n) a) s))
+      (sym (recovery-yes rs new (s .journal .seen) so (e .whole .seen-holds) y))
+      (all-goes rs new so (done flushJournal s) (either-flushed rs old new s e y) n)
+
+  later-goes : (x : Bytes) (s : Slices) → Later x s → (n : ℕ) → Later x (recovering-from s n)
+  later-goes x s (clear c) n = stays x s (clear c) (c .seen-no) n
+  later-goes x s (over rs so e) n =
+      by-bool (isMarked (s .journal .seen)) (λ y. go n y) (λ u. stays x s (over rs so e) u n)
+    where
+      go : (n : ℕ) → isMarked (s .journal .seen) ≡ true → Later x (recovering-from s n)
+      go zero y = unfold allDone in over rs so e
+      go (suc n) y = either-goes rs x x s so e y n
+  later-goes x s (after rs so a) zero = unfold allDone in after rs so a
+  later-goes x s (after rs so a) (suc n) =
+      unfold allDone in
+      subst (λ (l : List Action). Later x (allDone (take (suc n) l) s))
+      (sym (recovery-yes rs x (s .journal .seen) so (a .whole .seen-holds) (a .seen-yes)))
+      (all-goes rs x so (done flushJournal s) (after-flushed rs x so s a) n)
+
+  stage-goes : (old new : Bytes) (s : Slices) → Stage old new s → (n : ℕ) → Stage old new (recovering-from s n)
+  stage-goes old new s (old-yet l) n = old-yet (later-goes old s l n)
+  stage-goes old new s (new-now l) n = new-now (later-goes new s l n)
+  stage-goes old new s (between rs so e y) zero = unfold allDone in between rs so e y
+  stage-goes old new s (between rs so e y) (suc n) = new-now (either-goes rs old new s so e y n)
+
+  -- ---- an update
+
+  -- where an update may begin: the image is x, and no mark is seen
+  record Idle (x : Bytes) (s : Slices) : Type 0 where
+    later : Later x s
+    seen-no : isMarked (s .journal .seen) ≡ false
+
+  -- "mark 0 is flushed before content is written again"
+  idle-flushed : (x : Bytes) (s : Slices) → Idle x s → Clear x (done flushJournal s)
+  unfolding done flushed
+  idle-flushed x s i = go (i .later)
+    where
+      made : Quiet x (s .image) → p + 1 ≡ length (s .journal .seen) → Clear x (done flushJournal s)
+      made q e =
+          unfold done flushed in
+          record {
+            image = q;
+            long = e;
+            no = i .seen-no;
+            kept = unfold covered in refl;
+            seen-long = e;
+            seen-no = i .seen-no;
+          }
+
+      go : Later x s → Clear x (done flushJournal s)
+      go (clear c) = made (c .image) (c .seen-long)
+      go (over rs so e) = made (e .image) (e .whole .seen-long)
+      go (after rs so a) = absurd (true≢false (sym (a .seen-yes) ∙ i .seen-no))
+
+  module _ (old : Bytes) (u : Update) (fits : Fits p old u) (s : Slices) (i : Idle old s) where
+    abbrev c : Bytes
+    c = content (u .spans) (u .new)
+
+    sound : Sound (u .spans) (u .new)
+    sound = record { spread = fits .spread; small = fits .small; few = fits .few }
+
+    abbrev s1 : Slices
+    s1 = done flushJournal s
+
+    abbrev s2 : Slices
+    s2 = done (write (toJournal (record { place = 0; bytes = c }))) s1
+
+    abbrev s3 : Slices
+    s3 = done flushJournal s2
+
+    abbrev s4 : Slices
+    s4 = done (setMarkAt p marked) s3
+
+    abbrev s5 : Slices
+    s5 = done flushJournal s4
+
+    clear1 : Clear old s1
+    clear1 = idle-flushed old s i
+
+    long2 : p + 1 ≡ length (s2 .journal .seen)
+    unfolding done wrote put flushed
+    long2 =
+        let e : p + 1 ≡ length (s .journal .seen) = clear1 .long in
+        e ∙ sym (length-store (s .journal .seen) 0 c (omega (arith, fits .room)))
+
+    seen2 : isMarked (s2 .journal .seen) ≡ false
+    unfolding done wrote put flushed isMarked
+    seen2 =
+        let e : p + 1 ≡ length (s .journal .seen) = clear1 .long in
+        ap (λ (m : ℕ). eqb m marked) (mark-kept (s .journal .seen) c (omega (arith, fits .room)))
+        ∙ clear1 .no
+
+    -- content late: the mark is not
+    clear2 : Clear old s2
+    unfolding done wrote put flushed
+    clear2 =
+        record {
+          image = clear1 .image;
+          long = clear1 .long;
+          no = clear1 .no;
+          kept =
+              covered-cons (record { at = 0; size = length c }) [] p
+              ∙ ap₂ _||_ (inside-above (record { at = 0; size = length c }) p (omega (arith, fits .room)))
+              (unfold covered in refl);
+          seen-long = long2;
+          seen-no = seen2;
+        }
+
+    clear3 : Clear old s3
+    unfolding done flushed
+    clear3 =
+        record {
+          image = clear1 .image;
+          long = long2;
+          no = seen2;
+          kept = unfold covered in refl;
+          seen-long = long2;
+          seen-no = seen2;
+        }
+
+    whole3 : Whole c (s3 .journal)
+    unfolding done flushed wrote put MarkOnly
+    whole3 =
+        let e : p + 1 ≡ length (s .journal .seen) = clear1 .long in
+        let h : Holds c (store (s .journal .seen) 0 c) =
+        holds-content c (s .journal .seen) (omega (arith, fits .room)) in
+        record {
+          long = long2;
+          holds = h;
+          seen-long = long2;
+          seen-holds = h;
+          only = λ k f. unfold covered in refl;
+        }
+
+    either4 : Either (u .spans) old (u .new) s4
+    unfolding done setMarkAt
+    either4 =
+        record {
+          image = clear1 .image;
+          near = fits .near;
+          whole = whole-mark c (s3 .journal) marked whole3;
+        }
+
+    seen4 : isMarked (s4 .journal .seen) ≡ true
+    unfolding done setMarkAt wrote put flushed
+    seen4 = isMarked-set (s3 .journal .seen) marked long2
+
+    after5 : After (u .spans) (u .new) s5
+    after5 = either-flushed (u .spans) old (u .new) s4 either4 seen4
+
+    commit-stage : (n : ℕ) → Stage old (u .new) (allDone (take n (commit p u)) s)
+    unfolding commit allDone
+    commit-stage zero = old-yet (i .later)
+    commit-stage (suc zero) = old-yet (clear clear1)
+    commit-stage (suc (suc zero)) = old-yet (clear clear2)
+    commit-stage (suc (suc (suc zero))) = old-yet (clear clear3)
+    commit-stage (suc (suc (suc (suc zero)))) = between (u .spans) sound either4 seen4
+    commit-stage (suc (suc (suc (suc (suc n))))) =
+        new-now (all-goes (u .spans) (u .new) sound s5 after5 n)
+
+    commit-later : (n : ℕ) → acknowledged ≤ n → Later (u .new) (allDone (take n (commit p u)) s)
+    unfolding commit allDone
+    commit-later zero h = absurd (omega arith)
+    commit-later (suc zero) h = absurd (omega arith)
+    commit-later (suc (suc zero)) h = absurd (omega arith)
+    commit-later (suc (suc (suc zero))) h = absurd (omega arith)
+    commit-later (suc (suc (suc (suc zero)))) h = absurd (omega arith)
+    commit-later (suc (suc (suc (suc (suc n))))) h = all-goes (u .spans) (u .new) sound s5 after5 n
+
+  start-idle : (img j : Bytes) → p + 1 ≡ length j → isMarked j ≡ false
+      → Idle img (found (record { image = img; journal = j }))
+  unfolding found still
+  start-idle img j e u =
+      record {
+        later = clear (record {
+          image = record { sure = refl; seen = refl; late = refl };
+          long = e;
+          no = u;
+          kept = unfold covered in refl;
+          seen-long = e;
+          seen-no = u;
+        });
+        seen-no = u;
+      }
+
+  -- ---- everything that may happen
+
+  stage-same : (x : Bytes) (s : Slices) → Stage x x s → Later x s
+  stage-same x s (old-yet l) = l
+  stage-same x s (between rs so e y) = over rs so e
+  stage-same x s (new-now l) = l
+
+  later-opened : (x : Bytes) (s : Slices) → Later x s → isMarked (s .journal .seen) ≡ false
+      → Later (s .image .seen) s
+  later-opened x s l u = subst (λ (b : Bytes). Later b s) (sym (is l)) l
+    where
+      is : Later x s → s .image .seen ≡ x
+      is (clear c) = c .image .seen
+      is (over rs so e) = e .image .seen
+      is (after rs so a) = absurd (true≢false (sym (a .seen-yes) ∙ u))
+
+  stage-opened : (x y : Bytes) (s : Slices) → Stage x y s → isMarked (s .journal .seen) ≡ false
+      → Later (s .image .seen) s
+  stage-opened x y s (old-yet l) u = later-opened x s l u
+  stage-opened x y s (between rs so e m) u = absurd (true≢false (sym m ∙ u))
+  stage-opened x y s (new-now l) u = later-opened y s l u
+
+  -- ---- what programs read
+
+  marked-seen : (rs : List Pair) (w : Bytes) (s : Slices) → Sound rs w → Near rs (s .image .seen) w
+      → Whole (content rs w) (s .journal) → isMarked (s .journal .seen) ≡ true → recovered (seenDisk s) .image ≡ w
+  unfolding seenDisk found still Within MarkOnly
+  marked-seen rs w s so n h y =
+      after-gives rs w (seenDisk s) so
+      (record {
+        near = n;
+        within = λ i f. unfold covered in refl;
+        seen-near = n;
+        whole =
+            record {
+              long = h .seen-long;
+              holds = h .seen-holds;
+              seen-long = h .seen-long;
+              seen-holds = h .seen-holds;
+              only = λ i f. unfold covered in refl;
+            };
+        yes = y;
+        kept = refl;
+        seen-yes = y;
+      })
+      .image
+
+  quiet-near : (rs : List Pair) (x w : Bytes) (h : Held) → Quiet x h → Near rs x w → Near rs (h .seen) w
+  quiet-near rs x w h q n = subst (λ (b : Bytes). Near rs b w) (sym (q .seen)) n
+
+  later-seen : (x : Bytes) (s : Slices) → Later x s → isMarked (s .journal .seen) ≡ true
+      → recovered (seenDisk s) .image ≡ x
+  later-seen x s (clear c) y = absurd (true≢false (sym y ∙ c .seen-no))
+  later-seen x s (over rs so e) y =
+      marked-seen rs x s so (quiet-near rs x x (s .image) (e .image) (e .near)) (e .whole) y
+  later-seen x s (after rs so a) y = marked-seen rs x s so (a .seen-near) (a .whole) y
+
+  unmarked-seen : (s : Slices) → 1 ≤ length (s .journal .seen) → isMarked (s .journal .seen) ≡ false
+      → recovered (seenDisk s) .image ≡ s .image .seen
+  unfolding seenDisk
+  unmarked-seen s some u = ap (λ (d : Disk). d .image) (recovered-other (s .image .seen) (s .journal .seen) some u)
+
+  reader-later : (x : Bytes) (s : Slices) → Later x s → recovered (seenDisk s) .image ≡ x
+  reader-later x s (clear c) =
+      unmarked-seen s (omega (arith, c .seen-long)) (c .seen-no) ∙ c .image .seen
+  reader-later x s (over rs so e) =
+      by-bool (isMarked (s .journal .seen)) (λ y. later-seen x s (over rs so e) y)
+      (λ u. unmarked-seen s (omega (arith, e .whole .seen-long)) u ∙ e .image .seen)
+  reader-later x s (after rs so a) = later-seen x s (after rs so a) (a .seen-yes)
+
+  reader-stage : (x y : Bytes) (s : Slices) → Stage x y s
+      → (recovered (seenDisk s) .image ≡ x) ⊎ (recovered (seenDisk s) .image ≡ y)
+  reader-stage x y s (old-yet l) = inl (reader-later x s l)
+  reader-stage x y s (between rs so e m) =
+      inr (marked-seen rs y s so (quiet-near rs x y (s .image) (e .image) (e .near)) (e .whole) m)
+  reader-stage x y s (new-now l) = inr (reader-later y s l)
+
+  decided-stage : (x y : Bytes) (s : Slices) → Stage x y s → isMarked (s .journal .seen) ≡ true → (n : ℕ) → 1 ≤ n
+      → Later (recovered (seenDisk s) .image) (recovering-from s n)
+  decided-stage x y s g m zero h = absurd (omega arith)
+  decided-stage x y s (old-yet l) m (suc n) h =
+      subst (λ (b : Bytes). Later b (recovering-from s (suc n))) (sym (later-seen x s l m)) (later-goes x s l (suc n))
+  decided-stage x y s (between rs so e m′) m (suc n) h =
+      subst (λ (b : Bytes). Later b (recovering-from s (suc n)))
+      (sym (marked-seen rs y s so (quiet-near rs x y (s .image) (e .image) (e .near)) (e .whole) m))
+      (either-goes rs x y s so e m n)
+  decided-stage x y s (new-now l) m (suc n) h =
+      subst (λ (b : Bytes). Later b (recovering-from s (suc n))) (sym (later-seen y s l m)) (later-goes y s l (suc n))
+
+  -- another journal: the image is surely there
+  idle-renewed : (x : Bytes) (q : ℕ) (s : Slices) → Idle x s → Quiet x (s .image)
+  idle-renewed x q s i = go (i .later)
+    where
+      go : Later x s → Quiet x (s .image)
+      go (clear c) = c .image
+      go (over rs so e) = e .image
+      go (after rs so a) = absurd (true≢false (sym (a .seen-yes) ∙ i .seen-no))
+
+renewed-stage : (p q : ℕ) (x : Bytes) (s : Slices) (j : Bytes) → Idle p x s → q + 1 ≡ length j → isMarked j ≡ false
+    → Stage q x x (record { image = s .image; journal = still j })
+unfolding still
+renewed-stage p q x s j i e z =
+    let k : Quiet p x (s .image) = idle-renewed p x q s i in
+    old-yet (clear (record {
+      image = record { sure = k .sure; seen = k .seen; late = k .late };
+      long = e;
+      no = z;
+      kept = unfold covered in refl;
+      seen-long = e;
+      seen-no = z;
+    }))
+
+life-stage : (p : ℕ) (x y : Bytes) (s : Slices) → Life p x y s → Stage p x y s
+life-stage _ _ _ _ (begun p d e z) = old-yet (start-idle p (d .image) (d .journal) e z .later)
+life-stage _ _ _ _ (updating p x u r n l z f) =
+    commit-stage p x u f r (record { later = stage-same p x r (life-stage p x x r l); seen-no = z }) n
+life-stage _ _ _ _ (told p x u r n l z f h) =
+    new-now (commit-later p x u f r (record { later = stage-same p x r (life-stage p x x r l); seen-no = z }) n h)
+life-stage _ _ _ _ (lost p x y r d l m) = stage-cut p x y r d (life-stage p x y r l) (cut-near r d m)
+life-stage _ _ _ _ (redoing p x y r n l) = stage-goes p x y r (life-stage p x y r l) n
+life-stage _ _ _ _ (decided p x y r n l m h) = old-yet (decided-stage p x y r (life-stage p x y r l) m n h)
+life-stage _ _ _ _ (opened p v w s l z) = old-yet (stage-opened p v w s (life-stage p v w s l) z)
+life-stage _ _ _ _ (renewed p q x s j l z e f) =
+    renewed-stage p q x s j (record { later = stage-same p x s (life-stage p x x s l); seen-no = z }) e f
+
+pub life-safe : LifeSafe
+unfolding LifeSafe
+life-safe p x y s d l m = go (stage-gives p x y s d (life-stage p x y s l) (cut-near s d m))
+  where
+    go : Gives p x d ⊎ Gives p y d
+        → (recoverNumber (length (d .image)) (d .journal) ≡ 0) × ((recovered d .image ≡ x) ⊎ (recovered d .image ≡ y))
+    go (inl g) = (g .accepted, inl (g .image))
+    go (inr g) = (g .accepted, inr (g .image))
+
+pub reader-safe : ReaderSafe
+unfolding ReaderSafe
+reader-safe p x y s l = reader-stage p x y s (life-stage p x y s l)
