@@ -30,13 +30,14 @@ fi
 bhtf=$work/host/bhtf
 changes=$work/programs/changes
 
-# The lists. `commit`: the old mark 0 flushed, content, flushed, mark, flushed; stretches, flushed, mark 0. Of a new journal nothing is
-# late, and its first flush is left out; what the last change left late is flushed at the end. `recovery`: the journal flushed first.
-first=cjMjsim
-next=jcjMjsim
+# The lists. `commit`: the old mark 0 flushed, content, flushed, mark, flushed; stretches, flushed, base and mark 0. A new journal begins
+# with a base, and nothing of an old one is late; what the last change left late is flushed at the end. `recovery`: the journal flushed
+# first.
+first=bcjMjsibm
+next=jcjMjsibm
 end=j
-recovery='js?imj' # bytes that were written already are not seen to be written again
-dropped='i?'      # a journal without mark goes; the file is flushed before
+recovery='js?ibmj' # bytes that were written already are not seen to be written again
+dropped='i?'       # a journal without mark goes; the file is flushed before
 
 # fresh: a file with one point, and no journal
 fresh() {
@@ -45,12 +46,12 @@ fresh() {
     { echo "no file can be made"; exit 1; }
 }
 
-# done_by COMMAND..: what it did, in $raw; and in $did without base and directory, and content written in parts as one
+# done_by COMMAND..: what it did, in $raw; and in $did without directories, and content written in parts as one
 done_by() {
   rm -f "$work/noted"
   { ACTIONS_FILE=$site ACTIONS_NOTED=$work/noted LD_PRELOAD=$work/programs/actions.so "$@" >/dev/null 2>"$work/said"; } 2>/dev/null
   raw=$(cat "$work/noted" 2>/dev/null)
-  did=$(printf %s "$raw" | tr -d bd | tr -s cs)
+  did=$(printf %s "$raw" | tr -d d | tr -s cs)
 }
 
 # does NAME LIST COMMAND..
@@ -93,7 +94,7 @@ for ((k = 1; k <= ${#three}; k++)); do
   does "killed behind ${three:0:k}" "$begins$first$end" "$changes" "$site" 1 after
   after=$raw
   [ "$begins" = "$recovery" ] || continue
-  for ((n = 1; n <= 8 && n <= ${#after}; n++)); do
+  for ((n = 1; n <= 9 && n <= ${#after}; n++)); do
     cp "$work/site.left" "$site"
     cp "$work/journal.left" "$site.journal"
     ACTIONS_END=$n done_by "$changes" "$site" 1 after

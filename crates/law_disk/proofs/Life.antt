@@ -16,12 +16,13 @@ use lib.Seq.{ext-getD, getD-take, length-take-le}
 use lib.Dec.{eqb}
 use Rattle.spec_file.specs.Bytes.{Bytes, part, store}
 use Rattle.spec_changes.specs.Changes.{Pair, covered, Spread, Near}
-use Rattle.spec_changes.specs.Journal.{content, markPlace, mark, marked, Disk, Block, toJournal, toImage, put, putAll, stretches, blocksOf, isMarked, journalSound, recoverNumber, recovered}
-use Rattle.spec_disk.specs.Disk.{Held, Slices, Action, write, flushImage, flushJournal, wrote, flushed, done, allDone, still, found, Update, setMarkAt, writeImage, completion, commit, acknowledged, recovery, Fits, Life, begun, updating, told, lost, redoing, opened, renewed, decided, seenDisk, ReaderSafe, LifeSafe}
+use Rattle.spec_changes.specs.Journal.{content, markPlace, mark, marked, Disk, Block, toJournal, toImage, put, putAll, stretches, pairCount, pairsOf, bytesStart, total, blocksOf, isMarked, journalSound, recoverNumber, recovered}
+use Rattle.spec_disk.specs.Disk.{Held, Slices, Action, write, flushImage, flushJournal, wrote, flushed, done, allDone, still, found, Update, setMarkAt, writeImage, completion, commit, acknowledged, recovery, Beside, contentSize, Fits, Life, begun, updating, told, lost, redoing, opened, renewed, decided, seenDisk, ReaderSafe, LifeSafe}
 use Rattle.law_file.proofs.Tests.{by-bool, or-no}
 use Rattle.law_file.proofs.Bytes.{part-length, length-store}
+use Rattle.law_file.proofs.Stores.{take-store}
 use Rattle.spec_changes.proofs.Changes.{inside, inside-below, inside-above, covered-cons, near-none, near-copy, copied-near}
-use Rattle.spec_changes.proofs.Journal.{Holds, holds-content, holds-mark, content-blocks, content-sound}
+use Rattle.spec_changes.proofs.Journal.{Holds, holds-content, holds-mark, length-content, content-count, content-pairs, content-blocks, content-sound}
 use Rattle.spec_changes.proofs.Recovery.{mark-set, mark-kept, number-other, number-marked, recovered-other, recovered-marked, putAll-stretches}
 use Rattle.law_disk.proofs.Left.{Cut, cut-near}
 
@@ -51,14 +52,14 @@ module _ (p : ℕ) where
       ∙ ap (λ (x : ℕ). eqb x marked) h
       ∙ ap (λ (x : ℕ). eqb (getD a x 0) marked) (sym ea)
 
-  -- nothing late in front of the mark
-  MarkOnly : List Pair → Type 0
-  MarkOnly late = (i : ℕ) → i < p → covered late i ≡ false
+  -- nothing late in the content
+  Front : Bytes → List Pair → Type 0
+  Front c late = (i : ℕ) → i < length c → covered late i ≡ false
 
   -- content is still there
-  holds-near : (c : Bytes) (late : List Pair) (b J : Bytes) → MarkOnly late → p + 1 ≡ length J → Near late b J
+  holds-near : (c : Bytes) (late : List Pair) (b J : Bytes) → Front c late → p + 1 ≡ length J → Near late b J
       → Holds c J → Holds c b
-  unfolding MarkOnly
+  unfolding Front
   holds-near c late b J only e n h =
       let lb : length b ≡ length J = n .size in
       let room : length c < length J = h .room in
@@ -69,7 +70,7 @@ module _ (p : ℕ) where
             (λ i l.
             let k : i < length c = omega arith in
             getD-take (length c) b i 0 k
-            ∙ n .outside i (only i (omega arith))
+            ∙ n .outside i (only i k)
             ∙ sym (getD-take (length c) J i 0 k)
             ∙ ap (λ (t : Bytes). getD t i 0) (h .front));
         room = omega arith;
@@ -98,7 +99,7 @@ module _ (p : ℕ) where
     holds : Holds c (h .sure)
     seen-long : p + 1 ≡ length (h .seen)
     seen-holds : Holds c (h .seen)
-    only : MarkOnly (h .late)
+    only : Front c (h .late)
 
   -- the old image, and the content that leads to the new one
   record Either (rs : List Pair) (old new : Bytes) (s : Slices) : Type 0 where
@@ -158,7 +159,7 @@ module _ (p : ℕ) where
       }
 
   whole-left : (c : Bytes) (h : Held) (b : Bytes) → Whole c h → Near (h .late) b (h .sure) → Whole c (still b)
-  unfolding still MarkOnly
+  unfolding still Front
   whole-left c h b w n =
       let l : p + 1 ≡ length b = w .long ∙ sym (n .size) in
       let k : Holds c b = holds-near c (h .late) b (h .sure) (w .only) (w .long) n (w .holds) in
@@ -291,11 +292,10 @@ module _ (p : ℕ) where
       ap (λ (n : ℕ). eqb (mark (store J n (m ∷ []))) marked) place
       ∙ ap (λ (n : ℕ). eqb n marked) (mark-set J m (omega arith))
 
-  mark-only : (late : List Pair) → MarkOnly late → MarkOnly (record { at = p; size = 1 } ∷ late)
-  unfolding MarkOnly
-  mark-only late only i f =
-      covered-cons (record { at = p; size = 1 }) late i
-      ∙ ap₂ _||_ (inside-below (record { at = p; size = 1 }) i f) (only i f)
+  front-kept : (c : Bytes) (r : Pair) (late : List Pair) → length c ≤ r .at → Front c late → Front c (r ∷ late)
+  unfolding Front
+  front-kept c r late l only i f =
+      covered-cons r late i ∙ ap₂ _||_ (inside-below r i (omega arith)) (only i f)
 
   whole-mark : (c : Bytes) (h : Held) (m : ℕ) → Whole c h → Whole c (wrote (record { place = p; bytes = m ∷ [] }) h)
   unfolding wrote put
@@ -305,11 +305,34 @@ module _ (p : ℕ) where
         holds = w .holds;
         seen-long = length-mark (h .seen) m (w .seen-long);
         seen-holds = holds-mark c (h .seen) p m (w .seen-holds) (w .seen-long);
-        only = mark-only (h .late) (w .only);
+        only =
+            front-kept c (record { at = p; size = 1 }) (h .late) (omega (arith, w .long, w .holds .room)) (w .only);
+      }
+
+  -- the base
+  whole-beside : (c : Bytes) (h : Held) (b : Block) → Beside p (length c) b → Whole c h → Whole c (wrote b h)
+  unfolding wrote put
+  whole-beside c h b e w =
+      let fits : b .place + length (b .bytes) ≤ length (h .seen) = omega (arith, e .before, w .seen-long) in
+      let same : length (store (h .seen) (b .place) (b .bytes)) ≡ length (h .seen) =
+      length-store (h .seen) (b .place) (b .bytes) fits in
+      record {
+        long = w .long;
+        holds = w .holds;
+        seen-long = w .seen-long ∙ sym same;
+        seen-holds =
+            record {
+              front =
+                  take-store (h .seen) (b .place) (b .bytes) (length c) (omega (arith, fits)) (e .behind)
+                  ∙ w .seen-holds .front;
+              room = omega (arith, w .seen-holds .room, same);
+            };
+        only =
+            front-kept c (record { at = b .place; size = length (b .bytes) }) (h .late) (e .behind) (w .only);
       }
 
   whole-flushed : (c : Bytes) (h : Held) → Whole c h → Whole c (flushed h)
-  unfolding flushed MarkOnly
+  unfolding flushed Front
   whole-flushed c h w =
       record {
         long = w .seen-long;
@@ -321,7 +344,8 @@ module _ (p : ℕ) where
 
   -- ---- behind the mark
 
-  module _ (rs : List Pair) (new : Bytes) (so : Sound rs new) where
+  module _ (rs : List Pair) (new : Bytes) (so : Sound rs new) (b : Block)
+      (beside : Beside p (length (content rs new)) b) where
     after-flushed : (s : Slices) → After rs new s → After rs new (done flushJournal s)
     unfolding done flushed
     after-flushed s a =
@@ -384,48 +408,74 @@ module _ (p : ℕ) where
           seen-yes = a .seen-yes;
         }
 
+    over-base : (s : Slices) → Near [] (s .image .seen) new → After rs new s
+        → Either rs new new (done (write (toJournal b)) (done flushImage s))
+    unfolding done flushed
+    over-base s n a =
+        let e : s .image .seen ≡ new = near-none (s .image .seen) new n in
+        record {
+          image = record { sure = e; seen = e; late = refl };
+          near = near-same new rs;
+          whole = whole-beside (content rs new) (s .journal) b beside (a .whole);
+        }
+
     over-mark : (s : Slices) → Near [] (s .image .seen) new → After rs new s
-        → Either rs new new (done (setMarkAt p 0) (done flushImage s))
+        → Either rs new new (done (setMarkAt p 0) (done (write (toJournal b)) (done flushImage s)))
     unfolding done flushed setMarkAt
     over-mark s n a =
         let e : s .image .seen ≡ new = near-none (s .image .seen) new n in
         record {
           image = record { sure = e; seen = e; late = refl };
           near = near-same new rs;
-          whole = whole-mark (content rs new) (s .journal) 0 (a .whole);
+          whole =
+              whole-mark (content rs new) (wrote b (s .journal)) 0
+              (whole-beside (content rs new) (s .journal) b beside (a .whole));
         }
 
     completion-goes : (k : ℕ) (rs′ : List Pair) → Spread k (length new) rs′ → Within rs rs′ → (s : Slices)
         → Near rs′ (s .image .seen) new → After rs new s → (n : ℕ)
-        → Later new (allDone (take n (completion p (stretches rs′ new))) s)
+        → Later new (allDone (take n (completion p b (stretches rs′ new))) s)
     unfolding completion writeImage stretches allDone
     completion-goes k [] sp sub s m a zero = after rs so a
     completion-goes k [] sp sub s m a (suc zero) = after rs so (after-image s m a)
-    completion-goes k [] sp sub s m a (suc (suc zero)) = over rs so (over-mark s m a)
-    completion-goes k [] sp sub s m a (suc (suc (suc n))) = over rs so (over-mark s m a)
+    completion-goes k [] sp sub s m a (suc (suc zero)) = over rs so (over-base s m a)
+    completion-goes k [] sp sub s m a (suc (suc (suc zero))) = over rs so (over-mark s m a)
+    completion-goes k [] sp sub s m a (suc (suc (suc (suc n)))) = over rs so (over-mark s m a)
     completion-goes k (r ∷ rs′) sp sub s m a zero = after rs so a
     completion-goes k (r ∷ rs′) sp sub s m a (suc n) =
         completion-goes (suc (r .at + r .size)) rs′ (sp .3) (sub-rest r rs′ (sp .2) sub) (next r rs′ (sp .2) sub s)
         (next-near r rs′ (sp .2) sub s m) (after-next r rs′ (sp .2) sub s m a) n
 
     all-goes : (s : Slices) → After rs new s → (n : ℕ)
-        → Later new (allDone (take n (completion p (stretches rs new))) s)
+        → Later new (allDone (take n (completion p b (stretches rs new))) s)
     unfolding Within
     all-goes s a n = completion-goes 0 rs (so .spread) (λ i f. f) s (a .seen-near) a n
 
   -- ---- recovery
 
-  recovery-yes : (rs : List Pair) (new : Bytes) (J : Bytes) → Sound rs new → Holds (content rs new) J
-      → isMarked J ≡ true → recovery p J ≡ flushJournal ∷ completion p (stretches rs new)
+  recovery-yes : (rs : List Pair) (new : Bytes) (J : Bytes) (b : Block) → Sound rs new → Holds (content rs new) J
+      → isMarked J ≡ true → recovery p b J ≡ flushJournal ∷ completion p b (stretches rs new)
   unfolding recovery
-  recovery-yes rs new J so h y =
-      ap (λ (b : Bool). cond b (flushJournal ∷ completion p (blocksOf J)) []) y
-      ∙ ap (λ (l : List Block). flushJournal ∷ completion p l)
+  recovery-yes rs new J b so h y =
+      ap (λ (t : Bool). cond t (flushJournal ∷ completion p b (blocksOf J)) []) y
+      ∙ ap (λ (l : List Block). flushJournal ∷ completion p b l)
       (content-blocks rs new J h (so .spread) (so .few) (so .small))
 
-  recovery-no : (J : Bytes) → isMarked J ≡ false → recovery p J ≡ []
+  recovery-no : (J : Bytes) (b : Block) → isMarked J ≡ false → recovery p b J ≡ []
   unfolding recovery
-  recovery-no J u = ap (λ (b : Bool). cond b (flushJournal ∷ completion p (blocksOf J)) []) u
+  recovery-no J b u = ap (λ (t : Bool). cond t (flushJournal ∷ completion p b (blocksOf J)) []) u
+
+  -- beside the content that it holds
+  beside-held : (rs : List Pair) (new : Bytes) (J : Bytes) (b : Block) → Sound rs new → Holds (content rs new) J
+      → Beside p (contentSize J) b → Beside p (length (content rs new)) b
+  unfolding contentSize
+  beside-held rs new J b so h e =
+      let size : bytesStart (pairCount J) + total (pairsOf J) ≡ length (content rs new) =
+      ap₂ (λ (m : ℕ) (l : List Pair). bytesStart m + total l)
+      (content-count rs new J h (so .spread) (so .few) (so .small))
+      (content-pairs rs new J h (so .spread) (so .few) (so .small))
+      ∙ sym (length-content 0 rs new (so .spread)) in
+      subst (λ (m : ℕ). Beside p m b) size e
 
   nothing-done : (n : ℕ) (s : Slices) → allDone (take n []) s ≡ s
   unfolding allDone
@@ -448,43 +498,46 @@ module _ (p : ℕ) where
         seen-yes = y;
       }
 
-  abbrev recovering-from : Slices → ℕ → Slices
-  recovering-from s n = allDone (take n (recovery p (s .journal .seen))) s
+  abbrev recovering-from : Block → Slices → ℕ → Slices
+  recovering-from b s n = allDone (take n (recovery p b (s .journal .seen))) s
 
-  stays : (x : Bytes) (s : Slices) → Later x s → isMarked (s .journal .seen) ≡ false → (n : ℕ)
-      → Later x (recovering-from s n)
-  stays x s l u n =
-      subst (Later x)
-      (sym (ap (λ (a : List Action). allDone (take n a) s) (recovery-no (s .journal .seen) u) ∙ nothing-done n s)) l
+  module _ (s : Slices) (b : Block) (beside : Beside p (contentSize (s .journal .seen)) b) where
+    stays : (x : Bytes) → Later x s → isMarked (s .journal .seen) ≡ false → (n : ℕ) → Later x (recovering-from b s n)
+    stays x l u n =
+        subst (Later x)
+        (sym (ap (λ (a : List Action). allDone (take n a) s) (recovery-no (s .journal .seen) b u) ∙ nothing-done n s)) l
 
-  either-goes : (rs : List Pair) (old new : Bytes) (s : Slices) → Sound rs new → Either rs old new s
-      → isMarked (s .journal .seen) ≡ true → (n : ℕ) → Later new (recovering-from s (suc n))
-  either-goes rs old new s so e y n =
-      unfold allDone in
-      subst (λ (a : List Action). Later new (allDone (take (suc n) a) s))
-      (sym (recovery-yes rs new (s .journal .seen) so (e .whole .seen-holds) y))
-      (all-goes rs new so (done flushJournal s) (either-flushed rs old new s e y) n)
+    either-goes : (rs : List Pair) (old new : Bytes) → Sound rs new → Either rs old new s
+        → isMarked (s .journal .seen) ≡ true → (n : ℕ) → Later new (recovering-from b s (suc n))
+    either-goes rs old new so e y n =
+        let here′ = beside-held rs new (s .journal .seen) b so (e .whole .seen-holds) beside in
+        unfold allDone in
+        subst (λ (a : List Action). Later new (allDone (take (suc n) a) s))
+        (sym (recovery-yes rs new (s .journal .seen) b so (e .whole .seen-holds) y))
+        (all-goes rs new so b here′ (done flushJournal s) (either-flushed rs old new s e y) n)
 
-  later-goes : (x : Bytes) (s : Slices) → Later x s → (n : ℕ) → Later x (recovering-from s n)
-  later-goes x s (clear c) n = stays x s (clear c) (c .seen-no) n
-  later-goes x s (over rs so e) n =
-      by-bool (isMarked (s .journal .seen)) (λ y. go n y) (λ u. stays x s (over rs so e) u n)
-    where
-      go : (n : ℕ) → isMarked (s .journal .seen) ≡ true → Later x (recovering-from s n)
-      go zero y = unfold allDone in over rs so e
-      go (suc n) y = either-goes rs x x s so e y n
-  later-goes x s (after rs so a) zero = unfold allDone in after rs so a
-  later-goes x s (after rs so a) (suc n) =
-      unfold allDone in
-      subst (λ (l : List Action). Later x (allDone (take (suc n) l) s))
-      (sym (recovery-yes rs x (s .journal .seen) so (a .whole .seen-holds) (a .seen-yes)))
-      (all-goes rs x so (done flushJournal s) (after-flushed rs x so s a) n)
+    over-goes : (x : Bytes) (rs : List Pair) → Sound rs x → Either rs x x s → isMarked (s .journal .seen) ≡ true
+        → (n : ℕ) → Later x (recovering-from b s n)
+    over-goes x rs so e y zero = unfold allDone in over rs so e
+    over-goes x rs so e y (suc n) = either-goes rs x x so e y n
 
-  stage-goes : (old new : Bytes) (s : Slices) → Stage old new s → (n : ℕ) → Stage old new (recovering-from s n)
-  stage-goes old new s (old-yet l) n = old-yet (later-goes old s l n)
-  stage-goes old new s (new-now l) n = new-now (later-goes new s l n)
-  stage-goes old new s (between rs so e y) zero = unfold allDone in between rs so e y
-  stage-goes old new s (between rs so e y) (suc n) = new-now (either-goes rs old new s so e y n)
+    later-goes : (x : Bytes) → Later x s → (n : ℕ) → Later x (recovering-from b s n)
+    later-goes x (clear c) n = stays x (clear c) (c .seen-no) n
+    later-goes x (over rs so e) n =
+        by-bool (isMarked (s .journal .seen)) (λ y. over-goes x rs so e y n) (λ u. stays x (over rs so e) u n)
+    later-goes x (after rs so a) zero = unfold allDone in after rs so a
+    later-goes x (after rs so a) (suc n) =
+        let here′ = beside-held rs x (s .journal .seen) b so (a .whole .seen-holds) beside in
+        unfold allDone in
+        subst (λ (l : List Action). Later x (allDone (take (suc n) l) s))
+        (sym (recovery-yes rs x (s .journal .seen) b so (a .whole .seen-holds) (a .seen-yes)))
+        (all-goes rs x so b here′ (done flushJournal s) (after-flushed rs x so b here′ s a) n)
+
+    stage-goes : (old new : Bytes) → Stage old new s → (n : ℕ) → Stage old new (recovering-from b s n)
+    stage-goes old new (old-yet l) n = old-yet (later-goes old l n)
+    stage-goes old new (new-now l) n = new-now (later-goes new l n)
+    stage-goes old new (between rs so e y) zero = unfold allDone in between rs so e y
+    stage-goes old new (between rs so e y) (suc n) = new-now (either-goes rs old new so e y n)
 
   -- ---- an update
 
@@ -519,6 +572,9 @@ module _ (p : ℕ) where
     abbrev c : Bytes
     c = content (u .spans) (u .new)
 
+    room : length (content (u .spans) (u .new)) ≤ p
+    room = omega (arith, fits .room .behind, fits .room .before)
+
     sound : Sound (u .spans) (u .new)
     sound = record { spread = fits .spread; small = fits .small; few = fits .few }
 
@@ -544,13 +600,13 @@ module _ (p : ℕ) where
     unfolding done wrote put flushed
     long2 =
         let e : p + 1 ≡ length (s .journal .seen) = clear1 .long in
-        e ∙ sym (length-store (s .journal .seen) 0 c (omega (arith, fits .room)))
+        e ∙ sym (length-store (s .journal .seen) 0 c (omega (arith, room)))
 
     seen2 : isMarked (s2 .journal .seen) ≡ false
     unfolding done wrote put flushed isMarked
     seen2 =
         let e : p + 1 ≡ length (s .journal .seen) = clear1 .long in
-        ap (λ (m : ℕ). eqb m marked) (mark-kept (s .journal .seen) c (omega (arith, fits .room)))
+        ap (λ (m : ℕ). eqb m marked) (mark-kept (s .journal .seen) c (omega (arith, room)))
         ∙ clear1 .no
 
     -- content late: the mark is not
@@ -563,7 +619,7 @@ module _ (p : ℕ) where
           no = clear1 .no;
           kept =
               covered-cons (record { at = 0; size = length c }) [] p
-              ∙ ap₂ _||_ (inside-above (record { at = 0; size = length c }) p (omega (arith, fits .room)))
+              ∙ ap₂ _||_ (inside-above (record { at = 0; size = length c }) p (omega (arith, room)))
               (unfold covered in refl);
           seen-long = long2;
           seen-no = seen2;
@@ -582,11 +638,11 @@ module _ (p : ℕ) where
         }
 
     whole3 : Whole c (s3 .journal)
-    unfolding done flushed wrote put MarkOnly
+    unfolding done flushed wrote put Front
     whole3 =
         let e : p + 1 ≡ length (s .journal .seen) = clear1 .long in
         let h : Holds c (store (s .journal .seen) 0 c) =
-        holds-content c (s .journal .seen) (omega (arith, fits .room)) in
+        holds-content c (s .journal .seen) (omega (arith, room)) in
         record {
           long = long2;
           holds = h;
@@ -619,7 +675,7 @@ module _ (p : ℕ) where
     commit-stage (suc (suc (suc zero))) = old-yet (clear clear3)
     commit-stage (suc (suc (suc (suc zero)))) = between (u .spans) sound either4 seen4
     commit-stage (suc (suc (suc (suc (suc n))))) =
-        new-now (all-goes (u .spans) (u .new) sound s5 after5 n)
+        new-now (all-goes (u .spans) (u .new) sound (u .base) (fits .room) s5 after5 n)
 
     commit-later : (n : ℕ) → acknowledged ≤ n → Later (u .new) (allDone (take n (commit p u)) s)
     unfolding commit allDone
@@ -628,7 +684,8 @@ module _ (p : ℕ) where
     commit-later (suc (suc zero)) h = absurd (omega arith)
     commit-later (suc (suc (suc zero))) h = absurd (omega arith)
     commit-later (suc (suc (suc (suc zero)))) h = absurd (omega arith)
-    commit-later (suc (suc (suc (suc (suc n))))) h = all-goes (u .spans) (u .new) sound s5 after5 n
+    commit-later (suc (suc (suc (suc (suc n))))) h =
+        all-goes (u .spans) (u .new) sound (u .base) (fits .room) s5 after5 n
 
   start-idle : (img j : Bytes) → p + 1 ≡ length j → isMarked j ≡ false
       → Idle img (found (record { image = img; journal = j }))
@@ -672,7 +729,7 @@ module _ (p : ℕ) where
 
   marked-seen : (rs : List Pair) (w : Bytes) (s : Slices) → Sound rs w → Near rs (s .image .seen) w
       → Whole (content rs w) (s .journal) → isMarked (s .journal .seen) ≡ true → recovered (seenDisk s) .image ≡ w
-  unfolding seenDisk found still Within MarkOnly
+  unfolding seenDisk found still Within Front
   marked-seen rs w s so n h y =
       after-gives rs w (seenDisk s) so
       (record {
@@ -723,17 +780,20 @@ module _ (p : ℕ) where
       inr (marked-seen rs y s so (quiet-near rs x y (s .image) (e .image) (e .near)) (e .whole) m)
   reader-stage x y s (new-now l) = inr (reader-later y s l)
 
-  decided-stage : (x y : Bytes) (s : Slices) → Stage x y s → isMarked (s .journal .seen) ≡ true → (n : ℕ) → 1 ≤ n
-      → Later (recovered (seenDisk s) .image) (recovering-from s n)
-  decided-stage x y s g m zero h = absurd (omega arith)
-  decided-stage x y s (old-yet l) m (suc n) h =
-      subst (λ (b : Bytes). Later b (recovering-from s (suc n))) (sym (later-seen x s l m)) (later-goes x s l (suc n))
-  decided-stage x y s (between rs so e m′) m (suc n) h =
-      subst (λ (b : Bytes). Later b (recovering-from s (suc n)))
+  decided-stage : (x y : Bytes) (s : Slices) (b : Block) → Beside p (contentSize (s .journal .seen)) b → Stage x y s
+      → isMarked (s .journal .seen) ≡ true → (n : ℕ) → 1 ≤ n
+      → Later (recovered (seenDisk s) .image) (recovering-from b s n)
+  decided-stage x y s b k g m zero h = absurd (omega arith)
+  decided-stage x y s b k (old-yet l) m (suc n) h =
+      subst (λ (i : Bytes). Later i (recovering-from b s (suc n))) (sym (later-seen x s l m))
+      (later-goes s b k x l (suc n))
+  decided-stage x y s b k (between rs so e m′) m (suc n) h =
+      subst (λ (i : Bytes). Later i (recovering-from b s (suc n)))
       (sym (marked-seen rs y s so (quiet-near rs x y (s .image) (e .image) (e .near)) (e .whole) m))
-      (either-goes rs x y s so e m n)
-  decided-stage x y s (new-now l) m (suc n) h =
-      subst (λ (b : Bytes). Later b (recovering-from s (suc n))) (sym (later-seen y s l m)) (later-goes y s l (suc n))
+      (either-goes s b k rs x y so e m n)
+  decided-stage x y s b k (new-now l) m (suc n) h =
+      subst (λ (i : Bytes). Later i (recovering-from b s (suc n))) (sym (later-seen y s l m))
+      (later-goes s b k y l (suc n))
 
   -- another journal: the image is surely there
   idle-renewed : (x : Bytes) (q : ℕ) (s : Slices) → Idle x s → Quiet x (s .image)
@@ -765,8 +825,8 @@ life-stage _ _ _ _ (updating p x u r n l z f) =
 life-stage _ _ _ _ (told p x u r n l z f h) =
     new-now (commit-later p x u f r (record { later = stage-same p x r (life-stage p x x r l); seen-no = z }) n h)
 life-stage _ _ _ _ (lost p x y r d l m) = stage-cut p x y r d (life-stage p x y r l) (cut-near r d m)
-life-stage _ _ _ _ (redoing p x y r n l) = stage-goes p x y r (life-stage p x y r l) n
-life-stage _ _ _ _ (decided p x y r n l m h) = old-yet (decided-stage p x y r (life-stage p x y r l) m n h)
+life-stage _ _ _ _ (redoing p x y r n b l e) = stage-goes p r b e x y (life-stage p x y r l) n
+life-stage _ _ _ _ (decided p x y r n b l e m h) = old-yet (decided-stage p x y r b e (life-stage p x y r l) m n h)
 life-stage _ _ _ _ (opened p v w s l z) = old-yet (stage-opened p v w s (life-stage p v w s l) z)
 life-stage _ _ _ _ (renewed p q x s j l z e f) =
     renewed-stage p q x s j (record { later = stage-same p x s (life-stage p x x s l); seen-no = z }) e f

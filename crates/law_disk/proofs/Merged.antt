@@ -10,8 +10,8 @@ use lib.Dec.{leb}
 use borrow.Author.Tests.{le-leb, lt-leb}
 use Rattle.spec_file.specs.Bytes.{Bytes}
 use Rattle.spec_changes.specs.Changes.{Pair, runs, covered, Spread, Near}
-use Rattle.spec_changes.specs.Journal.{content, total, bytesStart, journalAllowed}
-use Rattle.spec_disk.specs.Disk.{Update, Fits}
+use Rattle.spec_changes.specs.Journal.{content, Block}
+use Rattle.spec_disk.specs.Disk.{Beside, Update, Fits}
 use Rattle.law_file.proofs.Tests.{by-bool, by-le, by-either, or-no}
 use Rattle.spec_changes.proofs.Changes.{inside, inside-yes, inside-below, inside-above, covered-cons, spread-from, near-runs, runs-spread, runs-few}
 use Rattle.spec_changes.proofs.Copied.{by-inside}
@@ -94,11 +94,11 @@ into-few gap r (q ∷ rs) =
     (omega (arith, into-few gap q rs))
 
 -- the layer's update: runs at most gap bytes apart as one
-pub merged-fits : (gap p : ℕ) (old new : Bytes) → length old ≡ length new → length new < 256 ^ 4
-    → length (content (merged gap (runs 0 old new)) new) ≤ p
-    → Fits p old (record { spans = merged gap (runs 0 old new); new = new })
+pub merged-fits : (gap p : ℕ) (old new : Bytes) (b : Block) → length old ≡ length new → length new < 256 ^ 4
+    → Beside p (length (content (merged gap (runs 0 old new)) new)) b
+    → Fits p old (record { spans = merged gap (runs 0 old new); new = new; base = b })
 unfolding merged
-merged-fits gap p old new l small room =
+merged-fits gap p old new b l small room =
     record {
       near =
           record {

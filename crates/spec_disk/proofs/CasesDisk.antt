@@ -7,7 +7,7 @@ use mathlib.Core.List.{List, [], _∷_, _++_}
 use lib.ListN.{take, getD}
 use Rattle.spec_file.specs.Bytes.{Bytes, zeros}
 use Rattle.spec_changes.specs.Changes.{covered, runs}
-use Rattle.spec_changes.specs.Journal.{content, marked, toJournal, stretches, recovered}
+use Rattle.spec_changes.specs.Journal.{content, marked, Block, toJournal, stretches, recovered}
 use Rattle.spec_changes.proofs.CasesChanges.{journals}
 use Rattle.spec_disk.specs.Disk.{Slices, Action, write, flushImage, flushJournal, wrote, flushed, done, allDone, leftFrom, left, still, found, Update, setMarkAt, writeImage, completion, commit, acknowledged, recovery}
 
@@ -27,8 +27,12 @@ new = 1 ∷ 9 ∷ 3 ∷ 9 ∷ []
 abbrev newest : Bytes
 newest = 1 ∷ 9 ∷ 7 ∷ 9 ∷ []
 
+-- no base: it would stand behind the content, which reaches the mark
+abbrev none : Block
+none = record { place = 22; bytes = [] }
+
 abbrev update : Bytes → Bytes → Update
-update a b = record { spans = runs 0 a b; new = b }
+update a b = record { spans = runs 0 a b; new = b; base = none }
 
 abbrev start : Slices
 start = found (record { image = old; journal = zeros 23 })
@@ -83,13 +87,38 @@ stretches-flushed : at 8 (5 ∷ 5 ∷ 5 ∷ 5 ∷ []) [] ≡ new
 unfolding at powers
 stretches-flushed = refl
 
-unmark-late : at 9 [] [] ≡ new
+unmark-late : at 10 [] [] ≡ new
 unfolding at powers
 unmark-late = refl
 
-unmark-lost : at 9 [] held ≡ new
+unmark-lost : at 10 [] held ≡ new
 unfolding at powers
 unmark-lost = refl
+
+-- ---- a base
+
+abbrev with-base : ℕ → Update
+with-base place = record { spans = runs 0 old new; new = new; base = record { place = place; bytes = 7 ∷ [] } }
+
+-- of one byte, in a journal of 24: it is late, then the mark too; content stays whole
+based : ℕ → Bytes
+unfolding powers
+based n =
+    recovered (left (λ k. 5) (λ k. 0)
+    (allDone (take n (commit 23 (with-base 22))) (found (record { image = old; journal = zeros 24 })))) .image
+
+base-late : based 9 ≡ new
+unfolding based powers
+base-late = refl
+
+base-and-mark-late : based 10 ≡ new
+unfolding based powers
+base-and-mark-late = refl
+
+-- over the content's last byte: the mark still stands, and what it stands for is junk
+base-over-content : after (take 9 (commit 22 (with-base 21))) [] torn ≡ 1 ∷ 9 ∷ 3 ∷ 77 ∷ []
+unfolding powers torn
+base-over-content = refl
 
 -- ---- without a flush
 
@@ -132,7 +161,7 @@ no-flush-4-early = refl
 
 -- ---- the next update: its content late, the old mark gone for good
 
-next-content : after (take 11 (commit 22 (update old new) ++ commit 22 (update new newest))) []
+next-content : after (take 12 (commit 22 (update old new) ++ commit 22 (update new newest))) []
     (0 ∷ 0 ∷ 0 ∷ 1 ∷ 0 ∷ 0 ∷ 0 ∷ 2 ∷ 0 ∷ 0 ∷ 0 ∷ 1 ∷ 77 ∷ 0 ∷ 0 ∷ 0 ∷ 0 ∷ 0 ∷ 0 ∷ 0 ∷ 0 ∷ 0 ∷ 165 ∷ []) ≡ new
 unfolding powers
 next-content = refl
@@ -159,7 +188,8 @@ rescue : ℕ → Bytes → Bytes → Bytes
 unfolding powers
 rescue n i j =
     recovered
-    (left (λ k. getD i k 0) (λ k. getD j k 0) (allDone (take n (recovery 22 (killed .journal .seen))) killed)) .image
+    (left (λ k. getD i k 0) (λ k. getD j k 0)
+    (allDone (take n (recovery 22 none (killed .journal .seen))) killed)) .image
 
 rescue-none : rescue 0 [] [] ≡ old
 unfolding rescue powers
@@ -178,7 +208,7 @@ unfolding rescue powers
 rescue-all = refl
 
 -- a journal that is not marked is let alone
-unmarked : recovery 22 (zeros 23) ≡ []
+unmarked : recovery 22 none (zeros 23) ≡ []
 unfolding powers
 unmarked = refl
 

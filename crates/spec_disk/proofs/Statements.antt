@@ -7,8 +7,8 @@ use mathlib.Core.Logic.{_⊎_}
 use mathlib.Core.Bool.{true, false}
 use lib.ListN.{length, take}
 use Rattle.spec_file.specs.Bytes.{Bytes}
-use Rattle.spec_changes.specs.Journal.{Disk, isMarked, recoverNumber, recovered}
-use Rattle.spec_disk.specs.Disk.{Slices, allDone, left, MayLeave, found, Update, commit, acknowledged, recovery, Fits, seenDisk, Life, updating, told, lost, redoing, decided, opened, LifeSafe, ReaderSafe}
+use Rattle.spec_changes.specs.Journal.{Disk, Block, isMarked, recoverNumber, recovered}
+use Rattle.spec_disk.specs.Disk.{Slices, allDone, left, MayLeave, found, Update, commit, acknowledged, recovery, Beside, contentSize, Fits, seenDisk, Life, updating, told, lost, redoing, decided, opened, LifeSafe, ReaderSafe}
 
 life-says : LifeSafe → (p : ℕ) (x y : Bytes) (s : Slices) (d : Disk) → Life p x y s → MayLeave s d
     → (recoverNumber (length (d .image)) (d .journal) ≡ 0) × ((recovered d .image ≡ x) ⊎ (recovered d .image ≡ y))
@@ -40,15 +40,15 @@ never-lost : (p : ℕ) (x : Bytes) (u : Update) (s : Slices) (n : ℕ) → Life 
 never-lost p x u s n l z f h = told p x u s n l z f h
 
 -- recovery too ends anywhere, and what it decided stays
-recovery-anywhere : (p : ℕ) (x y : Bytes) (s : Slices) (n : ℕ) → Life p x y s
-    → Life p x y (allDone (take n (recovery p (s .journal .seen))) s)
-recovery-anywhere p x y s n l = redoing p x y s n l
+recovery-anywhere : (p : ℕ) (x y : Bytes) (s : Slices) (n : ℕ) (b : Block) → Life p x y s
+    → Beside p (contentSize (s .journal .seen)) b → Life p x y (allDone (take n (recovery p b (s .journal .seen))) s)
+recovery-anywhere p x y s n b l e = redoing p x y s n b l e
 
-recovery-decides : (p : ℕ) (x y : Bytes) (s : Slices) (n : ℕ) → Life p x y s → isMarked (s .journal .seen) ≡ true
-    → 1 ≤ n
+recovery-decides : (p : ℕ) (x y : Bytes) (s : Slices) (n : ℕ) (b : Block) → Life p x y s
+    → Beside p (contentSize (s .journal .seen)) b → isMarked (s .journal .seen) ≡ true → 1 ≤ n
     → Life p (recovered (seenDisk s) .image) (recovered (seenDisk s) .image)
-    (allDone (take n (recovery p (s .journal .seen))) s)
-recovery-decides p x y s n l m h = decided p x y s n l m h
+    (allDone (take n (recovery p b (s .journal .seen))) s)
+recovery-decides p x y s n b l e m h = decided p x y s n b l e m h
 
 -- a writer that sees no mark goes on from what it reads
 goes-on : (p : ℕ) (x y : Bytes) (s : Slices) → Life p x y s → isMarked (s .journal .seen) ≡ false

@@ -3,7 +3,7 @@
 --     done, allDone         an action, and a list of them: writes and flushes
 --     left, MayLeave        what a power cut may leave: each byte written since its flush may be anything
 --     commit p u            the file layer's actions for one update; the mark stands at p
---     recovery p j          and for recovery, of the journal j that it finds
+--     recovery p b j        and for recovery, of the journal j that it finds; b is the base that it writes
 --     Life p x y s          what may happen, in any order and number; x was acknowledged last, y was perhaps begun
 --     LifeSafe, ReaderSafe  what is promised
 -- Assumes nothing.
@@ -15,7 +15,7 @@ use mathlib.Core.List.{List, [], _∷_, _++_}
 use lib.ListN.{length, take}
 use Rattle.spec_file.specs.Bytes.{Bytes}
 use Rattle.spec_changes.specs.Changes.{Pair, covered, Spread, Near}
-use Rattle.spec_changes.specs.Journal.{content, marked, Disk, Block, Write, toJournal, toImage, put, stretches, blocksOf, isMarked, recoverNumber, recovered}
+use Rattle.spec_changes.specs.Journal.{content, marked, Disk, Block, Write, toJournal, toImage, put, stretches, pairCount, pairsOf, bytesStart, total, blocksOf, isMarked, recoverNumber, recovered}
 
 -- ---- a disk
 
@@ -83,10 +83,12 @@ found d = record { image = still (d .image); journal = still (d .journal) }
 
 -- ---- the file layer
 
--- an update: the stretches that it writes, whichever they are, and the image that it leads to
+-- an update: the stretches that it writes, whichever they are, and the image that it leads to; and what the layer keeps
+-- in the journal between content and mark, its base, which tells the file as it stands then
 pub record Update : Type 0 where
   pub spans : List Pair
   pub new : Bytes
+  pub base : Block
 
 unfoldable pub setMarkAt : ℕ → ℕ → Action
 setMarkAt p m = write (toJournal (record { place = p; bytes = m ∷ [] }))
@@ -95,9 +97,9 @@ unfoldable pub writeImage : List Block → List Action
 writeImage [] = []
 writeImage (w ∷ ws) = write (toImage w) ∷ writeImage ws
 
--- behind the mark: the blocks, flushed; then mark 0, which the next update or recovery flushes
-unfoldable pub completion : ℕ → List Block → List Action
-completion p ws = writeImage ws ++ (flushImage ∷ setMarkAt p 0 ∷ [])
+-- behind the mark: the blocks, flushed; then base and mark 0, which the next update or recovery flushes
+unfoldable pub completion : ℕ → Block → List Block → List Action
+completion p b ws = writeImage ws ++ (flushImage ∷ write (toJournal b) ∷ setMarkAt p 0 ∷ [])
 
 abbrev pub writeContent : Update → Action
 writeContent u = write (toJournal (record { place = 0; bytes = content (u .spans) (u .new) }))
@@ -107,26 +109,35 @@ unfoldable pub commit : ℕ → Update → List Action
 commit p u =
     flushJournal ∷ writeContent u ∷ flushJournal
     ∷ setMarkAt p marked ∷ flushJournal
-    ∷ completion p (stretches (u .spans) (u .new))
+    ∷ completion p (u .base) (stretches (u .spans) (u .new))
 
 -- so many actions done, the mark is flushed, and the update may be acknowledged
 abbrev pub acknowledged : ℕ
 acknowledged = 5
 
 -- a journal that is not marked is let alone
-unfoldable pub recovery : ℕ → Bytes → List Action
-recovery p j = cond (isMarked j) (flushJournal ∷ completion p (blocksOf j)) []
+unfoldable pub recovery : ℕ → Block → Bytes → List Action
+recovery p b j = cond (isMarked j) (flushJournal ∷ completion p b (blocksOf j)) []
 
 -- ---- what may happen
 
+-- a base lies behind the content, which has so many bytes, and in front of the mark
+pub record Beside (p : ℕ) (size : ℕ) (b : Block) : Type 0 where
+  pub behind : size ≤ b .place
+  pub before : b .place + length (b .bytes) ≤ p
+
+-- how many bytes the content of a journal has
+unfoldable pub contentSize : Bytes → ℕ
+contentSize j = bytesStart (pairCount j) + total (pairsOf j)
+
 -- an update of an image: its stretches lie in it, in order, and outside of them nothing changes; the journal, whose
--- mark is at p, has room for its content
+-- mark is at p, has room for its content and its base
 pub record Fits (p : ℕ) (old : Bytes) (u : Update) : Type 0 where
   pub near : Near (u .spans) old (u .new)
   pub spread : Spread 0 (length (u .new)) (u .spans)
   pub small : length (u .new) < 256 ^ 4
   pub few : length (u .spans) < 256 ^ 4
-  pub room : length (content (u .spans) (u .new)) ≤ p
+  pub room : Beside p (length (content (u .spans) (u .new))) (u .base)
 
 -- what programs read
 unfoldable pub seenDisk : Slices → Disk
@@ -147,12 +158,13 @@ pub data Life : ℕ → Bytes → Bytes → Slices → Type 0 where
   -- power is cut
   lost : (p : ℕ) (x y : Bytes) (s : Slices) (d : Disk) → Life p x y s → MayLeave s d → Life p x y (found d)
   -- a writer gets through n actions of recovery
-  redoing : (p : ℕ) (x y : Bytes) (s : Slices) (n : ℕ) → Life p x y s
-      → Life p x y (allDone (take n (recovery p (s .journal .seen))) s)
+  redoing : (p : ℕ) (x y : Bytes) (s : Slices) (n : ℕ) (b : Block) → Life p x y s
+      → Beside p (contentSize (s .journal .seen)) b → Life p x y (allDone (take n (recovery p b (s .journal .seen))) s)
   -- of a marked journal, past its first flush: from now on the image is the one that recovery leads to
-  decided : (p : ℕ) (x y : Bytes) (s : Slices) (n : ℕ) → Life p x y s → isMarked (s .journal .seen) ≡ true → 1 ≤ n
+  decided : (p : ℕ) (x y : Bytes) (s : Slices) (n : ℕ) (b : Block) → Life p x y s
+      → Beside p (contentSize (s .journal .seen)) b → isMarked (s .journal .seen) ≡ true → 1 ≤ n
       → Life p (recovered (seenDisk s) .image) (recovered (seenDisk s) .image)
-      (allDone (take n (recovery p (s .journal .seen))) s)
+      (allDone (take n (recovery p b (s .journal .seen))) s)
   -- a writer sees no mark: the image that it reads is the one, from now on
   opened : (p : ℕ) (x y : Bytes) (s : Slices) → Life p x y s → isMarked (s .journal .seen) ≡ false
       → Life p (s .image .seen) (s .image .seen) s
