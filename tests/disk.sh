@@ -75,6 +75,12 @@ does "one writer's three changes" "$first$next$next$end" "$changes" "$site" 3 th
 three=$raw
 echo "three changes: $three"
 
+# The mark's flush is the third, behind the journal's and its name's: the mark is taken back, as `withdrawal` has it.
+fresh
+cp "$site" "$work/site.left"
+ACTIONS_FAILS=3 does "a mark whose flush fails" "${first%%j*}jMmj" "$bhtf" add "$site" CP-2 here
+if cmp -s "$site" "$work/site.left"; then pass; else fail "a change that was refused is there"; fi
+
 # Each flush is seen: hidden, the list is another. Those of directories are not in it.
 flushes=$(printf %s "$three" | tr -cd jid)
 for ((k = 1; k <= ${#flushes}; k++)); do

@@ -10,10 +10,12 @@
  *   ?  anything else
  *
  * ACTIONS_FILE names the file. Behind letter ACTIONS_END the process ends as
- * KILL ends it; flush number ACTIONS_UNSEEN is done and not noted.
+ * KILL ends it; flush number ACTIONS_UNSEEN is done and not noted; flush number
+ * ACTIONS_FAILS fails.
  */
 #define _GNU_SOURCE
 
+#include <errno.h>
 #include <fcntl.h>
 #include <signal.h>
 #include <stdlib.h>
@@ -80,10 +82,15 @@ static char kind_of(int fd)
 static int flushed(int fd, long call)
 {
     static int flushes;
-    const int done = (int)syscall(call, fd);
+    int done;
 
+    if (++flushes == number_of("ACTIONS_FAILS")) {
+        errno = EIO;
+        return -1;
+    }
+    done = (int)syscall(call, fd);
     look();
-    if (done == 0 && ++flushes != number_of("ACTIONS_UNSEEN"))
+    if (done == 0 && flushes != number_of("ACTIONS_UNSEEN"))
         note(kind_of(fd));
     return done;
 }

@@ -17,7 +17,7 @@ use lib.Dec.{eqb}
 use Rattle.spec_file.specs.Bytes.{Bytes, part, store}
 use Rattle.spec_changes.specs.Changes.{Pair, covered, Spread, Near}
 use Rattle.spec_changes.specs.Journal.{content, markPlace, mark, marked, Disk, Block, toJournal, toImage, put, putAll, stretches, pairCount, pairsOf, bytesStart, total, blocksOf, isMarked, journalSound, recoverNumber, recovered}
-use Rattle.spec_disk.specs.Disk.{Held, Slices, Action, write, flushImage, flushJournal, wrote, flushed, done, allDone, still, found, Update, setMarkAt, writeImage, completion, commit, acknowledged, recovery, Beside, contentSize, Fits, Life, begun, updating, told, lost, redoing, opened, renewed, decided, seenDisk, ReaderSafe, LifeSafe}
+use Rattle.spec_disk.specs.Disk.{Held, Slices, Action, write, flushImage, flushJournal, wrote, flushed, done, allDone, still, found, Update, setMarkAt, writeImage, completion, commit, acknowledged, withdrawal, recovery, Beside, contentSize, Fits, Life, begun, updating, told, refused, lost, redoing, opened, renewed, decided, seenDisk, ReaderSafe, LifeSafe}
 use Rattle.law_file.proofs.Tests.{by-bool, or-no}
 use Rattle.law_file.proofs.Bytes.{part-length, length-store}
 use Rattle.law_file.proofs.Stores.{take-store}
@@ -667,6 +667,27 @@ module _ (p : ℕ) where
     after5 : After (u .spans) (u .new) s5
     after5 = either-flushed (u .spans) old (u .new) s4 either4 seen4
 
+    -- the mark taken back, and flushed
+    withdrawn : Clear old (allDone (withdrawal p) s4)
+    unfolding withdrawal allDone done setMarkAt wrote put flushed
+    withdrawn =
+        let seen : p + 1 ≡ length (s4 .journal .seen) = either4 .whole .seen-long in
+        let long : p + 1 ≡ length (store (s4 .journal .seen) p (0 ∷ [])) = length-mark (s4 .journal .seen) 0 seen in
+        let none : isMarked (store (s4 .journal .seen) p (0 ∷ [])) ≡ false =
+        isMarked-set (s4 .journal .seen) 0 seen in
+        record {
+          image = clear1 .image;
+          long = long;
+          no = none;
+          kept = unfold covered in refl;
+          seen-long = long;
+          seen-no = none;
+        }
+
+    commit-refused : Later old (allDone (withdrawal p) (allDone (take (acknowledged - 1) (commit p u)) s))
+    unfolding commit allDone
+    commit-refused = clear withdrawn
+
     commit-stage : (n : ℕ) → Stage old (u .new) (allDone (take n (commit p u)) s)
     unfolding commit allDone
     commit-stage zero = old-yet (i .later)
@@ -824,6 +845,8 @@ life-stage _ _ _ _ (updating p x u r n l z f) =
     commit-stage p x u f r (record { later = stage-same p x r (life-stage p x x r l); seen-no = z }) n
 life-stage _ _ _ _ (told p x u r n l z f h) =
     new-now (commit-later p x u f r (record { later = stage-same p x r (life-stage p x x r l); seen-no = z }) n h)
+life-stage _ _ _ _ (refused p x u r l z f) =
+    old-yet (commit-refused p x u f r (record { later = stage-same p x r (life-stage p x x r l); seen-no = z }))
 life-stage _ _ _ _ (lost p x y r d l m) = stage-cut p x y r d (life-stage p x y r l) (cut-near r d m)
 life-stage _ _ _ _ (redoing p x y r n b l e) = stage-goes p r b e x y (life-stage p x y r l) n
 life-stage _ _ _ _ (decided p x y r n b l e m h) = old-yet (decided-stage p x y r b e (life-stage p x y r l) m n h)

@@ -9,13 +9,13 @@ use Rattle.spec_file.specs.Bytes.{Bytes, zeros}
 use Rattle.spec_changes.specs.Changes.{covered, runs}
 use Rattle.spec_changes.specs.Journal.{content, marked, Block, toJournal, stretches, recovered}
 use Rattle.spec_changes.proofs.CasesChanges.{journals}
-use Rattle.spec_disk.specs.Disk.{Slices, Action, write, flushImage, flushJournal, wrote, flushed, done, allDone, leftFrom, left, still, found, Update, setMarkAt, writeImage, completion, commit, acknowledged, recovery}
+use Rattle.spec_disk.specs.Disk.{Slices, Action, write, flushImage, flushJournal, wrote, flushed, done, allDone, leftFrom, left, still, found, Update, setMarkAt, writeImage, completion, commit, acknowledged, withdrawal, recovery}
 
 -- ---- updates of four bytes; the journal has 23, of which the last is the mark
 
 powers : ℕ
 unfolding journals covered wrote flushed done allDone leftFrom left still found setMarkAt writeImage completion commit
-    recovery
+    withdrawal recovery
 powers = 0
 
 abbrev old : Bytes
@@ -158,6 +158,17 @@ no-flush-4-early : after (commit 22 (update old new) ++ (journalled new newest �
     (0 ∷ 0 ∷ 0 ∷ 1 ∷ 0 ∷ 0 ∷ 0 ∷ 2 ∷ 0 ∷ 0 ∷ 0 ∷ 1 ∷ 7 ∷ 0 ∷ 0 ∷ 0 ∷ 0 ∷ 0 ∷ 0 ∷ 0 ∷ 0 ∷ 0 ∷ 165 ∷ []) ≡ newest
 unfolding powers
 no-flush-4-early = refl
+
+-- ---- a mark whose flush failed, taken back
+
+-- not flushed, the mark may still be there
+back-late : after (take (acknowledged - 1) (commit 22 (update old new)) ++ (setMarkAt 22 0 ∷ [])) [] held ≡ new
+unfolding powers
+back-late = refl
+
+back-flushed : after (take (acknowledged - 1) (commit 22 (update old new)) ++ withdrawal 22) [] held ≡ old
+unfolding powers
+back-flushed = refl
 
 -- ---- the next update: its content late, the old mark gone for good
 

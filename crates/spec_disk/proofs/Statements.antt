@@ -1,14 +1,14 @@
 -- What the promises of a disk say, and what may happen on it, written out once more: an edit that makes one say less,
 -- or less happen, falls here.
 -- Assumes nothing.
-use Prim.Native.Nat.{ℕ, _≤_}
+use Prim.Native.Nat.{ℕ, _-_, _≤_}
 use mathlib.Core.Path.{_≡_, refl}
 use mathlib.Core.Logic.{_⊎_}
 use mathlib.Core.Bool.{true, false}
 use lib.ListN.{length, take}
 use Rattle.spec_file.specs.Bytes.{Bytes}
 use Rattle.spec_changes.specs.Journal.{Disk, Block, isMarked, recoverNumber, recovered}
-use Rattle.spec_disk.specs.Disk.{Slices, allDone, left, MayLeave, found, Update, commit, acknowledged, recovery, Beside, contentSize, Fits, seenDisk, Life, updating, told, lost, redoing, decided, opened, LifeSafe, ReaderSafe}
+use Rattle.spec_disk.specs.Disk.{Slices, allDone, left, MayLeave, found, Update, commit, acknowledged, withdrawal, recovery, Beside, contentSize, Fits, seenDisk, Life, updating, told, refused, lost, redoing, decided, opened, LifeSafe, ReaderSafe}
 
 life-says : LifeSafe → (p : ℕ) (x y : Bytes) (s : Slices) (d : Disk) → Life p x y s → MayLeave s d
     → (recoverNumber (length (d .image)) (d .journal) ≡ 0) × ((recovered d .image ≡ x) ⊎ (recovered d .image ≡ y))
@@ -38,6 +38,11 @@ never-lost : (p : ℕ) (x : Bytes) (u : Update) (s : Slices) (n : ℕ) → Life 
     → isMarked (s .journal .seen) ≡ false → Fits p x u → acknowledged ≤ n
     → Life p (u .new) (u .new) (allDone (take n (commit p u)) s)
 never-lost p x u s n l z f h = told p x u s n l z f h
+
+-- one whose mark could not be flushed is none
+none-refused : (p : ℕ) (x : Bytes) (u : Update) (s : Slices) → Life p x x s → isMarked (s .journal .seen) ≡ false
+    → Fits p x u → Life p x x (allDone (withdrawal p) (allDone (take (acknowledged - 1) (commit p u)) s))
+none-refused p x u s l z f = refused p x u s l z f
 
 -- recovery too ends anywhere, and what it decided stays
 recovery-anywhere : (p : ℕ) (x y : Bytes) (s : Slices) (n : ℕ) (b : Block) → Life p x y s

@@ -7,7 +7,7 @@
 --     Life p x y s          what may happen, in any order and number; x was acknowledged last, y was perhaps begun
 --     LifeSafe, ReaderSafe  what is promised
 -- Assumes nothing.
-use Prim.Native.Nat.{ℕ, suc, _+_, _≤_, _<_, _^_}
+use Prim.Native.Nat.{ℕ, suc, _+_, _-_, _≤_, _<_, _^_}
 use mathlib.Core.Path.{_≡_}
 use mathlib.Core.Logic.{_⊎_}
 use mathlib.Core.Bool.{true, false, cond}
@@ -115,6 +115,10 @@ commit p u =
 abbrev pub acknowledged : ℕ
 acknowledged = 5
 
+-- where the mark's flush fails it is taken back, and that is flushed
+unfoldable pub withdrawal : ℕ → List Action
+withdrawal p = setMarkAt p 0 ∷ flushJournal ∷ []
+
 -- a journal that is not marked is let alone
 unfoldable pub recovery : ℕ → Block → Bytes → List Action
 recovery p b j = cond (isMarked j) (flushJournal ∷ completion p b (blocksOf j)) []
@@ -155,6 +159,9 @@ pub data Life : ℕ → Bytes → Bytes → Slices → Type 0 where
   -- with the mark flushed, or more
   told : (p : ℕ) (x : Bytes) (u : Update) (s : Slices) (n : ℕ) → Life p x x s → isMarked (s .journal .seen) ≡ false
       → Fits p x u → acknowledged ≤ n → Life p (u .new) (u .new) (allDone (take n (commit p u)) s)
+  -- the mark is written and its flush fails: the mark is taken back, and the update refused
+  refused : (p : ℕ) (x : Bytes) (u : Update) (s : Slices) → Life p x x s → isMarked (s .journal .seen) ≡ false
+      → Fits p x u → Life p x x (allDone (withdrawal p) (allDone (take (acknowledged - 1) (commit p u)) s))
   -- power is cut
   lost : (p : ℕ) (x y : Bytes) (s : Slices) (d : Disk) → Life p x y s → MayLeave s d → Life p x y (found d)
   -- a writer gets through n actions of recovery
