@@ -13,15 +13,15 @@ use mathlib.Core.List.{List, [], _∷_}
 use mathlib.Core.Logic.{_⊎_, inl, inr}
 use lib.ListN.{length, take, getD}
 use lib.Seq.{ext-getD, getD-take, length-take-le}
-use lib.Dec.{eqb}
+use lib.Dec.{leb, eqb}
 use Rattle.spec_file.specs.Bytes.{Bytes, part, store}
 use Rattle.spec_changes.specs.Changes.{Pair, covered, Spread, Near}
-use Rattle.spec_changes.specs.Journal.{content, markPlace, mark, marked, Disk, Block, toJournal, toImage, put, putAll, stretches, pairCount, pairsOf, bytesStart, total, blocksOf, isMarked, journalSound, recoverNumber, recovered}
-use Rattle.spec_disk.specs.Disk.{Held, Slices, Action, write, flushImage, flushJournal, wrote, flushed, done, allDone, still, found, Update, setMarkAt, writeImage, completion, commit, acknowledged, withdrawal, recovery, Beside, contentSize, Fits, Life, begun, updating, told, refused, lost, redoing, opened, renewed, decided, seenDisk, ReaderSafe, LifeSafe}
+use Rattle.spec_changes.specs.Journal.{content, markPlace, mark, marked, Disk, Block, toJournal, toImage, put, putAll, stretches, spoiltBytes, spoiltBlock, pairCount, pairsOf, bytesStart, total, blocksOf, isMarked, journalSound, recoverNumber, recovered}
+use Rattle.spec_disk.specs.Disk.{Held, Slices, Action, write, flushImage, flushJournal, wrote, flushed, done, allDone, still, found, Update, setMarkAt, writeImage, completion, commit, acknowledged, withdrawal, recovery, Beside, contentSize, Fits, End, between, amid, partly, first, Life, begun, updating, told, refused, lost, redoing, opened, renewed, decided, seenDisk, ReaderSafe, LifeSafe}
 use Rattle.law_file.proofs.Tests.{by-bool, or-no}
 use Rattle.law_file.proofs.Bytes.{part-length, length-store}
 use Rattle.law_file.proofs.Stores.{take-store}
-use Rattle.spec_changes.proofs.Changes.{inside, inside-below, inside-above, covered-cons, near-none, near-copy, copied-near}
+use Rattle.spec_changes.proofs.Changes.{inside, inside-below, inside-above, covered-cons, near-none, near-any, near-copy, copied-near}
 use Rattle.spec_changes.proofs.Journal.{Holds, holds-content, holds-mark, length-content, content-count, content-pairs, content-blocks, content-sound}
 use Rattle.spec_changes.proofs.Recovery.{mark-set, mark-kept, number-other, number-marked, recovered-other, recovered-marked, putAll-stretches}
 use Rattle.law_disk.proofs.Left.{Cut, cut-near}
@@ -30,6 +30,12 @@ use Rattle.law_disk.proofs.Left.{Cut, cut-near}
 
 near-same : (b : Bytes) (rs : List Pair) → Near rs b b
 near-same b rs = record { size = refl; outside = λ i f. refl }
+
+-- as many bytes, of any value
+length-spoilt : (junk : ℕ → ℕ) (v : Bytes) → length (spoiltBytes junk v) ≡ length v
+unfolding spoiltBytes
+length-spoilt junk [] = refl
+length-spoilt junk (b ∷ v) = ap suc (length-spoilt (λ i. junk (suc i)) v)
 
 -- late bytes that lie in the stretches
 Within : List Pair → List Pair → Type 0
@@ -131,7 +137,7 @@ module _ (p : ℕ) where
   -- old or new
   data Stage (old new : Bytes) (s : Slices) : Type 0 where
     old-yet : Later old s → Stage old new s
-    between : (rs : List Pair) → Sound rs new → Either rs old new s → isMarked (s .journal .seen) ≡ true
+    mark-yet : (rs : List Pair) → Sound rs new → Either rs old new s → isMarked (s .journal .seen) ≡ true
         → Stage old new s
     new-now : Later new s → Stage old new s
 
@@ -224,7 +230,7 @@ module _ (p : ℕ) where
   stage-cut : (old new : Bytes) (s : Slices) (d : Disk) → Stage old new s → Cut s d → Stage old new (found d)
   stage-cut old new s d (old-yet l) m = old-yet (later-cut old s d l m)
   stage-cut old new s d (new-now l) m = new-now (later-cut new s d l m)
-  stage-cut old new s d (between rs so e y) m = go (either-cut rs old new s d e m)
+  stage-cut old new s d (mark-yet rs so e y) m = go (either-cut rs old new s d e m)
     where
       go : Clear old (found d) ⊎ After rs new (found d) → Stage old new (found d)
       go (inl c) = old-yet (clear c)
@@ -274,7 +280,7 @@ module _ (p : ℕ) where
   stage-gives : (old new : Bytes) (s : Slices) (d : Disk) → Stage old new s → Cut s d → Gives old d ⊎ Gives new d
   stage-gives old new s d (old-yet l) m = inl (later-gives old s d l m)
   stage-gives old new s d (new-now l) m = inr (later-gives new s d l m)
-  stage-gives old new s d (between rs so e y) m = go (either-cut rs old new s d e m)
+  stage-gives old new s d (mark-yet rs so e y) m = go (either-cut rs old new s d e m)
     where
       go : Clear old (found d) ⊎ After rs new (found d) → Gives old d ⊎ Gives new d
       go (inl c) = inl (clear-gives old d c)
@@ -342,6 +348,30 @@ module _ (p : ℕ) where
         only = λ i f. unfold covered in refl;
       }
 
+  -- ---- what a process that ends has done of an action
+
+  no-flush-image : (e : End) → partly e flushImage ≡ []
+  unfolding partly
+  no-flush-image between = refl
+  no-flush-image (amid junk) = refl
+
+  no-flush-journal : (e : End) → partly e flushJournal ≡ []
+  unfolding partly
+  no-flush-journal between = refl
+  no-flush-journal (amid junk) = refl
+
+  -- the mark is one byte
+  no-mark : (e : End) (m : ℕ) → partly e (setMarkAt p m) ≡ []
+  unfolding partly setMarkAt
+  no-mark between m = refl
+  no-mark (amid junk) m = refl
+
+  choose-done : (P : Slices → Type 0) (t : Bool) (a : Action) (s : Slices) → P s → P (done a s)
+      → P (allDone (cond t [] (a ∷ [])) s)
+  unfolding allDone
+  choose-done P true a s x y = x
+  choose-done P false a s x y = y
+
   -- ---- behind the mark
 
   module _ (rs : List Pair) (new : Bytes) (so : Sound rs new) (b : Block)
@@ -394,6 +424,38 @@ module _ (p : ℕ) where
             seen-yes = a .seen-yes;
           }
 
+      -- any bytes in the stretch
+      after-amid : (junk : ℕ → ℕ) (s : Slices) → Near (r ∷ rs′) (s .image .seen) new → After rs new s
+          → After rs new (done (write (toImage
+          (spoiltBlock junk (record { place = r .at; bytes = part new (r .at) (r .size) })))) s)
+      unfolding done wrote put Within spoiltBlock
+      after-amid junk s n a =
+          let v : Bytes = spoiltBytes junk (part new (r .at) (r .size)) in
+          let long : length v ≡ r .size = length-spoilt junk (part new (r .at) (r .size))
+          ∙ part-length new (r .at) (r .size) fits in
+          let m : Near (r ∷ rs′) (store (s .image .seen) (r .at) v) new =
+          near-any r rs′ (s .image .seen) new fits n v long in
+          record {
+            near = a .near;
+            within = λ i f.
+                ap (λ (k : ℕ). covered (record { at = r .at; size = k } ∷ s .image .late) i) long
+                ∙ covered-cons r (s .image .late) i
+                ∙ ap₂ _||_ (or-no (inside r i) (covered rs′ i) (sym (covered-cons r rs′ i) ∙ sub i f) .0)
+                (a .within i f);
+            seen-near = record { size = m .size; outside = λ i f. m .outside i (sub i f) };
+            whole = a .whole;
+            yes = a .yes;
+            kept = a .kept;
+            seen-yes = a .seen-yes;
+          }
+
+      after-end : (e : End) (s : Slices) → Near (r ∷ rs′) (s .image .seen) new → After rs new s
+          → After rs new
+          (allDone (partly e (write (toImage (record { place = r .at; bytes = part new (r .at) (r .size) })))) s)
+      unfolding partly allDone
+      after-end between s n a = a
+      after-end (amid junk) s n a = after-amid junk s n a
+
     -- all stretches written, and flushed
     after-image : (s : Slices) → Near [] (s .image .seen) new → After rs new s → After rs new (done flushImage s)
     unfolding done flushed Within
@@ -408,6 +470,25 @@ module _ (p : ℕ) where
           seen-yes = a .seen-yes;
         }
 
+    over-spoilt : (junk : ℕ → ℕ) (s : Slices) → Near [] (s .image .seen) new → After rs new s
+        → Either rs new new (done (write (toJournal (spoiltBlock junk b))) (done flushImage s))
+    unfolding done flushed spoiltBlock
+    over-spoilt junk s n a =
+        let e : s .image .seen ≡ new = near-none (s .image .seen) new n in
+        let beside′ : Beside p (length (content rs new))
+        (record { place = b .place; bytes = spoiltBytes junk (b .bytes) }) =
+        record {
+          behind = beside .behind;
+          before = omega (arith, beside .before, length-spoilt junk (b .bytes));
+        } in
+        record {
+          image = record { sure = e; seen = e; late = refl };
+          near = near-same new rs;
+          whole =
+              whole-beside (content rs new) (s .journal)
+              (record { place = b .place; bytes = spoiltBytes junk (b .bytes) }) beside′ (a .whole);
+        }
+
     over-base : (s : Slices) → Near [] (s .image .seen) new → After rs new s
         → Either rs new new (done (write (toJournal b)) (done flushImage s))
     unfolding done flushed
@@ -418,6 +499,16 @@ module _ (p : ℕ) where
           near = near-same new rs;
           whole = whole-beside (content rs new) (s .journal) b beside (a .whole);
         }
+
+    -- any bytes in the base
+    base-end : (e : End) (s : Slices) → Near [] (s .image .seen) new → After rs new s
+        → Later new (allDone (partly e (write (toJournal b))) (done flushImage s))
+    unfolding partly allDone
+    base-end between s n a = after rs so (after-image s n a)
+    base-end (amid junk) s n a =
+        choose-done (Later new) (leb (length (b .bytes)) 1) (write (toJournal (spoiltBlock junk b))) (done flushImage s)
+        (after rs so (after-image s n a))
+        (over rs so (over-spoilt junk s n a))
 
     over-mark : (s : Slices) → Near [] (s .image .seen) new → After rs new s
         → Either rs new new (done (setMarkAt p 0) (done (write (toJournal b)) (done flushImage s)))
@@ -433,23 +524,25 @@ module _ (p : ℕ) where
         }
 
     completion-goes : (k : ℕ) (rs′ : List Pair) → Spread k (length new) rs′ → Within rs rs′ → (s : Slices)
-        → Near rs′ (s .image .seen) new → After rs new s → (n : ℕ)
-        → Later new (allDone (take n (completion p b (stretches rs′ new))) s)
-    unfolding completion writeImage stretches allDone
-    completion-goes k [] sp sub s m a zero = after rs so a
-    completion-goes k [] sp sub s m a (suc zero) = after rs so (after-image s m a)
-    completion-goes k [] sp sub s m a (suc (suc zero)) = over rs so (over-base s m a)
-    completion-goes k [] sp sub s m a (suc (suc (suc zero))) = over rs so (over-mark s m a)
-    completion-goes k [] sp sub s m a (suc (suc (suc (suc n)))) = over rs so (over-mark s m a)
-    completion-goes k (r ∷ rs′) sp sub s m a zero = after rs so a
-    completion-goes k (r ∷ rs′) sp sub s m a (suc n) =
+        → Near rs′ (s .image .seen) new → After rs new s → (e : End) (n : ℕ)
+        → Later new (allDone (first e n (completion p b (stretches rs′ new))) s)
+    unfolding completion writeImage stretches allDone first
+    completion-goes k [] sp sub s m a e zero =
+        subst (λ (l : List Action). Later new (allDone l s)) (sym (no-flush-image e)) (unfold allDone in after rs so a)
+    completion-goes k [] sp sub s m a e (suc zero) = base-end e s m a
+    completion-goes k [] sp sub s m a e (suc (suc zero)) =
+        subst (λ (l : List Action). Later new (allDone l (done (write (toJournal b)) (done flushImage s))))
+        (sym (no-mark e 0)) (unfold allDone in over rs so (over-base s m a))
+    completion-goes k [] sp sub s m a e (suc (suc (suc n))) = over rs so (over-mark s m a)
+    completion-goes k (r ∷ rs′) sp sub s m a e zero = after rs so (after-end r rs′ (sp .2) sub e s m a)
+    completion-goes k (r ∷ rs′) sp sub s m a e (suc n) =
         completion-goes (suc (r .at + r .size)) rs′ (sp .3) (sub-rest r rs′ (sp .2) sub) (next r rs′ (sp .2) sub s)
-        (next-near r rs′ (sp .2) sub s m) (after-next r rs′ (sp .2) sub s m a) n
+        (next-near r rs′ (sp .2) sub s m) (after-next r rs′ (sp .2) sub s m a) e n
 
-    all-goes : (s : Slices) → After rs new s → (n : ℕ)
-        → Later new (allDone (take n (completion p b (stretches rs new))) s)
+    all-goes : (s : Slices) → After rs new s → (e : End) (n : ℕ)
+        → Later new (allDone (first e n (completion p b (stretches rs new))) s)
     unfolding Within
-    all-goes s a n = completion-goes 0 rs (so .spread) (λ i f. f) s (a .seen-near) a n
+    all-goes s a e n = completion-goes 0 rs (so .spread) (λ i f. f) s (a .seen-near) a e n
 
   -- ---- recovery
 
@@ -477,11 +570,6 @@ module _ (p : ℕ) where
       ∙ sym (length-content 0 rs new (so .spread)) in
       subst (λ (m : ℕ). Beside p m b) size e
 
-  nothing-done : (n : ℕ) (s : Slices) → allDone (take n []) s ≡ s
-  unfolding allDone
-  nothing-done zero s = refl
-  nothing-done (suc n) s = refl
-
   -- flushed, an image near the new one and a marked journal
   either-flushed : (rs : List Pair) (old new : Bytes) (s : Slices) → Either rs old new s
       → isMarked (s .journal .seen) ≡ true → After rs new (done flushJournal s)
@@ -498,46 +586,57 @@ module _ (p : ℕ) where
         seen-yes = y;
       }
 
-  abbrev recovering-from : Block → Slices → ℕ → Slices
-  recovering-from b s n = allDone (take n (recovery p b (s .journal .seen))) s
+  abbrev recovering-from : Block → Slices → End → ℕ → Slices
+  recovering-from b s e n = allDone (first e n (recovery p b (s .journal .seen))) s
 
-  module _ (s : Slices) (b : Block) (beside : Beside p (contentSize (s .journal .seen)) b) where
-    stays : (x : Bytes) → Later x s → isMarked (s .journal .seen) ≡ false → (n : ℕ) → Later x (recovering-from b s n)
+  module _ (s : Slices) (b : Block) (beside : Beside p (contentSize (s .journal .seen)) b) (w : End) where
+    stays : (x : Bytes) → Later x s → isMarked (s .journal .seen) ≡ false → (n : ℕ) → Later x (recovering-from b s w n)
     stays x l u n =
-        subst (Later x)
-        (sym (ap (λ (a : List Action). allDone (take n a) s) (recovery-no (s .journal .seen) b u) ∙ nothing-done n s)) l
+        unfold allDone first in
+        subst (λ (a : List Action). Later x (allDone (first w n a) s)) (sym (recovery-no (s .journal .seen) b u)) l
+
+    -- its first action is a flush
+    begins : (P : Slices → Type 0) (rs : List Pair) (new : Bytes) → Sound rs new
+        → Holds (content rs new) (s .journal .seen) → isMarked (s .journal .seen) ≡ true → P s
+        → P (recovering-from b s w 0)
+    begins P rs new so h y x =
+        unfold first in
+        subst (λ (a : List Action). P (allDone (first w 0 a) s)) (sym (recovery-yes rs new (s .journal .seen) b so h y))
+        (subst (λ (a : List Action). P (allDone a s)) (sym (no-flush-journal w)) (unfold allDone in x))
 
     either-goes : (rs : List Pair) (old new : Bytes) → Sound rs new → Either rs old new s
-        → isMarked (s .journal .seen) ≡ true → (n : ℕ) → Later new (recovering-from b s (suc n))
+        → isMarked (s .journal .seen) ≡ true → (n : ℕ) → Later new (recovering-from b s w (suc n))
     either-goes rs old new so e y n =
         let here′ = beside-held rs new (s .journal .seen) b so (e .whole .seen-holds) beside in
-        unfold allDone in
-        subst (λ (a : List Action). Later new (allDone (take (suc n) a) s))
+        unfold allDone first in
+        subst (λ (a : List Action). Later new (allDone (first w (suc n) a) s))
         (sym (recovery-yes rs new (s .journal .seen) b so (e .whole .seen-holds) y))
-        (all-goes rs new so b here′ (done flushJournal s) (either-flushed rs old new s e y) n)
+        (all-goes rs new so b here′ (done flushJournal s) (either-flushed rs old new s e y) w n)
 
     over-goes : (x : Bytes) (rs : List Pair) → Sound rs x → Either rs x x s → isMarked (s .journal .seen) ≡ true
-        → (n : ℕ) → Later x (recovering-from b s n)
-    over-goes x rs so e y zero = unfold allDone in over rs so e
+        → (n : ℕ) → Later x (recovering-from b s w n)
+    over-goes x rs so e y zero = begins (Later x) rs x so (e .whole .seen-holds) y (over rs so e)
     over-goes x rs so e y (suc n) = either-goes rs x x so e y n
 
-    later-goes : (x : Bytes) → Later x s → (n : ℕ) → Later x (recovering-from b s n)
+    later-goes : (x : Bytes) → Later x s → (n : ℕ) → Later x (recovering-from b s w n)
     later-goes x (clear c) n = stays x (clear c) (c .seen-no) n
     later-goes x (over rs so e) n =
         by-bool (isMarked (s .journal .seen)) (λ y. over-goes x rs so e y n) (λ u. stays x (over rs so e) u n)
-    later-goes x (after rs so a) zero = unfold allDone in after rs so a
+    later-goes x (after rs so a) zero =
+        begins (Later x) rs x so (a .whole .seen-holds) (a .seen-yes) (after rs so a)
     later-goes x (after rs so a) (suc n) =
         let here′ = beside-held rs x (s .journal .seen) b so (a .whole .seen-holds) beside in
-        unfold allDone in
-        subst (λ (l : List Action). Later x (allDone (take (suc n) l) s))
+        unfold allDone first in
+        subst (λ (l : List Action). Later x (allDone (first w (suc n) l) s))
         (sym (recovery-yes rs x (s .journal .seen) b so (a .whole .seen-holds) (a .seen-yes)))
-        (all-goes rs x so b here′ (done flushJournal s) (after-flushed rs x so b here′ s a) n)
+        (all-goes rs x so b here′ (done flushJournal s) (after-flushed rs x so b here′ s a) w n)
 
-    stage-goes : (old new : Bytes) → Stage old new s → (n : ℕ) → Stage old new (recovering-from b s n)
+    stage-goes : (old new : Bytes) → Stage old new s → (n : ℕ) → Stage old new (recovering-from b s w n)
     stage-goes old new (old-yet l) n = old-yet (later-goes old l n)
     stage-goes old new (new-now l) n = new-now (later-goes new l n)
-    stage-goes old new (between rs so e y) zero = unfold allDone in between rs so e y
-    stage-goes old new (between rs so e y) (suc n) = new-now (either-goes rs old new so e y n)
+    stage-goes old new (mark-yet rs so e y) zero =
+        begins (Stage old new) rs new so (e .whole .seen-holds) y (mark-yet rs so e y)
+    stage-goes old new (mark-yet rs so e y) (suc n) = new-now (either-goes rs old new so e y n)
 
   -- ---- an update
 
@@ -609,7 +708,7 @@ module _ (p : ℕ) where
         ap (λ (m : ℕ). eqb m marked) (mark-kept (s .journal .seen) c (omega (arith, room)))
         ∙ clear1 .no
 
-    -- content late: the mark is not
+    -- content late, or a part of it: the mark is not
     clear2 : Clear old s2
     unfolding done wrote put flushed
     clear2 =
@@ -624,6 +723,34 @@ module _ (p : ℕ) where
           seen-long = long2;
           seen-no = seen2;
         }
+
+    clear-amid : (junk : ℕ → ℕ)
+        → Clear old (done (write (toJournal (spoiltBlock junk (record { place = 0; bytes = c })))) s1)
+    unfolding done wrote put flushed spoiltBlock isMarked
+    clear-amid junk =
+        let v : Bytes = spoiltBytes junk c in
+        let lv : length v ≡ length c = length-spoilt junk c in
+        let e : p + 1 ≡ length (s .journal .seen) = clear1 .long in
+        record {
+          image = clear1 .image;
+          long = clear1 .long;
+          no = clear1 .no;
+          kept =
+              covered-cons (record { at = 0; size = length v }) [] p
+              ∙ ap₂ _||_ (inside-above (record { at = 0; size = length v }) p (omega (arith, room, lv)))
+              (unfold covered in refl);
+          seen-long = e ∙ sym (length-store (s .journal .seen) 0 v (omega (arith, room, lv)));
+          seen-no =
+              ap (λ (m : ℕ). eqb m marked) (mark-kept (s .journal .seen) v (omega (arith, room, lv)))
+              ∙ clear1 .no;
+        }
+
+    content-end : (e : End) → Clear old (allDone (partly e (write (toJournal (record { place = 0; bytes = c })))) s1)
+    unfolding partly allDone
+    content-end between = clear1
+    content-end (amid junk) =
+        choose-done (Clear old) (leb (length c) 1)
+        (write (toJournal (spoiltBlock junk (record { place = 0; bytes = c })))) s1 clear1 (clear-amid junk)
 
     clear3 : Clear old s3
     unfolding done flushed
@@ -688,25 +815,35 @@ module _ (p : ℕ) where
     unfolding commit allDone
     commit-refused = clear withdrawn
 
-    commit-stage : (n : ℕ) → Stage old (u .new) (allDone (take n (commit p u)) s)
-    unfolding commit allDone
-    commit-stage zero = old-yet (i .later)
-    commit-stage (suc zero) = old-yet (clear clear1)
-    commit-stage (suc (suc zero)) = old-yet (clear clear2)
-    commit-stage (suc (suc (suc zero))) = old-yet (clear clear3)
-    commit-stage (suc (suc (suc (suc zero)))) = between (u .spans) sound either4 seen4
-    commit-stage (suc (suc (suc (suc (suc n))))) =
-        new-now (all-goes (u .spans) (u .new) sound (u .base) (fits .room) s5 after5 n)
+    -- what is left where the next action is not a write, or is the mark
+    nothing-more : (P : Slices → Type 0) (l : List Action) (t : Slices) → l ≡ [] → P t → P (allDone l t)
+    unfolding allDone
+    nothing-more P l t e x = subst (λ (k : List Action). P (allDone k t)) (sym e) x
 
-    commit-later : (n : ℕ) → acknowledged ≤ n → Later (u .new) (allDone (take n (commit p u)) s)
-    unfolding commit allDone
-    commit-later zero h = absurd (omega arith)
-    commit-later (suc zero) h = absurd (omega arith)
-    commit-later (suc (suc zero)) h = absurd (omega arith)
-    commit-later (suc (suc (suc zero))) h = absurd (omega arith)
-    commit-later (suc (suc (suc (suc zero)))) h = absurd (omega arith)
-    commit-later (suc (suc (suc (suc (suc n))))) h =
-        all-goes (u .spans) (u .new) sound (u .base) (fits .room) s5 after5 n
+    commit-stage : (e : End) (n : ℕ) → Stage old (u .new) (allDone (first e n (commit p u)) s)
+    unfolding commit allDone first
+    commit-stage e zero =
+        nothing-more (Stage old (u .new)) (partly e flushJournal) s (no-flush-journal e) (old-yet (i .later))
+    commit-stage e (suc zero) = old-yet (clear (content-end e))
+    commit-stage e (suc (suc zero)) =
+        nothing-more (Stage old (u .new)) (partly e flushJournal) s2 (no-flush-journal e) (old-yet (clear clear2))
+    commit-stage e (suc (suc (suc zero))) =
+        nothing-more (Stage old (u .new)) (partly e (setMarkAt p marked)) s3 (no-mark e marked) (old-yet (clear clear3))
+    commit-stage e (suc (suc (suc (suc zero)))) =
+        nothing-more (Stage old (u .new)) (partly e flushJournal) s4 (no-flush-journal e)
+        (mark-yet (u .spans) sound either4 seen4)
+    commit-stage e (suc (suc (suc (suc (suc n))))) =
+        new-now (all-goes (u .spans) (u .new) sound (u .base) (fits .room) s5 after5 e n)
+
+    commit-later : (e : End) (n : ℕ) → acknowledged ≤ n → Later (u .new) (allDone (first e n (commit p u)) s)
+    unfolding commit allDone first
+    commit-later e zero h = absurd (omega arith)
+    commit-later e (suc zero) h = absurd (omega arith)
+    commit-later e (suc (suc zero)) h = absurd (omega arith)
+    commit-later e (suc (suc (suc zero))) h = absurd (omega arith)
+    commit-later e (suc (suc (suc (suc zero)))) h = absurd (omega arith)
+    commit-later e (suc (suc (suc (suc (suc n))))) h =
+        all-goes (u .spans) (u .new) sound (u .base) (fits .room) s5 after5 e n
 
   start-idle : (img j : Bytes) → p + 1 ≡ length j → isMarked j ≡ false
       → Idle img (found (record { image = img; journal = j }))
@@ -728,7 +865,7 @@ module _ (p : ℕ) where
 
   stage-same : (x : Bytes) (s : Slices) → Stage x x s → Later x s
   stage-same x s (old-yet l) = l
-  stage-same x s (between rs so e y) = over rs so e
+  stage-same x s (mark-yet rs so e y) = over rs so e
   stage-same x s (new-now l) = l
 
   later-opened : (x : Bytes) (s : Slices) → Later x s → isMarked (s .journal .seen) ≡ false
@@ -743,7 +880,7 @@ module _ (p : ℕ) where
   stage-opened : (x y : Bytes) (s : Slices) → Stage x y s → isMarked (s .journal .seen) ≡ false
       → Later (s .image .seen) s
   stage-opened x y s (old-yet l) u = later-opened x s l u
-  stage-opened x y s (between rs so e m) u = absurd (true≢false (sym m ∙ u))
+  stage-opened x y s (mark-yet rs so e m) u = absurd (true≢false (sym m ∙ u))
   stage-opened x y s (new-now l) u = later-opened y s l u
 
   -- ---- what programs read
@@ -797,24 +934,24 @@ module _ (p : ℕ) where
   reader-stage : (x y : Bytes) (s : Slices) → Stage x y s
       → (recovered (seenDisk s) .image ≡ x) ⊎ (recovered (seenDisk s) .image ≡ y)
   reader-stage x y s (old-yet l) = inl (reader-later x s l)
-  reader-stage x y s (between rs so e m) =
+  reader-stage x y s (mark-yet rs so e m) =
       inr (marked-seen rs y s so (quiet-near rs x y (s .image) (e .image) (e .near)) (e .whole) m)
   reader-stage x y s (new-now l) = inr (reader-later y s l)
 
-  decided-stage : (x y : Bytes) (s : Slices) (b : Block) → Beside p (contentSize (s .journal .seen)) b → Stage x y s
-      → isMarked (s .journal .seen) ≡ true → (n : ℕ) → 1 ≤ n
-      → Later (recovered (seenDisk s) .image) (recovering-from b s n)
-  decided-stage x y s b k g m zero h = absurd (omega arith)
-  decided-stage x y s b k (old-yet l) m (suc n) h =
-      subst (λ (i : Bytes). Later i (recovering-from b s (suc n))) (sym (later-seen x s l m))
-      (later-goes s b k x l (suc n))
-  decided-stage x y s b k (between rs so e m′) m (suc n) h =
-      subst (λ (i : Bytes). Later i (recovering-from b s (suc n)))
+  decided-stage : (x y : Bytes) (s : Slices) (b : Block) → Beside p (contentSize (s .journal .seen)) b → (w : End)
+      → Stage x y s → isMarked (s .journal .seen) ≡ true → (n : ℕ) → 1 ≤ n
+      → Later (recovered (seenDisk s) .image) (recovering-from b s w n)
+  decided-stage x y s b k w g m zero h = absurd (omega arith)
+  decided-stage x y s b k w (old-yet l) m (suc n) h =
+      subst (λ (i : Bytes). Later i (recovering-from b s w (suc n))) (sym (later-seen x s l m))
+      (later-goes s b k w x l (suc n))
+  decided-stage x y s b k w (mark-yet rs so e m′) m (suc n) h =
+      subst (λ (i : Bytes). Later i (recovering-from b s w (suc n)))
       (sym (marked-seen rs y s so (quiet-near rs x y (s .image) (e .image) (e .near)) (e .whole) m))
-      (either-goes s b k rs x y so e m n)
-  decided-stage x y s b k (new-now l) m (suc n) h =
-      subst (λ (i : Bytes). Later i (recovering-from b s (suc n))) (sym (later-seen y s l m))
-      (later-goes s b k y l (suc n))
+      (either-goes s b k w rs x y so e m n)
+  decided-stage x y s b k w (new-now l) m (suc n) h =
+      subst (λ (i : Bytes). Later i (recovering-from b s w (suc n))) (sym (later-seen y s l m))
+      (later-goes s b k w y l (suc n))
 
   -- another journal: the image is surely there
   idle-renewed : (x : Bytes) (q : ℕ) (s : Slices) → Idle x s → Quiet x (s .image)
@@ -841,15 +978,16 @@ renewed-stage p q x s j i e z =
 
 life-stage : (p : ℕ) (x y : Bytes) (s : Slices) → Life p x y s → Stage p x y s
 life-stage _ _ _ _ (begun p d e z) = old-yet (start-idle p (d .image) (d .journal) e z .later)
-life-stage _ _ _ _ (updating p x u r n l z f) =
-    commit-stage p x u f r (record { later = stage-same p x r (life-stage p x x r l); seen-no = z }) n
-life-stage _ _ _ _ (told p x u r n l z f h) =
-    new-now (commit-later p x u f r (record { later = stage-same p x r (life-stage p x x r l); seen-no = z }) n h)
+life-stage _ _ _ _ (updating p x u r e n l z f) =
+    commit-stage p x u f r (record { later = stage-same p x r (life-stage p x x r l); seen-no = z }) e n
+life-stage _ _ _ _ (told p x u r e n l z f h) =
+    new-now (commit-later p x u f r (record { later = stage-same p x r (life-stage p x x r l); seen-no = z }) e n h)
 life-stage _ _ _ _ (refused p x u r l z f) =
     old-yet (commit-refused p x u f r (record { later = stage-same p x r (life-stage p x x r l); seen-no = z }))
 life-stage _ _ _ _ (lost p x y r d l m) = stage-cut p x y r d (life-stage p x y r l) (cut-near r d m)
-life-stage _ _ _ _ (redoing p x y r n b l e) = stage-goes p r b e x y (life-stage p x y r l) n
-life-stage _ _ _ _ (decided p x y r n b l e m h) = old-yet (decided-stage p x y r b e (life-stage p x y r l) m n h)
+life-stage _ _ _ _ (redoing p x y r w n b l e) = stage-goes p r b e w x y (life-stage p x y r l) n
+life-stage _ _ _ _ (decided p x y r w n b l e m h) =
+    old-yet (decided-stage p x y r b e w (life-stage p x y r l) m n h)
 life-stage _ _ _ _ (opened p v w s l z) = old-yet (stage-opened p v w s (life-stage p v w s l) z)
 life-stage _ _ _ _ (renewed p q x s j l z e f) =
     renewed-stage p q x s j (record { later = stage-same p x s (life-stage p x x s l); seen-no = z }) e f

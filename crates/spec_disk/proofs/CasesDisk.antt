@@ -9,13 +9,13 @@ use Rattle.spec_file.specs.Bytes.{Bytes, zeros}
 use Rattle.spec_changes.specs.Changes.{covered, runs}
 use Rattle.spec_changes.specs.Journal.{content, marked, Block, toJournal, stretches, recovered}
 use Rattle.spec_changes.proofs.CasesChanges.{journals}
-use Rattle.spec_disk.specs.Disk.{Slices, Action, write, flushImage, flushJournal, wrote, flushed, done, allDone, leftFrom, left, still, found, Update, setMarkAt, writeImage, completion, commit, acknowledged, withdrawal, recovery}
+use Rattle.spec_disk.specs.Disk.{Slices, Action, write, flushImage, flushJournal, wrote, flushed, done, allDone, leftFrom, left, still, found, Update, setMarkAt, writeImage, completion, commit, acknowledged, withdrawal, recovery, amid, partly, first, seenDisk}
 
 -- ---- updates of four bytes; the journal has 23, of which the last is the mark
 
 powers : ℕ
 unfolding journals covered wrote flushed done allDone leftFrom left still found setMarkAt writeImage completion commit
-    withdrawal recovery
+    withdrawal recovery partly first seenDisk
 powers = 0
 
 abbrev old : Bytes
@@ -47,6 +47,11 @@ held = 0 ∷ 0 ∷ 0 ∷ 2 ∷ 0 ∷ 0 ∷ 0 ∷ 1 ∷ 0 ∷ 0 ∷ 0 ∷ 1 ∷ 0
 -- one new byte is another
 torn : Bytes
 torn = 0 ∷ 0 ∷ 0 ∷ 2 ∷ 0 ∷ 0 ∷ 0 ∷ 1 ∷ 0 ∷ 0 ∷ 0 ∷ 1 ∷ 0 ∷ 0 ∷ 0 ∷ 3 ∷ 0 ∷ 0 ∷ 0 ∷ 1 ∷ 9 ∷ 77 ∷ 165 ∷ []
+
+-- what is recovered of what programs see
+after-all : Slices → Bytes
+unfolding powers
+after-all s = recovered (seenDisk s) .image
 
 -- ---- the update as it is, cut in each place
 
@@ -119,6 +124,23 @@ base-and-mark-late = refl
 base-over-content : after (take 9 (commit 22 (with-base 21))) [] torn ≡ 1 ∷ 9 ∷ 3 ∷ 77 ∷ []
 unfolding powers torn
 base-over-content = refl
+
+-- ---- a process that ends amid a write: of content, of a stretch; not of the mark
+
+abbrev ended : ℕ → Slices
+ended n = allDone (first (amid (λ k. 77)) n (commit 22 (update old new))) start
+
+amid-content : (take 5 (ended 1 .journal .seen) ≡ 77 ∷ 77 ∷ 77 ∷ 77 ∷ 77 ∷ []) × (after-all (ended 1) ≡ old)
+unfolding powers after-all
+amid-content = (refl, refl)
+
+amid-mark : ended 3 ≡ allDone (take 3 (commit 22 (update old new))) start
+unfolding powers
+amid-mark = refl
+
+amid-stretch : (ended 5 .image .seen ≡ 1 ∷ 77 ∷ 3 ∷ 4 ∷ []) × (after-all (ended 5) ≡ new)
+unfolding powers after-all
+amid-stretch = (refl, refl)
 
 -- ---- without a flush
 

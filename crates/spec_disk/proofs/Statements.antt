@@ -8,7 +8,7 @@ use mathlib.Core.Bool.{true, false}
 use lib.ListN.{length, take}
 use Rattle.spec_file.specs.Bytes.{Bytes}
 use Rattle.spec_changes.specs.Journal.{Disk, Block, isMarked, recoverNumber, recovered}
-use Rattle.spec_disk.specs.Disk.{Slices, allDone, left, MayLeave, found, Update, commit, acknowledged, withdrawal, recovery, Beside, contentSize, Fits, seenDisk, Life, updating, told, refused, lost, redoing, decided, opened, LifeSafe, ReaderSafe}
+use Rattle.spec_disk.specs.Disk.{Slices, allDone, left, MayLeave, found, Update, commit, acknowledged, withdrawal, recovery, Beside, contentSize, Fits, seenDisk, End, first, Life, updating, told, refused, lost, redoing, decided, opened, LifeSafe, ReaderSafe}
 
 life-says : LifeSafe → (p : ℕ) (x y : Bytes) (s : Slices) (d : Disk) → Life p x y s → MayLeave s d
     → (recoverNumber (length (d .image)) (d .journal) ≡ 0) × ((recovered d .image ≡ x) ⊎ (recovered d .image ≡ y))
@@ -29,15 +29,15 @@ cut-any-time : (p : ℕ) (x y : Bytes) (s : Slices) (d : Disk) → Life p x y s 
 cut-any-time p x y s d l m = lost p x y s d l m
 
 -- an update of what is there may be begun, and ends anywhere
-killed-anywhere : (p : ℕ) (x : Bytes) (u : Update) (s : Slices) (n : ℕ) → Life p x x s
-    → isMarked (s .journal .seen) ≡ false → Fits p x u → Life p x (u .new) (allDone (take n (commit p u)) s)
-killed-anywhere p x u s n l z f = updating p x u s n l z f
+killed-anywhere : (p : ℕ) (x : Bytes) (u : Update) (s : Slices) (e : End) (n : ℕ) → Life p x x s
+    → isMarked (s .journal .seen) ≡ false → Fits p x u → Life p x (u .new) (allDone (first e n (commit p u)) s)
+killed-anywhere p x u s e n l z f = updating p x u s e n l z f
 
 -- once acknowledged, it is the only one
-never-lost : (p : ℕ) (x : Bytes) (u : Update) (s : Slices) (n : ℕ) → Life p x x s
+never-lost : (p : ℕ) (x : Bytes) (u : Update) (s : Slices) (e : End) (n : ℕ) → Life p x x s
     → isMarked (s .journal .seen) ≡ false → Fits p x u → acknowledged ≤ n
-    → Life p (u .new) (u .new) (allDone (take n (commit p u)) s)
-never-lost p x u s n l z f h = told p x u s n l z f h
+    → Life p (u .new) (u .new) (allDone (first e n (commit p u)) s)
+never-lost p x u s e n l z f h = told p x u s e n l z f h
 
 -- one whose mark could not be flushed is none
 none-refused : (p : ℕ) (x : Bytes) (u : Update) (s : Slices) → Life p x x s → isMarked (s .journal .seen) ≡ false
@@ -45,15 +45,16 @@ none-refused : (p : ℕ) (x : Bytes) (u : Update) (s : Slices) → Life p x x s 
 none-refused p x u s l z f = refused p x u s l z f
 
 -- recovery too ends anywhere, and what it decided stays
-recovery-anywhere : (p : ℕ) (x y : Bytes) (s : Slices) (n : ℕ) (b : Block) → Life p x y s
-    → Beside p (contentSize (s .journal .seen)) b → Life p x y (allDone (take n (recovery p b (s .journal .seen))) s)
-recovery-anywhere p x y s n b l e = redoing p x y s n b l e
+recovery-anywhere : (p : ℕ) (x y : Bytes) (s : Slices) (e : End) (n : ℕ) (b : Block) → Life p x y s
+    → Beside p (contentSize (s .journal .seen)) b
+    → Life p x y (allDone (first e n (recovery p b (s .journal .seen))) s)
+recovery-anywhere p x y s e n b l k = redoing p x y s e n b l k
 
-recovery-decides : (p : ℕ) (x y : Bytes) (s : Slices) (n : ℕ) (b : Block) → Life p x y s
+recovery-decides : (p : ℕ) (x y : Bytes) (s : Slices) (e : End) (n : ℕ) (b : Block) → Life p x y s
     → Beside p (contentSize (s .journal .seen)) b → isMarked (s .journal .seen) ≡ true → 1 ≤ n
     → Life p (recovered (seenDisk s) .image) (recovered (seenDisk s) .image)
-    (allDone (take n (recovery p b (s .journal .seen))) s)
-recovery-decides p x y s n b l e m h = decided p x y s n b l e m h
+    (allDone (first e n (recovery p b (s .journal .seen))) s)
+recovery-decides p x y s e n b l k m h = decided p x y s e n b l k m h
 
 -- a writer that sees no mark goes on from what it reads
 goes-on : (p : ℕ) (x y : Bytes) (s : Slices) → Life p x y s → isMarked (s .journal .seen) ≡ false

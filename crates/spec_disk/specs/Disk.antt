@@ -7,15 +7,16 @@
 --     Life p x y s          what may happen, in any order and number; x was acknowledged last, y was perhaps begun
 --     LifeSafe, ReaderSafe  what is promised
 -- Assumes nothing.
-use Prim.Native.Nat.{ℕ, suc, _+_, _-_, _≤_, _<_, _^_}
+use Prim.Native.Nat.{ℕ, zero, suc, _+_, _-_, _≤_, _<_, _^_}
 use mathlib.Core.Path.{_≡_}
 use mathlib.Core.Logic.{_⊎_}
 use mathlib.Core.Bool.{true, false, cond}
 use mathlib.Core.List.{List, [], _∷_, _++_}
 use lib.ListN.{length, take}
+use lib.Dec.{leb}
 use Rattle.spec_file.specs.Bytes.{Bytes}
 use Rattle.spec_changes.specs.Changes.{Pair, covered, Spread, Near}
-use Rattle.spec_changes.specs.Journal.{content, marked, Disk, Block, Write, toJournal, toImage, put, stretches, pairCount, pairsOf, bytesStart, total, blocksOf, isMarked, recoverNumber, recovered}
+use Rattle.spec_changes.specs.Journal.{content, marked, Disk, Block, Write, toJournal, toImage, put, stretches, spoiltBlock, pairCount, pairsOf, bytesStart, total, blocksOf, isMarked, recoverNumber, recovered}
 
 -- ---- a disk
 
@@ -125,6 +126,26 @@ recovery p b j = cond (isMarked j) (flushJournal ∷ completion p b (blocksOf j)
 
 -- ---- what may happen
 
+-- a process ends between two actions, or amid one: then a write has left any bytes in its place; the mark is one byte,
+-- which is written or not
+pub data End : Type 0 where
+  between : End
+  amid : (ℕ → ℕ) → End
+
+unfoldable pub partly : End → Action → List Action
+partly between a = []
+partly (amid junk) (write (toImage w)) = write (toImage (spoiltBlock junk w)) ∷ []
+partly (amid junk) (write (toJournal w)) =
+    cond (leb (length (w .bytes)) 1) [] (write (toJournal (spoiltBlock junk w)) ∷ [])
+partly (amid junk) flushImage = []
+partly (amid junk) flushJournal = []
+
+-- the first n actions, and what is done of the next
+unfoldable pub first : End → ℕ → List Action → List Action
+first e n [] = []
+first e zero (a ∷ rest) = partly e a
+first e (suc n) (a ∷ rest) = a ∷ first e n rest
+
 -- a base lies behind the content, which has so many bytes, and in front of the mark
 pub record Beside (p : ℕ) (size : ℕ) (b : Block) : Type 0 where
   pub behind : size ≤ b .place
@@ -153,25 +174,27 @@ pub data Life : ℕ → Bytes → Bytes → Slices → Type 0 where
   -- a file, and a journal without mark
   begun : (p : ℕ) (d : Disk) → p + 1 ≡ length (d .journal) → isMarked (d .journal) ≡ false
       → Life p (d .image) (d .image) (found d)
-  -- a writer gets through n actions of an update, and then its process ends, or power is cut
-  updating : (p : ℕ) (x : Bytes) (u : Update) (s : Slices) (n : ℕ) → Life p x x s → isMarked (s .journal .seen) ≡ false
-      → Fits p x u → Life p x (u .new) (allDone (take n (commit p u)) s)
+  -- a writer gets through n actions of an update, and is perhaps at the next, when its process ends or power is cut
+  updating : (p : ℕ) (x : Bytes) (u : Update) (s : Slices) (e : End) (n : ℕ) → Life p x x s
+      → isMarked (s .journal .seen) ≡ false → Fits p x u → Life p x (u .new) (allDone (first e n (commit p u)) s)
   -- with the mark flushed, or more
-  told : (p : ℕ) (x : Bytes) (u : Update) (s : Slices) (n : ℕ) → Life p x x s → isMarked (s .journal .seen) ≡ false
-      → Fits p x u → acknowledged ≤ n → Life p (u .new) (u .new) (allDone (take n (commit p u)) s)
+  told : (p : ℕ) (x : Bytes) (u : Update) (s : Slices) (e : End) (n : ℕ) → Life p x x s
+      → isMarked (s .journal .seen) ≡ false → Fits p x u → acknowledged ≤ n
+      → Life p (u .new) (u .new) (allDone (first e n (commit p u)) s)
   -- the mark is written and its flush fails: the mark is taken back, and the update refused
   refused : (p : ℕ) (x : Bytes) (u : Update) (s : Slices) → Life p x x s → isMarked (s .journal .seen) ≡ false
       → Fits p x u → Life p x x (allDone (withdrawal p) (allDone (take (acknowledged - 1) (commit p u)) s))
   -- power is cut
   lost : (p : ℕ) (x y : Bytes) (s : Slices) (d : Disk) → Life p x y s → MayLeave s d → Life p x y (found d)
   -- a writer gets through n actions of recovery
-  redoing : (p : ℕ) (x y : Bytes) (s : Slices) (n : ℕ) (b : Block) → Life p x y s
-      → Beside p (contentSize (s .journal .seen)) b → Life p x y (allDone (take n (recovery p b (s .journal .seen))) s)
+  redoing : (p : ℕ) (x y : Bytes) (s : Slices) (e : End) (n : ℕ) (b : Block) → Life p x y s
+      → Beside p (contentSize (s .journal .seen)) b
+      → Life p x y (allDone (first e n (recovery p b (s .journal .seen))) s)
   -- of a marked journal, past its first flush: from now on the image is the one that recovery leads to
-  decided : (p : ℕ) (x y : Bytes) (s : Slices) (n : ℕ) (b : Block) → Life p x y s
+  decided : (p : ℕ) (x y : Bytes) (s : Slices) (e : End) (n : ℕ) (b : Block) → Life p x y s
       → Beside p (contentSize (s .journal .seen)) b → isMarked (s .journal .seen) ≡ true → 1 ≤ n
       → Life p (recovered (seenDisk s) .image) (recovered (seenDisk s) .image)
-      (allDone (take n (recovery p b (s .journal .seen))) s)
+      (allDone (first e n (recovery p b (s .journal .seen))) s)
   -- a writer sees no mark: the image that it reads is the one, from now on
   opened : (p : ℕ) (x y : Bytes) (s : Slices) → Life p x y s → isMarked (s .journal .seen) ≡ false
       → Life p (s .image .seen) (s .image .seen) s
