@@ -1,18 +1,17 @@
 -- The writes of an update, one by one: before turn k the first k are done.
 -- Assumes nothing.
 use mathlib.Core.Path.{_≡_, refl, sym, ap, ap₂, _∙_, subst}
-use Prim.Native.Nat.{ℕ, zero, suc, _+_, _-_, _*_, _^_, _≤_, _<_}
+use Prim.Native.Nat.{ℕ, _+_, _-_, _*_, _^_, _≤_, _<_}
 use native.Mathlib.Omega.{arith}
-use mathlib.Core.Bool.{Bool, true, false, cond}
-use mathlib.Core.List.{List, [], _∷_}
+use mathlib.Core.Bool.{Bool, true, cond}
+use mathlib.Core.List.{[], _∷_}
 use lib.ListN.{length, take}
 use lib.Dec.{eqb}
 use borrow.Author.Tests.{eq-eqb, ne-eqb}
 use Rattle.spec_file.specs.Bytes.{Bytes, store}
 use Rattle.spec_changes.specs.Changes.{runs}
-use Rattle.spec_changes.specs.Journal.{content, markPlace, marked, journalAllowed, Disk, Write, toJournal, put, written, allWritten, setMark, updates, recoveries, pairCount, journalSound}
+use Rattle.spec_changes.specs.Journal.{content, markPlace, marked, journalAllowed, Write, toJournal, put, written, allWritten, setMark, updates, pairCount}
 use Rattle.law_file.proofs.Tests.{by-le, by-eq}
-use Rattle.law_file.proofs.Bytes.{length-store}
 use Rattle.journal_recover.specs.Updates.{Updates}
 use Rattle.journal_recover.specs.Writes.{nextFrom, writeAt, writeNumber, Numbered}
 use Rattle.journal_recover.proofs.Settling.{updates-as, updates-same}

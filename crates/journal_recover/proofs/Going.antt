@@ -3,17 +3,15 @@
 use mathlib.Core.Path.{_≡_, refl, sym, ap, ap₂, _∙_, subst}
 use Prim.Native.Nat.{ℕ, zero, suc, _+_, _-_, _*_, _≤_, _<_}
 use native.Mathlib.Omega.{arith}
-use mathlib.Core.Bool.{Bool, true, false, cond}
+use mathlib.Core.Bool.{Bool, true, cond}
 use mathlib.Core.List.{List, [], _∷_, _++_}
 use lib.ListN.{length, take, drop}
 use lib.Seq.{drop-drop}
-use lib.Dec.{ltb}
 use borrow.Author.Tests.{lt-ltb, le-ltb}
 use Rattle.spec_file.specs.Bytes.{Bytes, part, store}
 use Rattle.spec_changes.specs.Changes.{Pair}
-use Rattle.spec_changes.specs.Journal.{Disk, Block, Write, toImage, toJournal, put, written, allWritten, toImages, setMark, markPlace, pairCount, pairsOf, blocks, blocksOf, bytesStart, total, contentInside, inOrder, journalSound, recoveries}
+use Rattle.spec_changes.specs.Journal.{Disk, Write, toImage, put, written, allWritten, toImages, setMark, markPlace, pairCount, pairsOf, blocks, blocksOf, bytesStart, total, contentInside, inOrder, journalSound, recoveries}
 use Rattle.law_file.proofs.Tests.{and-right}
-use Rattle.law_file.proofs.Bytes.{part-length, length-store}
 use Rattle.journal_recover.specs.Updates.{Updates}
 use Rattle.journal_recover.specs.Writes.{blockAt, nextFrom, writeAt, Reads}
 use Rattle.journal_recover.proofs.Reading.{left, pairAt, left-step, left-end, left-all, Inside, order-inside, sound-room, sound-start}

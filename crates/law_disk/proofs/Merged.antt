@@ -1,19 +1,18 @@
 -- Runs with at most so many equal bytes between them, as one: still stretches outside of which nothing changes.
 -- Assumes nothing.
-use mathlib.Core.Path.{_≡_, refl, sym, ap, ap₂, _∙_, subst}
-use Prim.Native.Nat.{ℕ, zero, suc, _+_, _-_, _*_, _^_, _≤_, _<_}
+use mathlib.Core.Path.{_≡_, sym, ap₂, _∙_, subst}
+use Prim.Native.Nat.{ℕ, suc, _+_, _-_, _^_, _≤_, _<_}
 use native.Mathlib.Omega.{arith}
 use mathlib.Core.Bool.{Bool, true, false, cond, _||_, true≢false}
-use mathlib.Core.List.{List, [], _∷_, _++_}
-use lib.ListN.{length, getD}
+use mathlib.Core.List.{List, [], _∷_}
+use lib.ListN.{length}
 use lib.Dec.{leb}
-use borrow.Author.Tests.{le-leb, lt-leb}
 use Rattle.spec_file.specs.Bytes.{Bytes}
-use Rattle.spec_changes.specs.Changes.{Pair, runs, covered, Spread, Near}
+use Rattle.spec_changes.specs.Changes.{Pair, runs, covered, Spread}
 use Rattle.spec_changes.specs.Journal.{content, Block}
-use Rattle.spec_disk.specs.Disk.{Beside, Update, Fits}
-use Rattle.law_file.proofs.Tests.{by-bool, by-le, by-either, or-no}
-use Rattle.spec_changes.proofs.Changes.{inside, inside-yes, inside-below, inside-above, covered-cons, spread-from, near-runs, runs-spread, runs-few}
+use Rattle.spec_disk.specs.Disk.{Beside, Fits}
+use Rattle.law_file.proofs.Tests.{or-no}
+use Rattle.spec_changes.proofs.Changes.{inside, inside-yes, covered-cons, near-runs, runs-spread, runs-few}
 use Rattle.spec_changes.proofs.Copied.{by-inside}
 
 unfoldable pub mergedInto : ℕ → Pair → List Pair → List Pair

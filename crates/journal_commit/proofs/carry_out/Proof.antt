@@ -1,7 +1,6 @@
 -- Before turn k the first k writes are done. Assumes nothing.
-use Prim.Native.Nat.{ℕ, _+_, _-_, _*_, _≤_, _<_}
+use Prim.Native.Nat.{_+_, _-_, _*_, _≤_}
 use native.Mathlib.Omega.{arith}
-use mathlib.Core.Path.{_≡_}
 use lib.ListN.{length}
 use Rattle.spec_changes.specs.Changes.{runs}
 use Rattle.journal_commit.proofs.Carried.{allowed-room, content-room}

@@ -1,7 +1,7 @@
 -- Write number k: content, mark, or what the marked journal asks for. Assumes nothing.
-use Prim.Native.Nat.{ℕ, _-_, _≤_, _<_}
+use Prim.Native.Nat.{_-_, _≤_}
 use native.Mathlib.Omega.{arith}
-use mathlib.Core.Path.{_≡_, refl}
+use mathlib.Core.Path.{refl}
 use Rattle.journal_commit.proofs.Carrying.{does-content, does-mark, does-later}
 use borrow.Author.Needs.{needs}
 use Rattle.journal_commit.proofs.write_number.Statement.{statement}

@@ -1,9 +1,8 @@
 -- Before turn k the first k writes are done. Assumes nothing.
-use Prim.Native.Nat.{ℕ, _+_, _-_, _*_, _≤_, _<_}
+use Prim.Native.Nat.{ℕ, _+_, _-_, _*_, _≤_}
 use native.Mathlib.Omega.{arith}
-use mathlib.Core.Path.{_≡_, refl, sym, ap, _∙_, subst}
+use mathlib.Core.Path.{sym, subst}
 use lib.ListN.{length}
-use borrow.Author.Needs.{needs}
 use Rattle.spec_changes.specs.Journal.{pairCount}
 use Rattle.law_file.proofs.Tests.{by-le}
 use Rattle.journal_recover.proofs.Reading.{sound-start}

@@ -1,5 +1,4 @@
 -- Write number k: a stretch, or the mark. Assumes nothing.
-use Prim.Native.Nat.{_<_}
 use native.Mathlib.Omega.{arith}
 use mathlib.Core.Path.{refl}
 use Rattle.journal_recover.proofs.Going.{one-stretch, one-mark}
