@@ -58,15 +58,18 @@ gives() {
   fi
 }
 
-# counted NAME COMMAND..: a program whose last line is 'N passed, M failed'
+# counted NAME COMMAND..: a program whose last line is 'N passed, M failed', with N above 0, and status 0 only where M is 0
 counted() {
-  local name=$1 last
+  local name=$1 status last p f
   shift
   "$@" 2>&1 | tee "$work/out"
-  last=$(tail -n 1 "$work/out" | grep -E '^[0-9]+ passed, [0-9]+ failed$') || { fail "$name ended early"; return; }
-  passed=$((passed + ${last%% *}))
-  last=${last##*, }
-  failed=$((failed + ${last%% *}))
+  status=${PIPESTATUS[0]}
+  last=$(tail -n 1 "$work/out" | grep -E '^[1-9][0-9]* passed, [0-9]+ failed$') || { fail "$name ended early"; return; }
+  p=${last%% *} f=${last##*, }
+  f=${f%% *}
+  passed=$((passed + p))
+  failed=$((failed + f))
+  [ "$status" -eq 0 ] || [ "$f" -gt 0 ] || fail "$name (exit status $status)"
 }
 
 # ---- building ----
@@ -144,9 +147,11 @@ chmod 755 "$work/usr" "$work/usr/lib" "$work/host"
 mkdir "$work/closed"
 cp "$site" "$work/closed/site"
 chmod 666 "$work/closed/site"
+[ "$(id -u)" -eq 0 ] || chmod 555 "$work/closed" # nobody's for root, and its owner's for anybody else
 gives "a directory that must not be written" 1 'nothing was changed: its journal .*cannot be created: Permission denied' \
   as_other "$work/points" "$work/closed/site" CP-101 new
 holds "the file is as it was" cmp "$site" "$work/closed/site"
+chmod 755 "$work/closed"
 mkdir "$work/disk"
 if mount -t tmpfs -o size=64k tmpfs "$work/disk" 2>/dev/null; then
   mounted=$work/disk
@@ -354,6 +359,7 @@ holds "new files and journals under temporary names: cut" runs 9 4
 
 # fault NAME FILE OLD NEW SCENES: the cuts of a layer with OLD made NEW, which must stand there once, are not all passed
 fault() {
+  local status
   copies
   if ! python3 - "$work/copy/$2" "$3" "$4" <<'END'
 import sys
@@ -366,10 +372,15 @@ END
   then fail "$1: the fault cannot be seeded"; return; fi
   if ! builds >"$work/out" 2>&1; then
     fail "$1: does not build" "$(head -n 3 "$work/out")"
-  elif runs "$5" 4 >"$work/out" 2>&1; then
-    fail "not found: $1"
-  else
+    return
+  fi
+  runs "$5" 4 >"$work/out" 2>&1
+  status=$?
+  # a fault is found by a cut that did not pass: not by a crash, nor by the time that ran out
+  if [ "$status" -eq 1 ] && tail -n 1 "$work/out" | grep -qE '^[0-9]+ passed, [1-9][0-9]* failed$'; then
     pass "found: $1"
+  else
+    fail "not found: $1" "status $status: $(tail -n 1 "$work/out")"
   fi
 }
 fault "the mark before the content is flushed" layer_journal.c '    if (error == 0)

@@ -117,7 +117,7 @@ gives "import waiting on a terminal says so" 0 'habit: waiting for lines of CSV'
 gives "and takes what is typed" 0 '1 point stored' cat typed.out
 typed "bhtf load habit2"
 gives "load waiting on a terminal says so" 0 'habit2: waiting for the lines of a dump' cat typed.out
-same "nor where the text is piped" '' "$(printf x | bhtf add habit piped 2>&1)"
+none "nor where the text is piped" "$(printf x | bhtf add habit piped 2>&1)"
 
 # ---- progress ----
 
