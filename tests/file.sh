@@ -24,6 +24,7 @@ echo "seed $seed"
 
 passed=0
 failed=0
+found=0 # faults
 # In memory where that can be: nothing here hangs on what the disk does.
 base=${TMPDIR:-/dev/shm}
 [ -w "$base" ] || base=/tmp
@@ -379,6 +380,7 @@ END
   # a fault is found by a cut that did not pass: not by a crash, nor by the time that ran out
   if [ "$status" -eq 1 ] && tail -n 1 "$work/out" | grep -qE '^[0-9]+ passed, [1-9][0-9]* failed$'; then
     pass "found: $1"
+    found=$((found + 1))
   else
     fail "not found: $1" "status $status: $(tail -n 1 "$work/out")"
   fi
@@ -417,5 +419,6 @@ fault "a page that is forgotten" layer.c 'page <= (from + size - 1) / LAYER_PAGE
 fault "a new file named before it is flushed" layer_create.c 'fsync(m->fd) != 0))' '0))' 0
 fault "a new file's name not flushed" layer_create.c 'error = layer_sync_names(m->directory, m->fd);' 'error = 0;' 0
 
+echo "of these $found faults"
 echo "$passed passed, $failed failed"
 [ "$failed" -eq 0 ] && [ "$passed" -gt 0 ]

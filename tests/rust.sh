@@ -113,4 +113,5 @@ misread no-offset 's/held, placed: true }$/held, placed: false }/'
 misread note-is-none 's/let shown = .*/let shown = held > 0 \&\& image[offset] == b'"'a'"';/'
 misread slot-0-left-out 's/\.take(slots);/&\n        let table = table.skip(1);/'
 
+echo "of these 1 random"
 tally
