@@ -357,6 +357,22 @@ copies
 sed -i 's/^#ifdef O_TMPFILE/#ifdef NO_TMPFILE/' "$work/copy/layer_name.c"
 holds "new files and journals under temporary names: builds" builds
 holds "new files and journals under temporary names: cut" runs 9 4
+cat >"$work/rights.c" <<'END'
+#include "bhtf_file.h"
+int main(int n, char **path)
+{
+    static const uint8_t image[4096];
+
+    return n != 2 || bhtf_file_create(path[1], image, sizeof image, NULL, NULL) != 0;
+}
+END
+new_rights() {
+  # shellcheck disable=SC2046,SC2086
+  gcc -std=c99 -D_POSIX_C_SOURCE=200809L -D_FILE_OFFSET_BITS=64 -Wno-format-truncation -I"$work/copy" "$work/rights.c" \
+    $(ls "$work"/copy/*.c) "$station" ${LDLIBS:-} -o "$work/rights" &&
+    (umask 027 && "$work/rights" "$work/new") && [ "$(stat -c %a "$work/new")" = 640 ]
+}
+holds "which have the rights that the mask leaves" new_rights
 
 # fault NAME FILE OLD NEW SCENES: the cuts of a layer with OLD made NEW, which must stand there once, are not all passed
 fault() {
