@@ -62,6 +62,14 @@ alike() {
   [ -s "$work/one" ] && cmp "$work/one" "$work/other"
 }
 
+# words_of NUMBER: what the library says of an answer
+words_of() {
+  python3 -c 'import ctypes, sys
+f = ctypes.CDLL(sys.argv[1]).bhtf_message
+f.restype = ctypes.c_char_p
+print(f(int(sys.argv[2])).decode())' "$work/gcc/libbhtf.so" "$1"
+}
+
 # opened FILE N: so many processes have it open
 opened() { [ "$(find /proc/[0-9]*/fd -lname "$PWD/$1" 2>/dev/null | cut -d/ -f3 | sort -u | wc -l)" -ge "$2" ]; }
 

@@ -93,4 +93,4 @@ gives "to the last byte" 0 '^data: 4096 bytes, 4096 used, 0 free$' bhtf stat tig
 gives "the file is sound" 0 '^sound: 2 points$' bhtf check tight
 gives "load has nothing to compact" 1 "line [0-9]+: .*refused \\(13\\): .*$larger" \
   sh -c 'printf "%s\n" "bhtf-dump 1" "key-size 4" "slots 5" "size 4096" "seed 0" "\"a\" \"b\"" end | bhtf load full2'
-gives "a program of its own reads the words of 15" 0 'The file is not sound\.' cat "$root/host/file/answer_words.c"
+gives "the words of 15" 0 '^The file is not sound\.' words_of 15

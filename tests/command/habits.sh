@@ -38,7 +38,7 @@ holds "the manual page and the help have the true limits" limits_in_page
 gives "refusal 1 has them" 1 "to $(with_commas "$(limit IMAGE_MAX)")\." bhtf create limits --size 5000
 gives "refusal 2" 1 "1 to $(limit KEY_MAX) bytes" bhtf create limits -k 99
 gives "refusal 3" 1 "more than $(with_commas "$(limit SLOTS_MAX)") slots" bhtf create limits -s 4000000000
-gives "refusal 12" 0 "longer than $(with_commas "$(limit MESSAGE_MAX)") bytes" cat "$root/host/file/answer_words.c"
+gives "refusal 12" 0 "longer than $(with_commas "$(limit MESSAGE_MAX)") bytes" words_of 12
 
 # ---- options ----
 
