@@ -57,9 +57,9 @@ none() { if [ -z "$2" ]; then pass "$1"; else fail "$1" "got '$2'"; fi; }
 
 # alike ONE OTHER: two files, or what two commands print, are the same bytes, and there are some
 alike() {
-  cat "$1" >"$work/one"
-  cat "$2" >"$work/other"
-  [ -s "$work/one" ] && cmp "$work/one" "$work/other"
+  cat "$1" >"$work/.one"
+  cat "$2" >"$work/.other"
+  [ -s "$work/.one" ] && cmp "$work/.one" "$work/.other"
 }
 
 # words_of NUMBER: what the library says of an answer
