@@ -351,7 +351,7 @@ runs() { timeout 300 "$work/copy/program" --seed 280 --random 2 --states "$2" --
 
 copies
 holds "calls that list what they change: builds" builds
-holds "calls that list what they change: cut" runs 13 4
+holds "calls that list what they change: cut" runs 99 4 # every scene that a fault below is looked for in
 
 copies
 sed -i 's/^#ifdef O_TMPFILE/#ifdef NO_TMPFILE/' "$work/copy/layer_name.c"
