@@ -35,6 +35,24 @@ static struct piece text_of(const struct import *m, const struct incoming *p)
     return text;
 }
 
+/* The key of a point: 0, or -1 for no memory. */
+static int take_key(struct import *m, const struct incoming *p)
+{
+    const uint8_t *name = m->crowd.bytes.bytes + p->name;
+    size_t length = p->text - p->name;
+
+    if (import_is_dated(m))
+        return epoch_key(&m->key, name, length, p->epoch, m->key_size);
+    return key_named(&m->key, m->o, name, length, m->key_size);
+}
+
+/* Has the key an epoch behind its name? */
+static int has_epoch(const struct import *m)
+{
+    return (import_is_dated(m) || m->o->given & OPTION_EPOCH) &&
+           m->key_size > EPOCH_SIZE;
+}
+
 /* ---- names that stand twice ---- */
 
 /* The keys of a crowd, to be sorted. */
@@ -65,8 +83,7 @@ static int put_keys(struct import *m, struct buffer *keys,
     for (size_t i = 0; i < m->crowd.count && done == 0; i++) {
         const struct incoming *p = &m->crowd.all[i];
 
-        done = key_named(&m->key, m->o, m->crowd.bytes.bytes + p->name,
-                         p->text - p->name, m->key_size);
+        done = take_key(m, p);
         if (done != 0 || m->key.length != m->key_size)
             continue;
         names[(*count)++].index = i;
@@ -242,7 +259,9 @@ static int keep_outcome(struct import *m, const struct change *c,
     new->kind = c->kind;
     new->harm = fmax(c->plan, fabs(c->height));
     new->words = all->bytes.length;
-    done = name_show(&all->bytes, m->key.bytes, m->key.length);
+    done = has_epoch(m)
+        ? dated_show(&all->bytes, m->key.bytes, m->key_size)
+        : name_show(&all->bytes, m->key.bytes, m->key.length);
     if (c->kind != CHANGE_NEW) {
         done |= buffer_put(&all->bytes, ": ", 2);
         done |= change_put(&all->bytes, c, t);
@@ -372,8 +391,7 @@ static int store_point(struct import *m, const struct incoming *p)
         return refuse_twice(m, p);
     if (p->again)
         return DONE;
-    if (key_named(&m->key, m->o, m->crowd.bytes.bytes + p->name,
-                  p->text - p->name, m->key_size) != 0)
+    if (take_key(m, p) != 0)
         return out_of_memory();
     status = find_old(m, &old, &t.old, &number);
     if (status != DONE)
@@ -427,7 +445,8 @@ static int judge_all(struct import *m)
     j.image = to.image;
     j.length = to.length;
     j.key_size = m->key_size;
-    j.allowed = m->o->given;
+    /* A prism's readings stand within a centimetre of each other. */
+    j.allowed = m->o->given | (import_is_dated(m) ? OPTION_ALLOW_NEAR : 0);
     return judge(&j, &m->movers);
 }
 
