@@ -113,7 +113,7 @@ int run_epochs(const struct options *o)
     struct series s;
     int status = series_open(&s, o, 1);
 
-    if (s.epochs != NULL && put_epochs(&s) != DONE)
+    if (s.prisms != NULL && put_epochs(&s) != DONE)
         status = TROUBLE;
     series_close(&s);
     return finish_output(status);

@@ -50,15 +50,18 @@ static void reckon_row(struct report *r, struct row *row,
     r->standings[row->standing]++;
 }
 
-/* What is said first: the worst kind, the longest movement, the name. */
+/* What is said first: the worst kind, the longest movement in thousandths of a
+ * millimetre, the name. */
 static int by_harm(const void *a, const void *b)
 {
     const struct row *x = a, *y = b;
+    double x_long = nearbyint(x->became.move.all / MOVE_LEAST);
+    double y_long = nearbyint(y->became.move.all / MOVE_LEAST);
 
     if (x->standing != y->standing)
         return x->standing < y->standing ? -1 : 1;
-    if (x->became.move.all != y->became.move.all)
-        return x->became.move.all > y->became.move.all ? -1 : 1;
+    if (x_long != y_long)
+        return x_long > y_long ? -1 : 1;
     return spot_order(x->prism->readings, y->prism->readings);
 }
 

@@ -299,7 +299,9 @@ static const struct command commands[] = {
       "and\n"
       "where a name is not there, how many bytes of its data are dead, and how "
       "many\n"
-      "bhtf compact would free.\n"
+      "bhtf compact would free; of a file of epochs, how many more have room at "
+      "the\n"
+      "rate of the last four.\n"
       WAITING },
     { "import", OPTION_REPLACE | OPTION_UPDATE | OPTION_DROP |
                 OPTION_EPOCH | OPTION_EPOCH_UNIT |

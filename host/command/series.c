@@ -92,10 +92,13 @@ static void find_prisms(struct series *s)
     }
 }
 
-static void find_epochs(struct series *s)
+static int find_epochs(struct series *s)
 {
     size_t kept = 0;
 
+    s->epochs = calloc(s->site.count + 1, sizeof *s->epochs);
+    if (s->epochs == NULL)
+        return out_of_memory();
     for (size_t i = 0; i < s->site.count; i++)
         s->epochs[i] = reading_epoch(s, &s->site.spots[i]);
     qsort(s->epochs, s->site.count, sizeof *s->epochs, by_number);
@@ -103,37 +106,25 @@ static void find_epochs(struct series *s)
         if (i == 0 || s->epochs[i] != s->epochs[kept - 1])
             s->epochs[kept++] = s->epochs[i];
     s->epoch_count = kept;
+    return DONE;
 }
 
-/* The site's points are named, and chosen: the rest of the series. */
 static int put_in_order(struct series *s)
 {
     s->prisms = calloc(s->site.count + 1, sizeof *s->prisms);
-    s->epochs = calloc(s->site.count + 1, sizeof *s->epochs);
-    if (s->prisms == NULL || s->epochs == NULL)
+    if (s->prisms == NULL)
         return out_of_memory();
     key_length = s->site.key_size;
     if (s->site.count > 1)
         qsort(s->site.spots, s->site.count, sizeof *s->site.spots, by_key);
     find_prisms(s);
-    find_epochs(s);
     return DONE;
-}
-
-int series_of(struct series *s, struct site *site)
-{
-    memset(s, 0, sizeof *s);
-    s->site = *site;
-    memset(site, 0, sizeof *site);
-    name_readings(&s->site);
-    return put_in_order(s);
 }
 
 int series_open(struct series *s, const struct options *o, int names_only)
 {
     const char *file = o->word[0];
-    int chosen = DONE;
-    int status;
+    int status, chosen;
 
     memset(s, 0, sizeof *s);
     status = (names_only ? site_open_names : site_open)(&s->site, file,
@@ -143,10 +134,10 @@ int series_open(struct series *s, const struct options *o, int names_only)
     if (status != DONE)
         return status;
     name_readings(&s->site);
-    chosen = site_select(&s->site, o, 1);
-    if (chosen == TROUBLE)
+    if (find_epochs(s) != DONE)
         return TROUBLE;
-    status = put_in_order(s);
+    chosen = site_select(&s->site, o, 1);
+    status = chosen == TROUBLE ? TROUBLE : put_in_order(s);
     return status == DONE ? chosen : status;
 }
 

@@ -15,7 +15,7 @@ struct series {
     struct site site;       /* its points' names are without the epoch */
     struct prism *prisms;   /* in the order of their names */
     size_t count;
-    uint32_t *epochs;       /* at which a prism of these was read, in order */
+    uint32_t *epochs;       /* all that the file has, in order */
     size_t epoch_count;
 };
 
@@ -23,9 +23,6 @@ struct series {
  * words name, or of all: DONE, REFUSED after a complaint also where a word
  * names none, or TROUBLE. `names_only`: without their texts. */
 int series_open(struct series *s, const struct options *o, int names_only);
-
-/* The same of a site that is open, which becomes the series' own. */
-int series_of(struct series *s, struct site *site);
 
 void series_close(struct series *s);
 
