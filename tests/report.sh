@@ -177,6 +177,45 @@ short_names() {
 }
 test_that "whatever their length" short_names
 
+# ---- headings, parts and statuses ----
+
+test_that "a heading of unknown words is asked about" gives 2 'line 1: this may be a heading or a point: --skip 1 passes over it, --skip 0 takes' \
+  bash -c 'bhtf create h -k 20 -s 50 && printf "Matricule;Observation\nCP1;bolt\n" | bhtf import h - --columns name,note'
+test_that "nothing was stored" equal 0 "$(bhtf count h)"
+test_that "passed over" gives 0 '^1 point stored$' bash -c 'printf "Matricule;Observation\nCP1;bolt\n" | bhtf import h - --columns name,note --skip 1'
+test_that "or a point" gives 0 '^1 point stored$' bash -c 'printf "NORTHGATE;tower\n" | bhtf import h - --columns name,note --skip 0'
+test_that "with --any-text too" gives 2 'line 1: this may be a heading or a point' \
+  bash -c 'printf "Matricule;Est;Nord\nCP2;1;2\n" | bhtf import h - --columns name,easting,northing --any-text'
+test_that "a name with a digit is a point" gives 0 '^1 point stored$' bash -c 'printf "CP3;bolt\n" | bhtf import h - --columns name,note'
+test_that "and a name without a note" gives 0 '^1 point stored$' bash -c 'printf "SOUTHGATE;\n" | bhtf import h - --columns name,note'
+parts() {
+  { echo '<LandXML><Units><Metric linearUnit="meter"/></Units>'; for i in $(seq 40); do echo "<Part$i/>"; done
+    echo '<CgPoints><CgPoint name="L1">2 1 3</CgPoint></CgPoints></LandXML>'; } >parts.xml
+  bhtf import h parts.xml --landxml --allow-far >said 2>&1 && [ "$(grep -c 'Part[0-9]* not carried over' said)" -eq 32 ] &&
+    grep -q '8 other parts not carried over' said
+}
+test_that "parts of LandXML are named, and those behind as many names counted" parts
+for form in gsi landxml dxf; do
+  test_that "--$form: a point without a text is left out, with a status" gives 3 '1 point left out: no text' \
+    bash -c "rm -f left && bhtf create left -k 8 -s 9 && bhtf add left A -E 1 -N 2 && bhtf add left B --no-text && bhtf export left --$form"
+  test_that "--$form: one that is not coordinates as well" gives 3 '1 point left out: the text is not coordinates' \
+    bash -c "bhtf delete left B -q && bhtf add left B words && bhtf export left --$form"
+  test_that "--$form: without them" gives 0 'A' bash -c "bhtf delete left B -q && bhtf export left --$form"
+done
+# what import says of a point, and what diff says of it afterwards
+moves() {
+  rm -f before after && bhtf create before -k 8 -s 20 &&
+    printf 'A,1000,2000,10,\nB,1000.5,2000,,\nC,,,10,\nD,1001,2000,10,x\n' | bhtf import before - --columns PENZD -q && cp before after &&
+    printf 'A,1000.003,2000.004,10,\nB,1000.5000004,2000,,\nC,,,9.995,\nD,1001,2000,10,y\n' >moved.csv &&
+    bhtf import after moved.csv --columns PENZD --replace --dry-run >would && bhtf import after moved.csv --columns PENZD --replace -q &&
+    bhtf diff before after >became
+  equal "A: plan 5.0 mm C: height -5.0 mm" "$(sed -n 's/^moved  //p' would | sort | paste -sd' ')" &&
+    equal "A 5.0 mm: E +3.0, N +4.0, H +0.0 C 5.0 mm: H -5.0" "$(sed -n 's/^moved  //p' became | tr -s ' ' | paste -sd' ')" &&
+    equal "B D" "$(sed -n 's/^text   \([A-Z]\).*/\1/p' would | sort | paste -sd' ')" &&
+    equal "B D" "$(sed -n 's/^text   \([A-Z]\).*/\1/p' became | sort | paste -sd' ')"
+}
+test_that "import and diff have one reckoning" moves
+
 ran=$((passed + failed))
-[ "$ran" -ge 60 ] || { failed=$((failed + 1)); echo "FAILED: only $ran tests ran"; }
+[ "$ran" -ge 78 ] || { failed=$((failed + 1)); echo "FAILED: only $ran tests ran"; }
 tally

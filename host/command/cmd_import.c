@@ -156,6 +156,14 @@ static int find_delimiter(struct import *m)
 
 /* ---- a record ---- */
 
+static struct piece column(const struct import *m, int which)
+{
+    const struct piece none = { (const uint8_t *)"", 0 };
+
+    return m->columns.at[which] < 0
+        ? none : record_field(&m->record, (size_t)m->columns.at[which]);
+}
+
 /* A record like the heading, as where files were put behind each other. */
 static int is_heading_again(const struct import *m)
 {
@@ -180,6 +188,46 @@ static int ask_epochs(struct import *m)
                                     : refuse(m->o->word[0], BHTF_NO_EPOCHS);
 }
 
+static int has_digit(struct piece p)
+{
+    for (size_t i = 0; i < p.length; i++)
+        if (p.bytes[i] >= '0' && p.bytes[i] <= '9')
+            return 1;
+    return 0;
+}
+
+/* May the first line be a heading whose words nobody knows? Where coordinates
+ * are asked for a word in their place is refused anyway. Else it has words
+ * alone, and a name without a digit. */
+static int may_be_heading(const struct import *m)
+{
+    const struct record *r = &m->record;
+    int numbers = m->columns.at[EASTING] >= 0 || m->columns.at[HEIGHT] >= 0 ||
+                  import_is_dated(m);
+
+    if (m->o->given & OPTION_SKIP || r->fields != m->columns.fields ||
+        (numbers && !(m->o->given & OPTION_ANY_TEXT)) ||
+        has_digit(column(m, COLUMN_NAME)))
+        return 0;
+    for (size_t i = 0; i < r->fields; i++) {
+        const struct piece field = piece_trim(record_field(r, i));
+
+        if (field.length == 0 || is_number(field, '.') || is_number(field, ','))
+            return 0;
+    }
+    return 1;
+}
+
+static int complain_of_doubt(struct import *m)
+{
+    if (import_is_told(m))
+        complain("%s: this may be a heading or a point: --skip %lu passes over "
+                 "it, --skip %lu takes it for a point",
+                 import_place(m, m->record.line), m->record.line,
+                 m->record.line - 1);
+    return TROUBLE;
+}
+
 /* The first record settles the columns; *used says whether it was a heading. */
 static int read_first(struct import *m, int *used)
 {
@@ -187,7 +235,7 @@ static int read_first(struct import *m, int *used)
 
     *used = is_heading(&m->record);
     if (!*used && m->columns.fields != 0)
-        return ask_epochs(m);
+        return may_be_heading(m) ? complain_of_doubt(m) : ask_epochs(m);
     if (!*used)
         return complain_of_line(m, "the first line is no heading, so that "
                                    "nobody knows which column is which; say "
@@ -208,14 +256,6 @@ static void use_point(struct record *r, struct piece number)
 
     if (comma != NULL)
         *comma = '.';
-}
-
-static struct piece column(const struct import *m, int which)
-{
-    const struct piece none = { (const uint8_t *)"", 0 };
-
-    return m->columns.at[which] < 0
-        ? none : record_field(&m->record, (size_t)m->columns.at[which]);
 }
 
 /* What helps is said once. */

@@ -244,7 +244,7 @@ static int make_room(struct outcomes *all)
 }
 
 /* Keeps what would become of a point: its name, and words. */
-static int keep_outcome(struct import *m, const struct change *c,
+static int keep_outcome(struct import *m, const struct text_change *c,
                         struct texts t)
 {
     struct outcomes *all = &m->outcomes;
@@ -257,7 +257,7 @@ static int keep_outcome(struct import *m, const struct change *c,
         return out_of_memory();
     new = &all->all[all->count++];
     new->kind = c->kind;
-    new->harm = fmax(c->plan, fabs(c->height));
+    new->harm = fmax(c->move.plane, fabs(c->move.height));
     new->words = all->bytes.length;
     done = has_epoch(m)
         ? dated_show(&all->bytes, m->key.bytes, m->key_size)
@@ -324,7 +324,7 @@ static int merge(struct import *m, struct piece old, struct piece given,
 static int note_stored(struct import *m, const struct incoming *p,
                        struct texts t)
 {
-    const struct change c = change_of(t);
+    const struct text_change c = change_of(t);
 
     m->taken++;
     m->fresh += c.kind == CHANGE_NEW;
