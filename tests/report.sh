@@ -177,6 +177,28 @@ short_names() {
 }
 test_that "whatever their length" short_names
 
+# ---- the pages of the calls ----
+
+test_that "it installs" quietly make -s -C "$root/host" "${settings[@]}" SANITIZE=yes install PREFIX="$work/usr"
+test_that "each call has a page of what its header says" python3 -B "$root/tests/report/pages.py" "$root/host/include" "$work/usr/share/man/man3"
+reads() {
+  local page count=0
+  for page in usr/share/man/man3/bhtf_*.3; do
+    LC_ALL=C.UTF-8 man -l --warnings "$page" >/dev/null 2>said && [ ! -s said ] || { echo "  $page: $(head -n 2 said)"; return 1; }
+    count=$((count + 1))
+  done
+  [ "$count" -gt 40 ]
+}
+test_that "man has nothing against them" reads
+silent() {
+  sed '/^\/\* \*count is the number/d' "$root/host/include/bhtf.h" | sed '/^#define BHTF_SOUND/,/^uint32_t bhtf_lookup_slots/d' >silent.h
+  mkdir -p pages && ! awk -v header=bhtf.h -v to=pages -f "$root/host/man/calls.awk" silent.h 2>said &&
+    grep -q 'bhtf.h: nothing is said of bhtf_count' said
+}
+test_that "a call without words has none, and the build ends" silent
+uninstalls() { make -s -C "$root/host" "${settings[@]}" SANITIZE=yes uninstall PREFIX="$work/usr" && [ -z "$(find usr -type f -o -type l)" ]; }
+test_that "and goes again" uninstalls
+
 # ---- headings, parts and statuses ----
 
 test_that "a heading of unknown words is asked about" gives 2 'line 1: this may be a heading or a point: --skip 1 passes over it, --skip 0 takes' \
@@ -217,5 +239,5 @@ moves() {
 test_that "import and diff have one reckoning" moves
 
 ran=$((passed + failed))
-[ "$ran" -ge 78 ] || { failed=$((failed + 1)); echo "FAILED: only $ran tests ran"; }
+[ "$ran" -ge 83 ] || { failed=$((failed + 1)); echo "FAILED: only $ran tests ran"; }
 tally
