@@ -121,6 +121,12 @@ test_that "one of few prisms" gives 1 '' bash -c "bhtf report e 'P-0?' --from 40
 bhtf report e 'P-0?' --from 40 --to 45 --tolerance 3 --csv >sheet.csv
 test_that "to its scales" reckon sheet sheet.svg sheet.csv
 test_that "heights alone have no plan" gives 0 'no plan, since none has easting and northing' bhtf report w C --from 40 --to 45 --svg
+picture() {
+  bhtf create prisms -k 12 -s 400 && bhtf import prisms "$root/tests/report/prisms.csv" --epoch-unit week -q
+  bhtf report prisms --from 2958 --to 2967 --tolerance 3mm --sigma 0.5,0.7 --svg >prisms.svg
+  cmp prisms.svg "$root/docs/report.svg"
+}
+test_that "the picture in docs is what it draws" picture
 crowd() {
   awk 'BEGIN { print "name,epoch,easting,northing,height"; for (i = 0; i < 100; i++) for (t = 1; t < 4; t++)
     printf "Q%03d & <%d>,%d,%.4f,%.4f,%.4f\n", i, i, t, 1000 + 13 * i, 2000 + (i * 7919) % 500, 100 + t / 1000 }' >crowd.csv
@@ -239,5 +245,5 @@ moves() {
 test_that "import and diff have one reckoning" moves
 
 ran=$((passed + failed))
-[ "$ran" -ge 83 ] || { failed=$((failed + 1)); echo "FAILED: only $ran tests ran"; }
+[ "$ran" -ge 84 ] || { failed=$((failed + 1)); echo "FAILED: only $ran tests ran"; }
 tally
