@@ -161,6 +161,10 @@ test_that "a dry run says which" gives 0 '^new    D at 9$' bash -c 'printf "name
 test_that "and with --epoch" gives 0 '^new    D at 9$' bash -c 'printf "name,height\nD,1\n" | bhtf import iso - --epoch 9 --dry-run'
 test_that "what an update moves" gives 0 '^moved  B at 2: height \+2\.0 mm$' \
   bash -c 'printf "name,epoch,height\nB,2,1.002\n" | bhtf import iso - --update --dry-run'
+test_that "a line without a name" gives 1 'line 2: there is no name' bash -c 'printf "name,epoch,height\n,1,1\n" | bhtf import iso -'
+test_that "and with --epoch" gives 1 'line 2: there is no name' bash -c 'printf "name,height\n,1\n" | bhtf import iso - --epoch 1'
+test_that "a name that is too long" gives 1 'refused \(7\): A name in this file has 1 to 8 bytes' \
+  bash -c 'printf "name,epoch,height\nABCDEFGHI,1,1\n" | bhtf import iso -'
 test_that "keys without room for epochs" gives 1 'refused \(23\)' bash -c 'printf "name,epoch,height\nA,1,1\n" | bhtf import short -'
 test_that "a pattern of names" equal "B	2	1 2" "$(bhtf epochs iso 'B*')"
 
@@ -245,5 +249,5 @@ moves() {
 test_that "import and diff have one reckoning" moves
 
 ran=$((passed + failed))
-[ "$ran" -ge 84 ] || { failed=$((failed + 1)); echo "FAILED: only $ran tests ran"; }
+[ "$ran" -ge 87 ] || { failed=$((failed + 1)); echo "FAILED: only $ran tests ran"; }
 tally

@@ -157,7 +157,8 @@ static int refuse_line(struct import *m, const struct incoming *p,
         complain("%s: there is no name", import_place(m, p->line));
     else if (import_is_told(m))
         refuse_point(import_place(m, p->line), name_of(m, p, &name), number,
-                     m->key_size, number == BHTF_NO_ROOM
+                     has_epoch(m) ? m->key_size - EPOCH_SIZE : m->key_size,
+                     number == BHTF_NO_ROOM
                          ? room_by_compaction(import_target(m), &m->key, text,
                                               mode_of(m->o)) : 0);
     buffer_free(&name);
@@ -391,6 +392,8 @@ static int store_point(struct import *m, const struct incoming *p)
         return refuse_twice(m, p);
     if (p->again)
         return DONE;
+    if (p->text == p->name && has_epoch(m)) /* else the key is all zero */
+        return refuse_line(m, p, BHTF_BAD_KEY, NULL);
     if (take_key(m, p) != 0)
         return out_of_memory();
     status = find_old(m, &old, &t.old, &number);
