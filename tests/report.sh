@@ -194,12 +194,13 @@ test_that "each call has a page of what its header says" python3 -B "$root/tests
 reads() {
   local page count=0
   for page in usr/share/man/man3/bhtf_*.3; do
-    LC_ALL=C.UTF-8 man -l --warnings "$page" >/dev/null 2>said && [ ! -s said ] || { echo "  $page: $(head -n 2 said)"; return 1; }
+    { mandoc -Tlint "$page" && LC_ALL=C.UTF-8 man -l --warnings "$page" >/dev/null; } >said 2>&1 && [ ! -s said ] ||
+      { echo "  $page: $(head -n 2 said)"; return 1; }
     count=$((count + 1))
   done
   [ "$count" -gt 40 ]
 }
-test_that "man has nothing against them" reads
+test_that "man and mandoc have nothing against them" reads
 silent() {
   sed '/^\/\* \*count is the number/d' "$root/host/include/bhtf.h" | sed '/^#define BHTF_SOUND/,/^uint32_t bhtf_lookup_slots/d' >silent.h
   mkdir -p pages && ! awk -v header=bhtf.h -v to=pages -f "$root/host/man/calls.awk" silent.h 2>said &&

@@ -18,6 +18,16 @@ function escaped(line) {
   return line
 }
 
+# Words in lines of at most 78 columns.
+function print_words(page, words,   all, count, i, line) {
+  count = split(words, all, " ")
+  for (i = 1; i <= count; i++) {
+    if (line != "" && length(line) + length(all[i]) > 77) { print line >page; line = "" }
+    line = line (line == "" ? "" : " ") all[i]
+  }
+  print line >page
+}
+
 # What is in front of the first of these signs that a blank or the end follows.
 function up_to(words, signs) {
   match(words " ", signs " ")
@@ -76,7 +86,8 @@ function print_page(name, declared,   page, lines_of, i, count) {
     exit 1
   }
   print ".TH " toupper(name) " 3 \"" date "\" \"bhtf " version "\" \"Control point files\"" >page
-  print ".SH NAME\n" name " \\- " escaped(of_part ? "as " plain(name) ": " about : about) >page
+  print ".SH NAME" >page
+  print_words(page, name " \\- " escaped(of_part ? "as " plain(name) ": " about : about))
   print ".SH SYNOPSIS\n.nf\n.B #include <" header ">\n.PP" >page
   count = split(declared, lines_of, "\n")
   for (i = 1; i <= count; i++) print ".B \"" lines_of[i] "\"" >page
