@@ -161,6 +161,9 @@ test_that "a dry run says which" gives 0 '^new    D at 9$' bash -c 'printf "name
 test_that "and with --epoch" gives 0 '^new    D at 9$' bash -c 'printf "name,height\nD,1\n" | bhtf import iso - --epoch 9 --dry-run'
 test_that "what an update moves" gives 0 '^moved  B at 2: height \+2\.0 mm$' \
   bash -c 'printf "name,epoch,height\nB,2,1.002\n" | bhtf import iso - --update --dry-run'
+test_that "a place far off has its name and epoch" gives 1 'line 6: A1 at 2961: its place lies 898\.980 km away' bash -c 'bhtf create far -k 12 -s 20 &&
+  printf "name,week,easting,northing\nA1,2026-W40,1000,2000\nA2,2026-W40,1010,2010\nA3,2026-W40,1020,2000\nA4,2026-W40,1030,2005\nA1,2026-W41,900000,2000\n" |
+  bhtf import far - --epoch-unit week'
 test_that "a line without a name" gives 1 'line 2: there is no name' bash -c 'printf "name,epoch,height\n,1,1\n" | bhtf import iso -'
 test_that "and with --epoch" gives 1 'line 2: there is no name' bash -c 'printf "name,height\n,1\n" | bhtf import iso - --epoch 1'
 test_that "a name that is too long" gives 1 'refused \(7\): A name in this file has 1 to 8 bytes' \
@@ -250,5 +253,5 @@ moves() {
 test_that "import and diff have one reckoning" moves
 
 ran=$((passed + failed))
-[ "$ran" -ge 87 ] || { failed=$((failed + 1)); echo "FAILED: only $ran tests ran"; }
+[ "$ran" -ge 88 ] || { failed=$((failed + 1)); echo "FAILED: only $ran tests ran"; }
 tally

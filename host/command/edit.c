@@ -56,6 +56,7 @@ static int judge_all(struct edit *e)
     j.image = e->image.bytes;
     j.length = e->image.length;
     j.key_size = e->key_size;
+    j.dated = e->o->given & OPTION_EPOCH && e->key_size > EPOCH_SIZE;
     j.allowed = e->allowed | e->o->given;
     return judge(&j, &e->movers);
 }

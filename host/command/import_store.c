@@ -448,6 +448,7 @@ static int judge_all(struct import *m)
     j.image = to.image;
     j.length = to.length;
     j.key_size = m->key_size;
+    j.dated = has_epoch(m);
     /* A prism's readings stand within a centimetre of each other. */
     j.allowed = m->o->given | (import_is_dated(m) ? OPTION_ALLOW_NEAR : 0);
     return judge(&j, &m->movers);
