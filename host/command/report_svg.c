@@ -450,13 +450,14 @@ static double track_most(const struct track *t)
 static void draw_band(const struct track *t)
 {
     double half = t->p->r->r.tolerance / t->most * t->half;
+    double top = t->middle - t->half;
 
     if (t->p->r->o->tolerance != NULL)
         printf("<rect x=\"%.2f\" y=\"%.2f\" width=\"%.2f\" height=\"%.3f\" "
                "fill=\"#e8edf1\"/>\n", t->left + line_left, t->middle - half,
                line_right - line_left, 2 * half);
-    draw_rule(track_x(t, t->p->r->from), t->middle - t->half, 2 * t->half, thin);
-    draw_rule(track_x(t, t->p->r->to), t->middle - t->half, 2 * t->half, thin);
+    draw_rule(track_x(t, t->p->r->from), top, 2 * t->half, thin);
+    draw_rule(track_x(t, t->p->r->to), top, 2 * t->half, thin);
     printf("<line x1=\"%.2f\" y1=\"%.2f\" x2=\"%.2f\" y2=\"%.2f\" %s/>\n",
            t->left + line_left, t->middle, t->left + line_right, t->middle,
            thin);
@@ -516,7 +517,8 @@ static void draw_list_head(const struct page *p, double x)
     char words[64];
 
     svg_text(x, y, 2.8, "start", "prism and movement");
-    snprintf(words, sizeof words, "height, bars to \xC2\xB1%.10g mm", p->height_most);
+    snprintf(words, sizeof words, "height, bars to \xC2\xB1%.10g mm",
+             p->height_most);
     svg_text(x + bar_middle, y, 2.8, "middle", words);
     for (int i = 0; i < AXES; i++) {
         printf("<path d=\"M%.2f %.2f h6\" stroke-width=\".5\" %s/>\n", at,
