@@ -482,6 +482,23 @@ static void try_stages(int from, int is_recovery)
         disorder = "a write is missing";
 }
 
+/* Where the mark is 0 already, recovery writes nothing: a write that a power
+ * cut tears may leave any byte. */
+static void try_unmarked(void)
+{
+    uint32_t number;
+
+    stage = 0;
+    shared_journal[journal_len - 1] = 0;
+    protect_all(0, 0, 0);
+    number = subject.recover(shared, length, shared_journal, journal_len);
+    protect_all(1, 1, 1);
+    if (number != 0)
+        disorder = "recovery without a mark is refused";
+    else if (stage != 0)
+        disorder = "recovery writes where the mark is 0 already";
+}
+
 static int try_order(void)
 {
     size_t old_len = journal_len;
@@ -495,6 +512,8 @@ static int try_order(void)
     shared_journal[journal_len - 1] = MARK;
     if (disorder == NULL && write_count > 3)
         try_stages(1, 1);
+    if (disorder == NULL)
+        try_unmarked();
     journal_len = old_len;
     if (disorder != NULL)
         complain(disorder, write_count, 0);

@@ -1045,11 +1045,16 @@ at_a_cut "the image is written before the mark" \
 at_a_cut "the image is written before the content" \
     'mark = journal + journal_len - 1;' \
     'uint8_t *old = malloc(image_len); memcpy(old, image, image_len); memcpy(image, work, image_len); image = old; mark = journal + journal_len - 1;'
+at_a_cut "the call is made on the image itself, and the old bytes are put back" \
+    'mark = journal + journal_len - 1;' \
+    'uint8_t *old = malloc(image_len); memcpy(old, image, image_len); memcpy(image, work, image_len); memcpy(image, old, image_len); free(old); mark = journal + journal_len - 1;'
 at_a_cut "the mark is cleared before the image is written" \
     '*mark = MARK;' '*mark = MARK; write_back(image, journal); *mark = 0;'
 at_a_cut "recovery clears the mark before the image is written" \
     'if (journal[mark] == MARK)' \
     'if (journal[mark] == MARK && (journal[mark] = 0, 1))'
+at_a_cut "recovery writes 0 where it is 0 already" \
+    'if (journal[mark] != 0)' 'if (journal[mark] < 256)'
 at_a_cut "a stretch is taken for written where its first byte is" \
     'copy(image + get32(pair), from, get32(pair + 4));' \
     'if (get32(pair + 4) > 0 && image[get32(pair)] != *from) copy(image + get32(pair), from, get32(pair + 4));'

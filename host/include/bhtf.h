@@ -353,8 +353,8 @@ uint32_t bhtf_compact_journaled(uint8_t *image, size_t image_len,
  * stays. Either way the mark becomes 0, and no other byte of the journal
  * changes. To recover again changes nothing, and a recovery from a marked
  * journal that is cut is made good by the next one; where the mark is 0 already
- * there is nothing to recover, and no need to call. It asks no question of the
- * image, so that it must be this image's journal.
+ * there is nothing to recover, nothing is written, and no need to call. It asks
+ * no question of the image, so that it must be this image's journal.
  * Refused with 18 alone: the journal is of length 0; or it is marked, and its
  * content reaches the mark, or a pair leaves the image or begins before the end
  * of the one before it. No call leaves such a journal, wherever it is cut:

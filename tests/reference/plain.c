@@ -1378,6 +1378,7 @@ uint32_t plain_recover(uint8_t *image, size_t image_len, uint8_t *journal,
         return 18;
     if (journal[mark] == MARK)
         write_back(image, journal);
-    journal[mark] = 0;
+    if (journal[mark] != 0)
+        journal[mark] = 0;
     return ACCEPTED;
 }

@@ -15,12 +15,12 @@ use lib.Seq.{drop-cons, drop-length}
 use borrow.Author.Tests.{le-leb, lt-leb}
 use Rattle.spec_file.specs.Bytes.{Bytes, part, store, digits}
 use Rattle.spec_file.specs.Image.{setField}
-use Rattle.spec_changes.specs.Changes.{Pair, joined, runs, pairBytes, whole, changesIn}
+use Rattle.spec_changes.specs.Changes.{Pair, joined, runs, pairBytes, whole, changesIn, Spread}
 use Rattle.spec_changes.specs.Journal.{newBytes, total}
 use Rattle.law_file.proofs.Tests.{by-le}
 use Rattle.law_file.proofs.Bytes.{length-digits, length-store}
 use Rattle.law_file.proofs.Stores.{store-none, store-append}
-use Rattle.spec_changes.proofs.Changes.{joined-next, joined-apart, runs-same, runs-differ, Spread, spread-runs}
+use Rattle.spec_changes.proofs.Changes.{joined-next, joined-apart, runs-same, runs-differ, spread-runs}
 use Rattle.changes_windows.specs.Scans.{rest, Differ, ToChange, RunTo, Measured}
 
 module _ (old new : Bytes) (l : length old ≡ length new) where

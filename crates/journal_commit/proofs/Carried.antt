@@ -13,12 +13,12 @@ use lib.Dec.{leb, eqb}
 use borrow.Author.Tests.{le-leb, lt-leb, leb-true, eq-eqb, ne-eqb}
 use Rattle.spec_file.specs.Bytes.{Bytes, store, digits}
 use Rattle.spec_file.specs.Image.{setField}
-use Rattle.spec_changes.specs.Changes.{Pair, runs, pairBytes}
+use Rattle.spec_changes.specs.Changes.{Pair, runs, pairBytes, Spread}
 use Rattle.spec_changes.specs.Journal.{newBytes, content, markPlace, mark, marked, journalAllowed, Disk, Block, Write, toJournal, put, written, allWritten, stretches, toImages, setMark, updates, pairCount, bytesStart, blocksOf, total, journalSound, recoveries}
 use Rattle.law_file.proofs.Tests.{and-left}
 use Rattle.law_file.proofs.Bytes.{length-digits, length-store}
 use Rattle.law_file.proofs.Stores.{store-append}
-use Rattle.spec_changes.proofs.Changes.{Spread, runs-spread, runs-few}
+use Rattle.spec_changes.proofs.Changes.{runs-spread, runs-few}
 use Rattle.spec_changes.proofs.Journal.{length-pairBytes, length-content, Holds, holds-content, holds-mark, content-count, content-blocks, content-sound}
 use Rattle.spec_file.specs.Calls.{settled}
 use Rattle.law_file.proofs.Outcomes.{settled-no}

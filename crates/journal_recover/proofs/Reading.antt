@@ -1,10 +1,9 @@
 -- A journal read pair by pair.
 --     left j i             the pairs from number i on
 --     left-step, left-end  pair i and those behind it; none behind the last
---     Back                 blocks written to the image up to pair i, with its turns
---     Asking               what is left of the test on content and pairs, with its turns
+--     asking               what is left of the test on content and pairs, with its turns
 -- Assumes nothing.
-use mathlib.Core.Path.{_≡_, refl, sym, ap, ap₂, _∙_, subst}
+use mathlib.Core.Path.{_≡_, refl, ap, ap₂, _∙_}
 use Prim.Native.Nat.{ℕ, zero, suc, _+_, _-_, _*_, _≤_, _<_}
 use native.Mathlib.Omega.{arith}
 use mathlib.Core.Bool.{Bool, true, false, _&&_, and-false}
@@ -13,12 +12,11 @@ use lib.ListN.{length, take, drop}
 use lib.Seq.{drop-drop}
 use lib.Dec.{leb}
 use borrow.Author.Tests.{le-leb, lt-leb, leb-true}
-use Rattle.spec_file.specs.Bytes.{Bytes, part, store, number}
+use Rattle.spec_file.specs.Bytes.{Bytes, part, number}
 use Rattle.spec_file.specs.Image.{field}
 use Rattle.spec_changes.specs.Changes.{Pair}
-use Rattle.spec_changes.specs.Journal.{Block, put, putAll, blocks, pairCount, pairsFrom, pairsOf, bytesStart, blocksOf, total, contentInside, inOrder, journalSound}
+use Rattle.spec_changes.specs.Journal.{pairCount, pairsFrom, pairsOf, bytesStart, total, contentInside, inOrder, journalSound}
 use Rattle.law_file.proofs.Tests.{and-left, and-right}
-use Rattle.law_file.proofs.Bytes.{part-length, length-store}
 
 -- the count is the first number
 pub count-field : (j : Bytes) → field j 0 ≡ pairCount j
@@ -56,14 +54,14 @@ pub left-all : (j : Bytes) → pairsOf j ≡ left j 0
 unfolding pairsOf
 left-all j = let e : pairCount j ≡ pairCount j - 0 = omega arith in ap (λ (n : ℕ). pairsFrom n (drop 4 j)) e
 
--- ---- the image written from the journal
+-- ---- room and place
 
 -- every pair lies in an image of so many bytes
 abbrev pub Inside : ℕ → List Pair → Type 0
 Inside L [] = Unit {0}
 Inside L (r ∷ rs) = (r .at + r .size ≤ L) × Inside L rs
 
-order-inside : (L from : ℕ) (rs : List Pair) → inOrder L from rs ≡ true → Inside L rs
+pub order-inside : (L from : ℕ) (rs : List Pair) → inOrder L from rs ≡ true → Inside L rs
 unfolding inOrder
 order-inside L from [] h = tt
 order-inside L from (r ∷ rs) h =
@@ -71,13 +69,6 @@ order-inside L from (r ∷ rs) h =
       leb-true (r .at + r .size) L (and-left (leb (r .at + r .size) L) (inOrder L (r .at + r .size) rs) b),
       order-inside L (r .at + r .size) rs (and-right (leb (r .at + r .size) L) (inOrder L (r .at + r .size) rs) b),
     )
-
-pub record Back (img₀ j : Bytes) (n : ℕ) (img : Bytes) (from i : ℕ) : Type 0 where
-  pub low : i ≤ n
-  pub size : length img ≡ length img₀
-  pub room : from + total (left j i) + 1 ≤ length j
-  pub inside : Inside (length img₀) (left j i)
-  pub written : putAll img (take (n - i) (blocks (left j i) (drop from j))) ≡ putAll img₀ (take n (blocksOf j))
 
 -- what a sound journal has room for: its count, and its pairs
 pub sound-room : (L : ℕ) (j : Bytes) → journalSound L j ≡ true
@@ -90,76 +81,6 @@ sound-room L j h =
 pub sound-start : (L : ℕ) (j : Bytes) → journalSound L j ≡ true → 4 + 8 * pairCount j + 1 ≤ length j
 unfolding bytesStart
 sound-start L j h = omega (arith, sound-room L j h)
-
-pub back-start : (img j : Bytes) (n : ℕ) → journalSound (length img) j ≡ true → n ≤ pairCount j
-    → Back img j n img (4 + 8 * pairCount j) 0
-unfolding journalSound bytesStart blocksOf
-back-start img j n h k =
-    let all = left-all j in
-    let none′ : n - 0 ≡ n = omega arith in
-    record {
-      low = omega arith;
-      size = refl;
-      room =
-          subst (λ (l : List Pair). 4 + 8 * pairCount j + total l + 1 ≤ length j) all
-          (sound-room (length img) j h);
-      inside =
-          subst (Inside (length img)) all
-          (order-inside (length img) 0 (pairsOf j)
-          (and-right (contentInside j) (inOrder (length img) 0 (pairsOf j)) h));
-      written =
-          ap₂ (λ (m : ℕ) (l : List Pair). putAll img (take m (blocks l (drop (4 + 8 * pairCount j) j)))) none′
-          (sym all);
-    }
-
--- the pair at hand, and what is left behind it
-module _ (img₀ j : Bytes) (n : ℕ) (few : n ≤ pairCount j) (img : Bytes) (from i : ℕ) (b : Back img₀ j n img from i)
-    (h : i < n) where
-  abbrev r : Pair
-  r = pairAt j i
-
-  step : left j i ≡ r ∷ left j (i + 1)
-  step = left-step j i (omega arith)
-
-  pub back-inside : pairAt j i .at + pairAt j i .size ≤ length img
-  back-inside =
-      let s = subst (Inside (length img₀)) step (b .inside) in
-      omega (arith, s .0, b .size)
-
-  pub back-room : from + pairAt j i .size + total (left j (i + 1)) + 1 ≤ length j
-  unfolding total
-  back-room =
-      let s = subst (λ (l : List Pair). from + total l + 1 ≤ length j) step (b .room) in
-      omega (arith, s)
-
-  pub back-more : (img′ : Bytes) → img′ ≡ store img (pairAt j i .at) (part j from (pairAt j i .size))
-      → Back img₀ j n img′ (from + pairAt j i .size) (i + 1)
-  unfolding blocks putAll put part
-  back-more img′ e =
-      let m : ℕ = n - (i + 1) in
-      let more : n - i ≡ suc m = omega arith in
-      let v : Bytes = part j from (r .size) in
-      let long : length v ≡ r .size = part-length j from (r .size) (omega (arith, back-room)) in
-      record {
-        low = omega arith;
-        size =
-            ap (λ (x : Bytes). length x) e
-            ∙ length-store img (r .at) v (omega (arith, back-inside, long))
-            ∙ b .size;
-        room = back-room;
-        inside = subst (Inside (length img₀)) step (b .inside) .1;
-        written =
-            ap₂ (λ (x y : Bytes). putAll x (take m (blocks (left j (i + 1)) y))) e (sym (drop-drop (r .size) from j))
-            ∙ sym (ap₂ (λ (k : ℕ) (l : List Pair). putAll img (take k (blocks l (drop from j)))) more step)
-            ∙ b .written;
-      }
-
-pub back-end : (img₀ j : Bytes) (n : ℕ) (img : Bytes) (from i : ℕ) → Back img₀ j n img from i → n ≤ i
-    → img ≡ putAll img₀ (take n (blocksOf j))
-unfolding putAll
-back-end img₀ j n img from i b h =
-    let none′ : n - i ≡ 0 = omega arith in
-    ap (λ (k : ℕ). putAll img (take k (blocks (left j i) (drop from j)))) (sym none′) ∙ b .written
 
 -- ---- the test on content and pairs
 

@@ -1,12 +1,13 @@
 -- Recovery as the code does it, case by case.
 --     is-marked, is-other          the last byte, and whether it is the mark
---     recover-empty, recover-unsound, recover-other, recover-marked      what recovery answers and leaves
+--     recover-empty, recover-unsound, recover-none, recover-other, recover-marked      what recovery answers and leaves
 -- Assumes nothing.
-use mathlib.Core.Path.{_≡_, refl, sym, ap, ap₂, _∙_}
+use mathlib.Core.Path.{_≡_, refl, sym, ap, ap₂, _∙_, subst}
 use Prim.Native.Nat.{ℕ, _-_, _≤_, _<_}
 use native.Mathlib.Omega.{arith}
 use mathlib.Core.Bool.{Bool, true, false, cond, not, _&&_, _||_}
 use lib.ListN.{length, take, set, getD}
+use lib.Seq.{set-getD}
 use borrow.Author.Tests.{le-leb, lt-leb, eq-eqb, ne-eqb}
 use Rattle.spec_file.specs.Bytes.{Bytes}
 use Rattle.spec_changes.specs.Journal.{markPlace, mark, marked, Disk, allWritten, pairCount, isMarked, journalSound, recoverNumber, recovered, recoveries}
@@ -58,6 +59,17 @@ recover-other img j some m = (
       ap₂ (λ (a b : Bool). cond (a && (not b || journalSound (length img) j)) 0 18) (le-leb 1 (length j) some) m),
   updates-as (recovered-other img j some m) refl (mark-stored j j 0 refl some),
 )
+
+-- a mark that is 0 already
+pub recover-none : (img j : Bytes) → 1 ≤ length j → getD j (length j - 1) 0 ≡ 0 → Recovers img j 0 img j
+recover-none img j some z =
+    let same : set j (length j - 1) 0 ≡ j =
+    ap (set j (length j - 1)) (sym z) ∙ set-getD j (length j - 1) 0 in
+    subst (Recovers img j 0 img) same
+    (recover-other img j some (is-other j (λ m. not-marked (sym z ∙ m))))
+  where
+    not-marked : _≡_ {A = ℕ} 0 165 → ⊥
+    not-marked e = omega arith
 
 pub recover-marked : (img j : Bytes) → 1 ≤ length j → isMarked j ≡ true → journalSound (length img) j ≡ true
     → (n : ℕ) → pairCount j < n → (img′ j′ : Bytes)

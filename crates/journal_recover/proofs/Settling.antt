@@ -1,5 +1,5 @@
 -- The writes that a marked journal asks for, as the code does them.
---     settled-some, settled-all      the first n of them, for every n
+--     settled-all                    all of them
 --     take-beyond                    more than all are all
 --     updates-as, updates-same       image and journal, as equations
 --     mark-stored                    a mark of any value set
@@ -9,7 +9,6 @@ use Prim.Native.Nat.{ℕ, zero, suc, _-_, _≤_, _<_}
 use native.Mathlib.Omega.{arith}
 use mathlib.Core.List.{List, [], _∷_, _++_}
 use lib.ListN.{length, take, drop, set}
-use lib.Seq.{take-all}
 use Rattle.spec_file.specs.Bytes.{Bytes, store}
 use Rattle.spec_changes.specs.Changes.{Pair}
 use Rattle.spec_changes.specs.Journal.{markPlace, Disk, Block, Write, toImage, put, written, allWritten, putAll, toImages, setMark, pairCount, pairsFrom, pairsOf, bytesStart, blocks, blocksOf, recoveries}
@@ -17,20 +16,7 @@ use Rattle.spec_changes.proofs.Recovery.{images-then}
 use Rattle.bytes_words.proofs.Numbers.{set-store}
 use Rattle.journal_recover.specs.Updates.{Updates}
 
--- ---- writes to the image
-
-images-only : (bs : List Block) (img j : Bytes)
-    → allWritten (toImages bs) (record { image = img; journal = j }) ≡ record { image = putAll img bs; journal = j }
-unfolding allWritten toImages written putAll
-images-only [] img j = refl
-images-only (b ∷ bs) img j = images-only bs (put img b) j
-
-take-images : (k : ℕ) (bs : List Block) (w : Write) → k ≤ length bs
-    → take k (toImages bs ++ (w ∷ [])) ≡ toImages (take k bs)
-unfolding toImages
-take-images zero bs w h = refl
-take-images (suc k) [] w h = absurd (omega arith)
-take-images (suc k) (b ∷ bs) w h = ap (λ (t : List Write). toImage b ∷ t) (take-images k bs w (omega arith))
+-- ---- how many they are
 
 pub take-beyond : (k : ℕ) (bs : List Block) (w : Write) → length bs < k
     → take k (toImages bs ++ (w ∷ [])) ≡ toImages bs ++ (w ∷ [])
@@ -60,23 +46,11 @@ length-blocksOf j =
     length-blocks (pairsFrom (pairCount j) (drop 4 j)) (drop (bytesStart (pairCount j)) j)
     ∙ length-pairs (pairCount j) (drop 4 j)
 
-pub all-blocks : (j : Bytes) (n : ℕ) → n ≡ pairCount j → take n (blocksOf j) ≡ blocksOf j
-all-blocks j n e = take-all n (blocksOf j) (omega (arith, length-blocksOf j))
-
--- ---- the first n writes
+-- ---- all of them
 
 module _ (img j : Bytes) where
   abbrev begun : Disk
   begun = record { image = img; journal = j }
-
-  pub settled-some : (n : ℕ) → n ≤ pairCount j
-      → allWritten (take n (recoveries j)) (record { image = img; journal = j })
-      ≡ record { image = putAll img (take n (blocksOf j)); journal = j }
-  unfolding recoveries
-  settled-some n h =
-      ap (λ (ws : List Write). allWritten ws begun)
-      (take-images n (blocksOf j) (setMark 0 j) (omega (arith, length-blocksOf j)))
-      ∙ images-only (take n (blocksOf j)) img j
 
   pub settled-all : (n : ℕ) → pairCount j < n
       → allWritten (take n (recoveries j)) (record { image = img; journal = j })

@@ -1,8 +1,6 @@
 -- The list of changes: where its stretches lie, what they cover, and that copying them makes the old image the new one.
---     Spread k top rs      stretches from k on, below top, none empty, with a byte between any two
---     spread-runs          the runs are so
+--     spread-runs          the runs lie apart from one another
 --     covered-runs         a byte is listed exactly when its value changed: nothing shorter would do
---     Near rs img new      img is as long as new, and equal to new outside the stretches rs
 --     near-copy, near-any, near-none      one stretch copied leaves the others; any bytes may stand in a stretch; no
 --                          stretch left is equality
 --     copied-changes       copying the listed stretches of the new image into the old one gives the new one
@@ -18,7 +16,7 @@ use lib.Seq.{getD-take, getD-drop, ext-getD, length-take-le}
 use lib.Dec.{leb, ltb, eqb}
 use borrow.Author.Tests.{le-leb, lt-leb, lt-ltb, le-ltb, eq-eqb, ne-eqb, eqb-true, not-false}
 use Rattle.spec_file.specs.Bytes.{Bytes, part, store}
-use Rattle.spec_changes.specs.Changes.{Pair, joined, runs, covered, whole, changesIn, copied}
+use Rattle.spec_changes.specs.Changes.{Pair, joined, runs, covered, Spread, Near, whole, changesIn, copied}
 use Rattle.law_file.proofs.Tests.{by-bool, by-le, by-eq, or-no}
 use Rattle.law_file.proofs.Bytes.{part-length, length-store, part-store-inside, part-store-other}
 use Rattle.law_file.proofs.Byte.{byte-part, byte-store-below, byte-store-above, byte-store-inside}
@@ -51,10 +49,6 @@ runs-differ k a b old new e =
     ap (λ (t : Bool). cond t (runs (suc k) old new) (joined k (runs (suc k) old new))) (ne-eqb a b e)
 
 -- ---- where the stretches lie
-
-abbrev pub Spread : ℕ → ℕ → List Pair → Type 0
-Spread k top [] = Unit {0}
-Spread k top (r ∷ rs) = (k ≤ r .at) × (0 < r .size) × (r .at + r .size ≤ top) × Spread (suc (r .at + r .size)) top rs
 
 pub spread-from : (j k top : ℕ) (rs : List Pair) → j ≤ k → Spread k top rs → Spread j top rs
 spread-from j k top [] h s = tt
@@ -210,10 +204,6 @@ covered-runs k (a ∷ old) (b ∷ new) i l =
         ∙ ap (covered (runs (suc k) old new)) m ∙ ih i
 
 -- ---- near
-
-pub record Near (rs : List Pair) (img new : Bytes) : Type 0 where
-  pub size : length img ≡ length new
-  pub outside : (i : ℕ) → covered rs i ≡ false → getD img i 0 ≡ getD new i 0
 
 pub near-none : (img new : Bytes) → Near [] img new → img ≡ new
 near-none img new h = ext-getD 0 img new (h .size) (λ i l. h .outside i (unfold covered in refl))

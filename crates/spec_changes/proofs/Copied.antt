@@ -13,10 +13,10 @@ use mathlib.Core.Logic.{_⊎_, inl, inr}
 use lib.ListN.{length, getD}
 use lib.Seq.{ext-getD}
 use Rattle.spec_file.specs.Bytes.{Bytes, part, store}
-use Rattle.spec_changes.specs.Changes.{Pair, covered, copied}
+use Rattle.spec_changes.specs.Changes.{Pair, covered, copied, Near}
 use Rattle.law_file.proofs.Tests.{by-bool, by-le, by-either, or-no}
 use Rattle.law_file.proofs.Bytes.{part-length, length-store}
-use Rattle.spec_changes.proofs.Changes.{inside, inside-yes, inside-below, inside-above, covered-cons, Near}
+use Rattle.spec_changes.proofs.Changes.{inside, inside-yes, inside-below, inside-above, covered-cons}
 use Rattle.law_file.proofs.Byte.{byte-part, byte-store-below, byte-store-above, byte-store-inside}
 
 abbrev pub Within : ℕ → List Pair → Type 0

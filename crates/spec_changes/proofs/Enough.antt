@@ -11,9 +11,9 @@ use mathlib.Core.List.{List, [], _∷_}
 use lib.ListN.{length}
 use borrow.Author.Tests.{le-leb}
 use Rattle.spec_file.specs.Bytes.{Bytes}
-use Rattle.spec_changes.specs.Changes.{Pair, runs, whole, changesIn}
+use Rattle.spec_changes.specs.Changes.{Pair, runs, whole, changesIn, Spread}
 use Rattle.spec_changes.specs.Journal.{bytesStart, total, content}
-use Rattle.spec_changes.proofs.Changes.{Spread, runs-spread}
+use Rattle.spec_changes.proofs.Changes.{runs-spread}
 use Rattle.spec_changes.proofs.Journal.{length-content}
 
 -- stretches and the bytes between them lie below the top

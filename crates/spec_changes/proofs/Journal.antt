@@ -13,11 +13,10 @@ use lib.Seq.{take-at, drop-at, drop-drop, length-take-le, take-length}
 use lib.Dec.{leb}
 use borrow.Author.Tests.{le-leb}
 use Rattle.spec_file.specs.Bytes.{Bytes, part, store, number, digits}
-use Rattle.spec_changes.specs.Changes.{Pair, runs, pairBytes}
+use Rattle.spec_changes.specs.Changes.{Pair, runs, pairBytes, Spread}
 use Rattle.spec_changes.specs.Journal.{newBytes, content, markPlace, Block, stretches, blocks, pairCount, pairsFrom, pairsOf, bytesStart, blocksOf, total, contentInside, inOrder, journalSound}
 use Rattle.law_file.proofs.Bytes.{part-length, length-digits, number-digits-fits, length-store}
 use Rattle.law_file.proofs.Stores.{take-store}
-use Rattle.spec_changes.proofs.Changes.{Spread}
 
 -- ---- lengths
 

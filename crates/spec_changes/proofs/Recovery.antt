@@ -18,13 +18,13 @@ use lib.Dec.{leb, eqb}
 use borrow.Author.Tests.{le-leb, leb-true, eqb-true}
 use Rattle.spec_file.specs.Bytes.{Bytes, part, store}
 use Rattle.spec_file.specs.Calls.{settled}
-use Rattle.spec_changes.specs.Changes.{Pair, runs, copied}
+use Rattle.spec_changes.specs.Changes.{Pair, runs, copied, Spread, Near}
 use Rattle.spec_changes.specs.Journal.{newBytes, content, markPlace, mark, marked, journalAllowed, Disk, Block, Write, toJournal, toImage, put, written, allWritten, putAll, stretches, toImages, setMark, updates, spoiltBytes, spoiltBlock, spoilt, cutAfter, blocksOf, isMarked, journalSound, recoverNumber, recovered, recoveries, Safe, CutSafe}
 use Rattle.law_file.proofs.Tests.{by-bool, by-eq, and-left, and-right, and-true}
 use Rattle.law_file.proofs.Bytes.{part-length, length-store}
 use Rattle.law_file.proofs.Stores.{store-inner}
 use Rattle.law_file.proofs.Outcomes.{settled-yes, settled-no}
-use Rattle.spec_changes.proofs.Changes.{Spread, Near, near-none, near-more, near-any, near-copy, near-runs, copied-near, runs-spread, runs-few}
+use Rattle.spec_changes.proofs.Changes.{near-none, near-more, near-any, near-copy, near-runs, copied-near, runs-spread, runs-few}
 use Rattle.law_file.proofs.Byte.{byte-store-above, byte-store-inside}
 use Rattle.spec_changes.proofs.Journal.{Holds, holds-content, holds-mark, content-blocks, content-sound}
 
@@ -53,12 +53,12 @@ abbrev pub unmarked : Bytes → Bytes
 unmarked j = store j (markPlace j) (0 ∷ [])
 
 module _ (img j : Bytes) (some : 1 ≤ length j) where
-  number-other : isMarked j ≡ false → recoverNumber (length img) j ≡ 0
+  pub number-other : isMarked j ≡ false → recoverNumber (length img) j ≡ 0
   unfolding recoverNumber
   number-other no′ =
       ap₂ (λ (a b : Bool). cond (a && (not b || journalSound (length img) j)) 0 18) (le-leb 1 (length j) some) no′
 
-  number-marked : isMarked j ≡ true → journalSound (length img) j ≡ true → recoverNumber (length img) j ≡ 0
+  pub number-marked : isMarked j ≡ true → journalSound (length img) j ≡ true → recoverNumber (length img) j ≡ 0
   unfolding recoverNumber
   number-marked yes′ s =
       ap₂ (λ (a b : Bool). cond (a && (not b || journalSound (length img) j)) 0 18) (le-leb 1 (length j) some) yes′

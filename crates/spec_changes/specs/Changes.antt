@@ -2,13 +2,15 @@
 -- it. All of it speaks of two strings of bytes, the image before and after, whatever the call was.
 --     runs k old new        the runs of changed bytes; the first byte of both is byte k of an image
 --     changesIn room ..     the pairs that a list of so many bytes takes
+--     Spread, Near          stretches apart from one another; two images that are equal outside of stretches
 --     copied rs new img     img with the stretches rs of new copied into it
 --     listed call ..        the form with a working slice and a list, of any call on an image
 -- Assumes nothing.
-use Prim.Native.Nat.{ℕ, zero, suc, _+_, _*_}
+use mathlib.Core.Path.{_≡_}
+use Prim.Native.Nat.{ℕ, zero, suc, _+_, _*_, _≤_, _<_}
 use mathlib.Core.Bool.{Bool, true, false, cond, _&&_, _||_}
 use mathlib.Core.List.{List, [], _∷_, _++_}
-use lib.ListN.{length}
+use lib.ListN.{length, getD}
 use lib.Dec.{leb, ltb, eqb}
 use Rattle.spec_file.specs.Bytes.{Bytes, part, store, digits}
 use Rattle.spec_file.specs.Calls.{Outcome, settled}
@@ -40,6 +42,16 @@ runs k (a ∷ old) (b ∷ new) =
 unfoldable pub covered : List Pair → ℕ → Bool
 covered [] i = false
 covered (r ∷ rs) i = (leb (r .at) i && ltb i (r .at + r .size)) || covered rs i
+
+-- stretches from k on, below top, in order, none empty, with a byte between any two
+abbrev pub Spread : ℕ → ℕ → List Pair → Type 0
+Spread k top [] = Unit {0}
+Spread k top (r ∷ rs) = (k ≤ r .at) × (0 < r .size) × (r .at + r .size ≤ top) × Spread (suc (r .at + r .size)) top rs
+
+-- img is as long as new, and equal to it outside of the stretches
+pub record Near (rs : List Pair) (img new : Bytes) : Type 0 where
+  pub size : length img ≡ length new
+  pub outside : (i : ℕ) → covered rs i ≡ false → getD img i 0 ≡ getD new i 0
 
 -- ---- the list
 

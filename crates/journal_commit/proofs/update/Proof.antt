@@ -84,7 +84,7 @@ carry-out-requires c κs =
     let E = c .before .before in
     let M = E .before .before .before in
     let S = start M in
-    (S .pre .0, S .pre .1, M .measure .ensures .counted, allowed E)
+    (S .pre .0, S .pre .1, M .measure .ensures .counted, allowed E, omega arith)
 
 same-length-3 : tie.Need-same-length-3
 same-length-3 c = search needs

@@ -1,4 +1,4 @@
--- By the last byte: none, no mark, a mark over what is not sound, a mark. Assumes nothing.
+-- By the last byte: none, 0, no mark, a mark over what is not sound, a mark. Assumes nothing.
 use Prim.Native.Nat.{_+_}
 use native.Mathlib.Omega.{arith}
 use mathlib.Core.Path.{_≡_, _∙_}
@@ -8,7 +8,7 @@ use borrow.Author.Needs.{needs}
 use Rattle.spec_changes.specs.Journal.{pairCount, journalSound}
 use Rattle.law_file.proofs.Tests.{was-no, was-yes}
 use Rattle.journal_recover.proofs.Reading.{count-field, sound-start}
-use Rattle.journal_recover.proofs.Recovering.{is-marked, is-other, recover-empty, recover-unsound, recover-other, recover-marked}
+use Rattle.journal_recover.proofs.Recovering.{is-marked, is-other, recover-empty, recover-unsound, recover-none, recover-other, recover-marked}
 use Rattle.journal_recover.proofs.recover.Statement.{statement}
 use Rattle.journal_recover.proofs.recover.Tie as tie
 
@@ -23,18 +23,27 @@ sub-last c = search needs
 slice-read-if2 : tie.Need-slice-read-if2
 slice-read-if2 c = search needs
 
+returns-2 : tie.Need-returns-2
+returns-2 c =
+    let E = c .before .before in
+    let S = E .before .before .before in
+    recover-none (S .args .image .now) (S .args .journal .now) (omega (arith, E .if1 .left)) (c .if2 .taken)
+
+slice-read-if3 : tie.Need-slice-read-if3
+slice-read-if3 c = search needs
+
 slice-write-journal : tie.Need-slice-write-journal
 slice-write-journal c = search needs
 
 same-length : tie.Need-same-length
 same-length c = search needs
 
-returns-2 : tie.Need-returns-2
-returns-2 c =
-    let E = c .before .before in
+returns-3 : tie.Need-returns-3
+returns-3 c =
+    let E = c .before .before .before .before in
     let S = E .before .before .before in
     recover-other (S .args .image .now) (S .args .journal .now) (omega (arith, E .if1 .left))
-    (is-other (S .args .journal .now) (c .if2 .taken))
+    (is-other (S .args .journal .now) (c .if3 .taken))
 
 journal-sound-requires : tie.Need-journal-sound-requires
 journal-sound-requires c κs = search needs
@@ -43,27 +52,27 @@ same-length-2 : tie.Need-same-length-2
 same-length-2 c = search needs
 
 -- where the last byte was looked at, and the start
-abbrev looked : tie.After-journal-sound → tie.Else2
+abbrev looked : tie.After-journal-sound → tie.Else3
 looked J = J .before .before
 
 abbrev some : tie.After-journal-sound → tie.Else1
-some J = looked J .before .before
+some J = looked J .before .before .before .before
 
 abbrev start : tie.After-journal-sound → tie.Start
 start J = some J .before .before .before
 
-returns-3 : tie.Need-returns-3
-returns-3 c =
+returns-4 : tie.Need-returns-4
+returns-4 c =
     let J = c .before in
     let S = start J in
     recover-unsound (S .args .image .now) (S .args .journal .now) (omega (arith, some J .if1 .left))
-    (is-marked (S .args .journal .now) (looked J .if2 .left)) (was-no (J .journal-sound .ensures) (c .if3 .taken))
+    (is-marked (S .args .journal .now) (looked J .if3 .left)) (was-no (J .journal-sound .ensures) (c .if4 .taken))
 
 -- the journal is sound
-sound : (E : tie.Else3)
+sound : (E : tie.Else4)
     → let S : tie.Start = start (E .before) in
     journalSound (length (S .args .image .now)) (S .args .journal .now) ≡ true
-sound E = was-yes (E .before .journal-sound .ensures) (E .if3 .left)
+sound E = was-yes (E .before .journal-sound .ensures) (E .if4 .left)
 
 read-u32-requires : tie.Need-read-u32-requires
 read-u32-requires c κs =
@@ -85,7 +94,7 @@ add-settle c = search needs
 settle-requires : tie.Need-settle-requires
 settle-requires c κs =
     let R = c .before .before in
-    (sound (R .before .before), counted R)
+    (sound (R .before .before), counted R, omega arith)
 
 same-length-3 : tie.Need-same-length-3
 same-length-3 c = search needs
@@ -93,15 +102,15 @@ same-length-3 c = search needs
 same-length-4 : tie.Need-same-length-4
 same-length-4 c = search needs
 
-returns-4 : tie.Need-returns-4
-returns-4 c =
+returns-5 : tie.Need-returns-5
+returns-5 c =
     let W = c .before .before .before .before in
     let R = W .before .before .before in
     let E = R .before .before in
     let J = E .before in
     let S = start J in
     recover-marked (S .args .image .now) (S .args .journal .now) (omega (arith, some J .if1 .left))
-    (is-marked (S .args .journal .now) (looked J .if2 .left)) (sound E) (R .read-u32 .result + 1)
+    (is-marked (S .args .journal .now) (looked J .if3 .left)) (sound E) (R .read-u32 .result + 1)
     (omega (arith, counted R))
     (W .settle .last .0) (W .settle .last .1 .0) (W .settle .ensures)
 
@@ -112,16 +121,18 @@ recover-spec =
     returns
     sub-last
     slice-read-if2
+    returns-2
+    slice-read-if3
     slice-write-journal
     same-length
-    returns-2
+    returns-3
     journal-sound-requires
     same-length-2
-    returns-3
+    returns-4
     read-u32-requires
     cast-pairs
     add-settle
     settle-requires
     same-length-3
     same-length-4
-    returns-4)
+    returns-5)

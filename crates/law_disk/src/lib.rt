@@ -1,0 +1,1 @@
+// What crates/spec_disk promises of a disk, proved. It holds no code.
