@@ -49,8 +49,29 @@ gives() {
   fi
 }
 
-# same NAME EXPECTED ACTUAL
-same() { if [ "$2" = "$3" ]; then pass "$1"; else fail "$1" "expected '$2', got '$3'"; fi; }
+# same NAME EXPECTED ACTUAL: and there is something
+same() { if [ -n "$2" ] && [ "$2" = "$3" ]; then pass "$1"; else fail "$1" "expected '$2', got '$3'"; fi; }
+
+# none NAME ACTUAL: nothing is printed. So would a command that does nothing; beside each stands a test that this one fails.
+none() { if [ -z "$2" ]; then pass "$1"; else fail "$1" "got '$2'"; fi; }
+
+# alike ONE OTHER: two files, or what two commands print, are the same bytes, and there are some
+alike() {
+  cat "$1" >"$work/.one"
+  cat "$2" >"$work/.other"
+  [ -s "$work/.one" ] && cmp "$work/.one" "$work/.other"
+}
+
+# words_of NUMBER: what the library says of an answer
+words_of() {
+  python3 -c 'import ctypes, sys
+f = ctypes.CDLL(sys.argv[1]).bhtf_message
+f.restype = ctypes.c_char_p
+print(f(int(sys.argv[2])).decode())' "$work/gcc/libbhtf.so" "$1"
+}
+
+# opened FILE N: so many processes have it open
+opened() { [ "$(find /proc/[0-9]*/fd -lname "$PWD/$1" 2>/dev/null | cut -d/ -f3 | sort -u | wc -l)" -ge "$2" ]; }
 
 # until COMMAND..: waits up to 10 s for it to succeed
 until_true() {
@@ -234,7 +255,7 @@ gives "delete" 0 '' bhtf delete a CP-2
 gives "it is gone" 1 'refused \(14\)' bhtf get a CP-2
 gives "count" 0 '^5$' bhtf count a
 gives "the file is sound" 0 '^sound: 5 points$' bhtf check a
-same "check --quiet" '' "$(bhtf check a --quiet)"
+none "check --quiet" "$(bhtf check a --quiet)"
 
 bhtf create tiny --key-size 1 --slots 2 --size 8192
 bhtf add tiny a x
@@ -302,7 +323,7 @@ gives "another text comes out in a column of its own" 0 '^note,,,,,"free, text"$
 bhtf delete csv note
 bhtf create csv3
 gives "import from standard input" 0 '5 points' sh -c 'bhtf import csv3 - <out1'
-same "import --quiet" '' "$(bhtf import csv3 out1 --replace --quiet)"
+none "import --quiet" "$(bhtf import csv3 out1 --replace --quiet)"
 printf '\357\273\277name,easting,northing,height,note\nB1,1,2,5,last line without end' >bom.csv
 gives "a byte order mark" 0 '^1 point stored$' bhtf import csv3 bom.csv
 same "the last line" '1,2,5,last line without end' "$(bhtf get csv3 B1)"
@@ -540,7 +561,7 @@ holds "the locked file is as it was" cmp before a
 (bhtf count a --wait 20 >waited; echo $? >>waited) 8>&- &
 waiter=$!
 helpers+=("$waiter")
-sleep 0.3
+until_true opened a 2
 unlock
 wait "$waiter"
 same "a waiting reader goes on when the lock is given back" "5
@@ -559,7 +580,7 @@ lock a read 1
 (bhtf add a late x --wait 3 >waited 2>&1; echo $? >>waited) 8>&- &
 waiter=$!
 helpers+=("$waiter")
-sleep 0.3
+until_true opened a 2
 gives "behind a stuck reader and a waiting writer a reader has its turn" 0 '^5$' bhtf count a --wait 2
 wait "$waiter"
 gives "the writer names the reader" 0 "still locked by process $locker \\(reading\\) after 3 s" cat waited
@@ -573,7 +594,7 @@ lock replaced write
 (bhtf add replaced late x --wait 20 >waited 2>&1; echo $? >>waited) 8>&- &
 waiter=$!
 helpers+=("$waiter")
-sleep 0.3
+holds "a writer waits for the lock" until_true opened replaced 2
 mv newer replaced
 unlock
 wait "$waiter"
@@ -673,7 +694,7 @@ gives "the file is sound" 0 'sound: 1' bhtf check killed
 holds "no journal is left" test ! -e killed.journal
 
 hot_kills() {
-  local i pid status
+  local i pid status hits=0
   seq 60000 | sed 's/.*/H&,&.111,&.222,&.333,note &/' >hot.csv
   for i in $(seq 12); do
     rm -f hot
@@ -683,6 +704,7 @@ hot_kills() {
     sleep "0.$(printf %03d $((RANDOM % 200 + 10)))"
     kill -KILL $pid 2>/dev/null
     wait $pid 2>/dev/null
+    [ $? -ne 137 ] || hits=$((hits + 1))
     status=$(bhtf count hot --wait 0) || return 1
     [ "$status" = 0 ] || [ "$status" = 60000 ] || { echo "$status points"; return 1; }
     bhtf check hot --quiet --wait 0 >/dev/null || return 1
@@ -691,6 +713,7 @@ hot_kills() {
     [ "$(bhtf count hot)" = $((status + 1)) ] || return 1
     [ ! -e hot.journal ] || return 1
   done
+  [ "$hits" -gt 0 ] || { echo "none was killed before its end"; return 1; }
 }
 holds "killed at any time: all points or none, sound, and the lock is free" hot_kills
 
@@ -713,7 +736,7 @@ until_true is_busy waiting
 sleep 0.2
 lock waiting read 1
 exec 9>&-
-sleep 0.3
+until_true eval '! opened feed 1'
 kill -TERM "$importer"
 ended() { ! kill -0 "$importer"; }
 holds "an import that waits for a lock can be interrupted" until_true ended
@@ -777,7 +800,7 @@ gives "a disk that fails at a change with --delta" 2 'durable.delta: cannot be w
 holds "leaves no record" cmp before durable.delta
 gives "nor a new file of records" 2 'durable: is as it was' put_on_disk bhtf add durable t x --delta new.delta
 holds "which is not there" test ! -e new.delta
-same "nor a change" '' "$(bhtf list durable | grep '^[st]$')"
+none "nor a change" "$(bhtf list durable | grep '^[st]$')"
 gives "a disk that fails at create" 2 'written to the disk: Input/output error' put_on_disk bhtf create lost
 unset FSYNC_FAILS
 holds "leaves no new file" test ! -e lost

@@ -205,6 +205,9 @@ fault "13 one byte late" \
 fault "13 forgets the old bytes" \
     'if (v->header_size + kept + m > v->length' \
     'if (v->header_size + m > v->length'
+fault "image length cut to 32 bits" \
+    'return length % PAGE == 0 && length >= PAGE && length <= IMAGE_MAX;' \
+    'length = (uint32_t)length; return length % PAGE == 0 && length >= PAGE && length <= IMAGE_MAX;'
 fault "data length cut to 32 bits" \
     '{ data, data_len };' '{ data, (uint32_t)data_len };'
 
@@ -1095,6 +1098,12 @@ fault "a run cut short" \
 fault "a run is two pairs where a page begins" \
     'to = write_pair(to, at, end - at);' \
     'if (end / PAGE > at / PAGE) end = (at / PAGE + 1) * PAGE; to = write_pair(to, at, end - at);'
+fault "a run of more than 3,000 bytes is two pairs" \
+    'while (at < length && old[at] != new[at])' \
+    'for (size_t most = at + 3000; at < length && at < most && old[at] != new[at];)'
+fault "a run of more than 65,536 bytes is two pairs" \
+    'while (at < length && old[at] != new[at])' \
+    'for (size_t most = at + 65536; at < length && at < most && old[at] != new[at];)'
 fault "a byte that kept its value is listed, behind a run" \
     'to = write_pair(to, at, end - at);' \
     'to = write_pair(to, at, end - at + (end < length));'

@@ -24,6 +24,7 @@ echo "seed $seed"
 
 passed=0
 failed=0
+found=0 # faults
 # In memory where that can be: nothing here hangs on what the disk does.
 base=${TMPDIR:-/dev/shm}
 [ -w "$base" ] || base=/tmp
@@ -58,15 +59,18 @@ gives() {
   fi
 }
 
-# counted NAME COMMAND..: a program whose last line is 'N passed, M failed'
+# counted NAME COMMAND..: a program whose last line is 'N passed, M failed', with N above 0, and status 0 only where M is 0
 counted() {
-  local name=$1 last
+  local name=$1 status last p f
   shift
   "$@" 2>&1 | tee "$work/out"
-  last=$(tail -n 1 "$work/out" | grep -E '^[0-9]+ passed, [0-9]+ failed$') || { fail "$name ended early"; return; }
-  passed=$((passed + ${last%% *}))
-  last=${last##*, }
-  failed=$((failed + ${last%% *}))
+  status=${PIPESTATUS[0]}
+  last=$(tail -n 1 "$work/out" | grep -E '^[1-9][0-9]* passed, [0-9]+ failed$') || { fail "$name ended early"; return; }
+  p=${last%% *} f=${last##*, }
+  f=${f%% *}
+  passed=$((passed + p))
+  failed=$((failed + f))
+  [ "$status" -eq 0 ] || [ "$f" -gt 0 ] || fail "$name (exit status $status)"
 }
 
 # ---- building ----
@@ -146,9 +150,11 @@ chmod 755 "$work/usr" "$work/usr/lib" "$work/host"
 mkdir "$work/closed"
 cp "$site" "$work/closed/site"
 chmod 666 "$work/closed/site"
+[ "$(id -u)" -eq 0 ] || chmod 555 "$work/closed" # nobody's for root, and its owner's for anybody else
 gives "a directory that must not be written" 1 'nothing was changed: its journal .*cannot be created: Permission denied' \
   as_other "$work/points" "$work/closed/site" CP-101 new
 holds "the file is as it was" cmp "$site" "$work/closed/site"
+chmod 755 "$work/closed"
 mkdir "$work/disk"
 if mount -t tmpfs -o size=64k tmpfs "$work/disk" 2>/dev/null; then
   mounted=$work/disk
@@ -347,15 +353,32 @@ runs() { timeout 300 "$work/copy/program" --seed 280 --random 2 --states "$2" --
 
 copies
 holds "calls that list what they change: builds" builds
-holds "calls that list what they change: cut" runs 13 4
+holds "calls that list what they change: cut" runs 99 4 # every scene that a fault below is looked for in
 
 copies
 sed -i 's/^#ifdef O_TMPFILE/#ifdef NO_TMPFILE/' "$work/copy/layer_name.c"
 holds "new files and journals under temporary names: builds" builds
 holds "new files and journals under temporary names: cut" runs 9 4
+cat >"$work/rights.c" <<'END'
+#include "bhtf_file.h"
+int main(int n, char **path)
+{
+    static const uint8_t image[4096];
+
+    return n != 2 || bhtf_file_create(path[1], image, sizeof image, NULL, NULL) != 0;
+}
+END
+new_rights() {
+  # shellcheck disable=SC2046,SC2086
+  gcc -std=c99 -D_POSIX_C_SOURCE=200809L -D_FILE_OFFSET_BITS=64 -Wno-format-truncation -I"$work/copy" "$work/rights.c" \
+    $(ls "$work"/copy/*.c) "$station" ${LDLIBS:-} -o "$work/rights" &&
+    (umask 027 && "$work/rights" "$work/new") && [ "$(stat -c %a "$work/new")" = 640 ]
+}
+holds "which have the rights that the mask leaves" new_rights
 
 # fault NAME FILE OLD NEW SCENES: the cuts of a layer with OLD made NEW, which must stand there once, are not all passed
 fault() {
+  local status
   copies
   if ! python3 - "$work/copy/$2" "$3" "$4" <<'END'
 import sys
@@ -368,10 +391,16 @@ END
   then fail "$1: the fault cannot be seeded"; return; fi
   if ! builds >"$work/out" 2>&1; then
     fail "$1: does not build" "$(head -n 3 "$work/out")"
-  elif runs "$5" 4 >"$work/out" 2>&1; then
-    fail "not found: $1"
-  else
+    return
+  fi
+  runs "$5" 4 >"$work/out" 2>&1
+  status=$?
+  # a fault is found by a cut that did not pass: not by a crash, nor by the time that ran out
+  if [ "$status" -eq 1 ] && tail -n 1 "$work/out" | grep -qE '^[0-9]+ passed, [1-9][0-9]* failed$'; then
     pass "found: $1"
+    found=$((found + 1))
+  else
+    fail "not found: $1" "status $status: $(tail -n 1 "$work/out")"
   fi
 }
 fault "the mark before the content is flushed" layer_journal.c '    if (error == 0)
@@ -408,5 +437,6 @@ fault "a page that is forgotten" layer.c 'page <= (from + size - 1) / LAYER_PAGE
 fault "a new file named before it is flushed" layer_create.c 'fsync(m->fd) != 0))' '0))' 0
 fault "a new file's name not flushed" layer_create.c 'error = layer_sync_names(m->directory, m->fd);' 'error = 0;' 0
 
+echo "of these $found faults"
 echo "$passed passed, $failed failed"
 [ "$failed" -eq 0 ] && [ "$passed" -gt 0 ]

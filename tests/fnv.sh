@@ -38,4 +38,6 @@ passed=$((passed + ${last%% *}))
 last=${last##*, }
 failed=$((failed + ${last%% *}))
 [ "$status" -eq 0 ] || [ "$failed" -gt 0 ] || failed=1
+echo "of these $((32 * count)) random"
+echo "of these 4 faults"
 tally

@@ -7,9 +7,11 @@
 set -u
 cd "$(dirname "$0")/.." || exit 2
 . tests/tally.sh
+. tests/sanitized.sh
 
 work=$(mktemp -d)
 trap 'rm -rf "$work"' EXIT
+sanitized "$work/reports"
 seed=${SEED:-20261117}
 echo "seed $seed"
 
@@ -291,4 +293,5 @@ P
 }
 test_that "Python: select, at, epochs, records" module
 
+test_that "no report of a sanitizer" unreported "$work/reports"
 tally

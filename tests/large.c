@@ -532,6 +532,27 @@ static void change_last_bytes(uint32_t last, uint32_t size)
     munmap(text, size);
 }
 
+/* Every byte of the longest message becomes another: one run, and one pair. */
+static void test_longest_run(void)
+{
+    const uint8_t *name = (const uint8_t *)"long";
+    uint8_t list[16];
+    uint8_t *work = map(MIB64), *text = map(MESSAGE_MAX);
+    uint32_t pairs;
+
+    created("64 MiB for a long run", MIB64, 4, 128, PAGE);
+    memset(text, 'x', MESSAGE_MAX);
+    expect("the longest message", add(MIB64, "long", text, MESSAGE_MAX, 1), 0);
+    memset(text, 'y', MESSAGE_MAX);
+    expect("another in its place, listed",
+           subject.add_listed(image, MIB64, name, 4, text, MESSAGE_MAX, 2,
+                              work, MIB64, list, 16, &pairs), 0);
+    expect("  pairs", pairs, 1);
+    expect_pair("  its offset", list, PAGE + HEAD, MESSAGE_MAX);
+    munmap(work, MIB64);
+    munmap(text, MESSAGE_MAX);
+}
+
 static void test_full_image(void)
 {
     const uint32_t space = HEAD + MESSAGE_MAX, whole = 63;
@@ -877,6 +898,7 @@ int main(void)
     test_longer_message();
     test_longest_of_2();
     test_longest_columns();
+    test_longest_run();
     test_full_image();
     test_full_table();
     test_many_messages();

@@ -8,9 +8,11 @@ set -u
 cd "$(dirname "$0")/.." || exit 2
 root=$PWD
 . tests/tally.sh
+. tests/sanitized.sh
 
 work=$(mktemp -d)
 trap 'rm -rf "$work"' EXIT
+sanitized "$work/reports"
 seed=${SEED:-20260719}
 echo "seed $seed"
 
@@ -105,6 +107,11 @@ test_that "PHP reads each line of JSON" equal 7 "$(php -r '
   $n = 0;
   foreach (file($argv[1]) as $line) { $n += is_array(json_decode($line, true, 512, JSON_THROW_ON_ERROR)); }
   echo $n;' odd.json)"
+bhtf create half -k 8 -s 9
+printf '1,2,3,a\355\240\200b' | bhtf add half P --allow-near --allow-far -q
+test_that "half a surrogate in a note is no text: JSON" gives 0 '"note":"a\\ufffd\\ufffd\\ufffdb","hex":' bhtf list half --json
+reads_xml() { "$@" 2>/dev/null | python3 -c 'import sys, xml.dom.minidom; xml.dom.minidom.parse(sys.stdin.buffer)'; }
+test_that "and LandXML" reads_xml bhtf export half --landxml
 cp a damaged
 # The first bytes of a point's message, found by its text, are its mark and length.
 at=$(grep -abo '4482148.663' damaged | head -n 1 | cut -d : -f 1)
@@ -344,7 +351,6 @@ opinion() {
   done | site opinion
   for i in $(seq "$1"); do names[i - 1]=P$i; done
   bhtf figure opinion --station "$station" "${names[@]}" >said
-  grep -q unbounded said && return 0
   want=$(./second axes "${numbers[@]}")
   got=$(sed -n 's/^ellipse *\([0-9.]*\) mm by \([0-9.]*\) mm, long axis towards \([0-9.]*\) gon.*/\1 \2 \3/p' said)
   echo "$want $got" | awk '{ e = $1 * 1e-3 + 0.006; d = $3 - $6; d = d < 0 ? -d : d; d = d > 100 ? 200 - d : d
@@ -373,6 +379,7 @@ test_that "no station" gives 2 '--station needs' bhtf figure f E0 E1 E2
 test_that "a station that is none" gives 2 '--station needs' bhtf figure f --station 5 E0 E1 E2
 test_that "a station with letters" gives 2 '--station needs' bhtf figure f --station 5,x E0 E1 E2
 test_that "a sigma that is none" gives 2 '--sigma needs' bhtf figure f --station 0,0 --sigma 0 E0 E1 E2
+test_that "a sigma that is too large" gives 2 '--sigma needs' bhtf figure f --station 0,0 --sigma 1001 E0 E1 E2
 test_that "a station far away" gives 1 '^not determined' bhtf figure f --station -999999999,999999999 E0 E1 E2
 test_that "it says that it judges geometry alone" gives 0 'geometry alone' bhtf figure f --station 0,0 E0 E1 E2
 picture() { bhtf figure "$@" --svg >figure.svg; renders figure.svg; }
@@ -435,6 +442,7 @@ bad_gsi() { printf '%s\n' "$2" >bad.gsi; gives 2 "$1" bhtf import g bad.gsi --gs
 test_that "GSI-8" bad_gsi 'this is GSI-8, which is not read' '110001+00000101 81..00+00002041 82..00+00006075'
 test_that "a word cut short" bad_gsi 'line 1: here is no word' '*110001+0000000000CP-102 81..00+00000044821879'
 test_that "no sign" bad_gsi 'line 1: here is no word' '*110001 0000000000CP-102 '
+test_that "a sign that is none" bad_gsi 'line 1: here is no word' '*110001+0000000000000101 81..00*0000000000002041 82..00+0000000000006075 '
 test_that "feet" bad_gsi 'not 16 digits in metres' '*110001+0000000000000101 81..01+0000000000002041 82..01+0000000000006075 '
 test_that "letters in a coordinate" bad_gsi 'not 16' '*110001+0000000000000101 81..00+00000000000020x1 82..00+0000000000006075 '
 test_that "an easting alone" bad_gsi 'one of easting' '*110001+0000000000000101 81..00+0000000000002041 '
@@ -544,4 +552,5 @@ bhtf export empty --dxf >empty.dxf
 test_that "a DXF without points" equal '' "$(/usr/bin/python3 read.py empty.dxf)"
 test_that "a damaged point is left out" gives 1 '1 point left out: damaged' bhtf export damaged --dxf
 
+test_that "no report of a sanitizer" unreported "$work/reports"
 tally

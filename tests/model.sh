@@ -33,7 +33,9 @@ counted() {
 if gcc -shared -o "$room/libmodel.so" -Wl,--whole-archive "$lib" -Wl,--no-whole-archive; then
   run=(python3 -B tests/model/run.py --library "$room/libmodel.so")
   counted "${run[@]}" --large --seconds "$seconds" ${MODEL_SEED:+--seed "$MODEL_SEED"}
+  random=$passed
   counted "${run[@]}" --seed 1 --faults
+  echo "of these $((passed - random)) faults"
 else
   failed=$((failed + 1))
   echo "FAILED: no shared object of $lib"

@@ -10,6 +10,8 @@ cd "$(dirname "$0")/.." || exit 2
 root=$PWD
 work=$(mktemp -d)
 trap 'rm -rf "$work"' EXIT
+. tests/sanitized.sh
+sanitized "$work/reports"
 passed=0
 failed=0
 
@@ -346,5 +348,6 @@ gives "--size says otherwise" 0 'loaded' bhtf load d6 d.dump --slots 100 --size 
 same "and is as long" 65536 "$(stat -c %s d6)"
 gives "as many slots as a file can have" 0 'loaded' bhtf load d7 d.dump --slots 1048576
 
+holds "no report of a sanitizer" unreported "$work/reports"
 echo "$passed passed, $failed failed"
 [ "$failed" -eq 0 ] && [ "$passed" -gt 0 ]

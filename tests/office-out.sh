@@ -9,9 +9,11 @@ set -u
 cd "$(dirname "$0")/.." || exit 2
 root=$PWD
 . tests/tally.sh
+. tests/sanitized.sh
 
 work=$(mktemp -d)
 trap 'rm -rf "$work"' EXIT
+sanitized "$work/reports"
 seed=${SEED:-20261117}
 echo "seed $seed"
 
@@ -432,4 +434,5 @@ for command in sum copy show; do
   test_that "$command is in the manual page" grep -q "^\.B $command\$" "$root/host/man/bhtf.1"
 done
 
+test_that "no report of a sanitizer" unreported "$work/reports"
 tally

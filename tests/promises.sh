@@ -21,7 +21,7 @@ for doc in README.md docs/*.md; do
     checked=$((checked + 1))
     [ -e "$path" ] || gone "names $path, which is not there"
   done < <(
-    grep -oE '`(crates|docs|host|tests|bench|\.ci)/[^` ]+`' "$doc" | tr -d '`' | sort -u
+    grep -oE '`(crates|docs|host|tests|bench|\.ci)/[^` ]+[` ]' "$doc" | tr -d '` ' | sort -u
     grep -oE '\]\([^)#:]+' "$doc" | sed "s|^](|$(dirname "$doc")/|" | sort -u
   )
   while IFS='#' read -r path name; do

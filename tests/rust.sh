@@ -91,6 +91,9 @@ test_that "plain C that counts a slot on 7: found" finds refused
 edited tests/reference/plain.c 's/^        to = write_pair(to, at, end - at);$/        to = write_pair(to, at, end - at - (end - at > 4));/' "$work/cut.c"
 plain cut "$work/cut.c" || exit 2
 test_that "plain C that cuts a listed run short: found" finds cut
+edited tests/reference/plain.c 's/^    while (at < length && old\[at\] != new\[at\])$/    for (size_t most = at + 3000; at < length \&\& at < most \&\& old[at] != new[at];)/' "$work/split.c"
+plain split "$work/split.c" || exit 2
+test_that "plain C that makes two pairs of a run of more than 3,000 bytes: found" finds split
 edited tests/reference/plain.c 's/^        write_pair(list, 0, length);$/        write_pair(list + (list_len \/ PAIR - 1) * PAIR, 0, 0); &/' "$work/over.c"
 plain over "$work/over.c" || exit 2
 test_that "plain C that writes pairs before it finds that they do not fit: found" finds over
@@ -118,4 +121,5 @@ misread no-offset 's/held, placed: true }$/held, placed: false }/'
 misread note-is-none 's/let shown = .*/let shown = held > 0 \&\& image[offset] == b'"'a'"';/'
 misread slot-0-left-out 's/\.take(slots);/&\n        let table = table.skip(1);/'
 
+echo "of these 1 random"
 tally

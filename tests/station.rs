@@ -1079,7 +1079,9 @@ fn call(
         0..=9 => {
             let size = [0, 1, 5, 40, book.room][chance.below(5)];
             let length = chance.below(size + 1);
-            let data = chance.bytes(length);
+            // what one repeated byte changes is one long run
+            let even = chance.one_in(3);
+            let data = if even { vec![1 + chance.below(255) as u8; length] } else { chance.bytes(length) };
             let mode = [1, 2, 2, 3, 3, 4, 0, 5, !0][chance.below(9)];
             if with_list {
                 let add = |file: &mut File, lent: &mut Lent| file.add_listed(key, &data, mode, lent);

@@ -138,15 +138,17 @@ static struct form form_of(double mm)
 }
 
 /* Zero has no sign of its own: a minus in front of it is rounding. */
+void decimals_show(char *to, size_t room, double value, int decimals, int sign)
+{
+    if (fabs(value) < 0.5 * pow(10, -decimals))
+        value = 0;
+    snprintf(to, room, sign ? "%+.*f" : "%.*f", decimals, value);
+}
+
 static void number_show(char *to, size_t room, double mm, struct form f,
                         int sign)
 {
-    double least = 0.5 * pow(10, -f.decimals);
-    double value = mm / f.unit;
-
-    if (fabs(value) < least)
-        value = 0;
-    snprintf(to, room, sign ? "%+.*f" : "%.*f", f.decimals, value);
+    decimals_show(to, room, mm / f.unit, f.decimals, sign);
 }
 
 void length_show(char *to, size_t room, double mm, int sign)

@@ -65,6 +65,10 @@ int is_changed(const struct reckoning *r);
  * from 1 m on. `sign`: with a plus where it is above zero. */
 void length_show(char *to, size_t room, double mm, int sign);
 
+/* A number with so many decimals, and never a minus in front of a zero. */
+void decimals_show(char *to, size_t room, double value, int decimals,
+                   int sign);
+
 /* --tolerance: millimetres, with mm after them or not. 0, or -1. */
 int tolerance_read(double *tolerance, const char *word);
 

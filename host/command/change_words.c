@@ -12,9 +12,6 @@
 /* Bytes of a text that are shown in a message. */
 enum { TEXT_SHOWN = 80 };
 
-/* Less is what rounding leaves of a number. */
-#define MILLIMETRES_LEAST 0.001
-
 static const char *const lost_words[POINT_FIELDS + 1] = {
     "easting", "northing", "height", "note", "text"
 };
@@ -140,33 +137,26 @@ int drop_read(const char *words, unsigned *bits)
 
 /* ---- what changed ---- */
 
-static int has_place(const struct parts *p)
+/* How far the point moved is reckoned for all commands in one place. */
+static void measure(struct text_change *c, struct texts t)
 {
-    return p->are && p->fields[EASTING].length > 0;
+    struct record record;
+    struct spot old, now;
+
+    memset(&record, 0, sizeof record);
+    spot_of_text(&old, &record, t.old);
+    spot_of_text(&now, &record, t.now);
+    c->placed = old.kind == SPOT_PLACED && now.kind == SPOT_PLACED;
+    c->levelled = has_coordinates(&old) && has_coordinates(&now) &&
+                  old.has_height && now.has_height;
+    if (has_coordinates(&old) && has_coordinates(&now))
+        c->move = spot_move(&old, &now);
+    buffer_free(&record.bytes);
 }
 
-static double step(const struct parts *old, const struct parts *now, int field)
+static int moves(const struct text_change *c)
 {
-    return (point_number(now->fields[field]) -
-            point_number(old->fields[field])) * 1000;
-}
-
-static void measure(struct change *c, const struct parts *old,
-                    const struct parts *now)
-{
-    c->placed = has_place(old) && has_place(now);
-    c->levelled = old->are && now->are && old->fields[HEIGHT].length > 0 &&
-                  now->fields[HEIGHT].length > 0;
-    if (c->placed)
-        c->plan = hypot(step(old, now, EASTING), step(old, now, NORTHING));
-    if (c->levelled)
-        c->height = step(old, now, HEIGHT);
-}
-
-static int moves(const struct change *c)
-{
-    return c->plan >= MILLIMETRES_LEAST ||
-           fabs(c->height) >= MILLIMETRES_LEAST;
+    return c->move.all >= MOVE_LEAST;
 }
 
 static int same_text(const struct piece *a, const struct piece *b)
@@ -176,7 +166,7 @@ static int same_text(const struct piece *a, const struct piece *b)
     return same_piece(*a, *b);
 }
 
-static enum change_kind kind_of(const struct change *c, struct texts t)
+static enum change_kind kind_of(const struct text_change *c, struct texts t)
 {
     if (!t.was_there)
         return CHANGE_NEW;
@@ -187,15 +177,15 @@ static enum change_kind kind_of(const struct change *c, struct texts t)
     return moves(c) ? CHANGE_MOVED : CHANGE_TEXT;
 }
 
-struct change change_of(struct texts t)
+struct text_change change_of(struct texts t)
 {
-    struct change c = { CHANGE_NONE, 0, 0, 0, 0, 0 };
+    struct text_change c = { CHANGE_NONE, 0, { 0, 0, 0, 0, 0 }, 0, 0 };
     struct parts old, now;
 
     parts_of(&old, t.old);
     parts_of(&now, t.now);
     c.lost = lost_of(&old, &now);
-    measure(&c, &old, &now);
+    measure(&c, t);
     c.kind = kind_of(&c, t);
     buffer_free(&old.record.bytes);
     buffer_free(&now.record.bytes);
@@ -204,14 +194,15 @@ struct change change_of(struct texts t)
 
 /* ---- words ---- */
 
-static int put_move(struct buffer *to, const struct change *c)
+static int put_move(struct buffer *to, const struct text_change *c)
 {
     char plan[64] = "", height[64] = "";
 
-    if (c->placed && c->plan >= MILLIMETRES_LEAST)
-        snprintf(plan, sizeof plan, "plan %.1f mm", c->plan);
-    if (c->levelled && fabs(c->height) >= MILLIMETRES_LEAST)
-        snprintf(height, sizeof height, "height %+.1f mm", c->height);
+    if (c->placed && c->move.plane >= MOVE_LEAST)
+        snprintf(plan, sizeof plan, "plan %.1f mm", c->move.plane);
+    if (c->levelled && fabs(c->move.height) >= MOVE_LEAST)
+        snprintf(height, sizeof height, "height %+.1f mm",
+                 c->move.height);
     if (plan[0] != '\0' && height[0] != '\0')
         return put_words(to, plan) | put_words(to, ", ") |
                put_words(to, height);
@@ -227,7 +218,7 @@ static int put_value(struct buffer *to, struct piece value, int quoted)
 }
 
 /* "height none -> 489.3", of each field that differs and is not in the move. */
-static int put_fields(struct buffer *to, const struct change *c,
+static int put_fields(struct buffer *to, const struct text_change *c,
                       const struct parts *old, const struct parts *now)
 {
     int done = 0;
@@ -262,7 +253,7 @@ static int put_texts(struct buffer *to, struct texts t)
     return put_text(to, t.old) | put_words(to, " -> ") | put_text(to, t.now);
 }
 
-int change_put(struct buffer *to, const struct change *c, struct texts t)
+int change_put(struct buffer *to, const struct text_change *c, struct texts t)
 {
     struct buffer words = { NULL, 0, 0 };
     struct parts old, now;

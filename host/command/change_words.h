@@ -3,7 +3,7 @@
 #ifndef CHANGE_WORDS_H
 #define CHANGE_WORDS_H
 
-#include "point.h"
+#include "coords.h"
 
 /* A point's text; NULL in its place is no text. */
 struct texts {
@@ -26,22 +26,22 @@ enum change_kind {
 #define LOST(field) (1u << (field))
 #define LOST_TEXT LOST(POINT_FIELDS)
 
-struct change {
+struct text_change {
     enum change_kind kind;
     unsigned lost;
-    double plan;     /* in millimetres; of a point that has a place in both */
-    double height;   /* the same, upwards */
+    struct move move; /* as diff reckons it */
     int placed;      /* both have easting and northing */
     int levelled;    /* both have a height */
 };
 
-struct change change_of(struct texts t);
+struct text_change change_of(struct texts t);
 
 /* What is lost, with its values, put behind `to`: 0, or -1 for no memory. */
 int lost_put(struct buffer *to, unsigned lost, struct piece old);
 
 /* The change in words: 0, or -1 for no memory. */
-int change_put(struct buffer *to, const struct change *c, struct texts t);
+int change_put(struct buffer *to, const struct text_change *c,
+               struct texts t);
 
 /* The bits that --drop names: 0, or -1 after a complaint. `words` may be
  * NULL, for none. */

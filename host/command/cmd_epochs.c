@@ -3,12 +3,9 @@
 
 #include "bhtf.h"
 #include "epoch.h"
-#include "image_header.h"
 #include "point.h"
-#include "rows.h"
+#include "series.h"
 
-#include <fnmatch.h>
-#include <stdlib.h>
 #include <string.h>
 
 /* ---- at ---- */
@@ -88,101 +85,36 @@ int run_at(const struct options *o)
 
 /* ---- epochs ---- */
 
-struct dated {
-    const uint8_t *key;
-    uint32_t name_size;  /* bytes of a name, its padding among them */
-};
-
-static int by_name_and_epoch(const void *a, const void *b)
-{
-    const struct dated *x = a, *y = b;
-
-    return memcmp(x->key, y->key, x->name_size + EPOCH_SIZE);
-}
-
-static int read_dated(struct dated **all, size_t *count,
-                      const struct buffer *copy, uint32_t key_size)
-{
-    uint32_t points, slot, place;
-
-    bhtf_count(copy->bytes, copy->length, &points);
-    *all = calloc(header_read(copy->bytes).slots, sizeof **all);
-    if (*all == NULL)
-        return out_of_memory();
-    *count = 0;
-    bhtf_walk(copy->bytes, copy->length, 0, &slot, &place);
-    while (place != 0) {
-        (*all)[*count].key = copy->bytes + place;
-        (*all)[(*count)++].name_size = key_size - EPOCH_SIZE;
-        bhtf_walk(copy->bytes, copy->length, slot + 1, &slot, &place);
-    }
-    qsort(*all, *count, sizeof **all, by_name_and_epoch);
-    return DONE;
-}
-
-static int is_wanted(const struct options *o, const char *name)
-{
-    for (int i = 1; i < o->words; i++)
-        if (fnmatch(o->word[i], name, 0) == 0)
-            return 1;
-    return o->words == 1;
-}
-
-static int same_prism(const struct dated *a, const struct dated *b)
-{
-    return memcmp(a->key, b->key, a->name_size) == 0;
-}
-
 /* A line for each name: the name, how many epochs, and which. */
-static int put_epochs(const struct options *o, const struct dated *all,
-                      size_t count)
+static int put_epochs(const struct series *s)
 {
     struct buffer name = { NULL, 0, 0 };
-    size_t shown = 0;
 
-    for (size_t i = 0, next; i < count; i = next) {
-        for (next = i + 1; next < count && same_prism(&all[i], &all[next]);)
-            next++;
-        name.length = 0;
-        if (name_show(&name, all[i].key, all[i].name_size) != 0 ||
-            buffer_put_byte(&name, 0) != 0) {
+    for (size_t i = 0; i < s->count; i++) {
+        const struct prism *p = &s->prisms[i];
+
+        if (spot_show(&name, p->readings) != 0) {
             buffer_free(&name);
             return out_of_memory();
         }
-        if (!is_wanted(o, (const char *)name.bytes))
-            continue;
-        shown++;
         printf("%s\t%lu\t", (const char *)name.bytes,
-               (unsigned long)(next - i));
-        for (size_t k = i; k < next; k++)
-            printf("%s%lu", k > i ? " " : "",
-                   (unsigned long)epoch_of(all[k].key,
-                                           all[k].name_size + EPOCH_SIZE));
+               (unsigned long)p->count);
+        for (size_t k = 0; k < p->count; k++)
+            printf("%s%lu", k > 0 ? " " : "",
+                   (unsigned long)reading_epoch(s, &p->readings[k]));
         putchar('\n');
     }
     buffer_free(&name);
-    if (shown == 0 && o->words > 1) {
-        complain("%s: no name matches", o->word[0]);
-        return finish_output(REFUSED);
-    }
-    return finish_output(DONE);
+    return DONE;
 }
 
 int run_epochs(const struct options *o)
 {
-    struct buffer copy = { NULL, 0, 0 };
-    struct dated *all = NULL;
-    uint32_t key_size;
-    size_t count = 0;
-    int status = copy_accepted(&copy, o, &key_size);
+    struct series s;
+    int status = series_open(&s, o, 1);
 
-    if (status == DONE && key_size <= EPOCH_SIZE)
-        status = refuse(o->word[0], BHTF_NO_EPOCHS);
-    if (status == DONE)
-        status = read_dated(&all, &count, &copy, key_size);
-    if (status == DONE)
-        status = put_epochs(o, all, count);
-    free(all);
-    buffer_free(&copy);
-    return status;
+    if (s.prisms != NULL && put_epochs(&s) != DONE)
+        status = TROUBLE;
+    series_close(&s);
+    return finish_output(status);
 }

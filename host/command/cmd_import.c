@@ -6,6 +6,7 @@
 #include "import.h"
 
 #include "change_words.h"
+#include "epoch.h"
 #include "image_header.h"
 #include "intake.h"
 
@@ -17,6 +18,11 @@
 int import_is_dry(const struct import *m)
 {
     return (m->o->given & OPTION_DRY_RUN) != 0;
+}
+
+int import_is_dated(const struct import *m)
+{
+    return m->columns.fields != 0 && m->columns.at[COLUMN_EPOCH] >= 0;
 }
 
 /* Are the other lines stored when one is refused? */
@@ -150,6 +156,14 @@ static int find_delimiter(struct import *m)
 
 /* ---- a record ---- */
 
+static struct piece column(const struct import *m, int which)
+{
+    const struct piece none = { (const uint8_t *)"", 0 };
+
+    return m->columns.at[which] < 0
+        ? none : record_field(&m->record, (size_t)m->columns.at[which]);
+}
+
 /* A record like the heading, as where files were put behind each other. */
 static int is_heading_again(const struct import *m)
 {
@@ -161,6 +175,59 @@ static int is_heading_again(const struct import *m)
            memcmp(r->ends, h->ends, h->fields * sizeof h->ends[0]) == 0;
 }
 
+/* An epoch is said once, and has room in the file's keys. */
+static int ask_epochs(struct import *m)
+{
+    if (!import_is_dated(m))
+        return DONE;
+    if (m->o->given & OPTION_EPOCH) {
+        complain("%s: --epoch or a column for the epoch, not both", m->input);
+        return TROUBLE;
+    }
+    return m->key_size > EPOCH_SIZE ? DONE
+                                    : refuse(m->o->word[0], BHTF_NO_EPOCHS);
+}
+
+static int has_digit(struct piece p)
+{
+    for (size_t i = 0; i < p.length; i++)
+        if (p.bytes[i] >= '0' && p.bytes[i] <= '9')
+            return 1;
+    return 0;
+}
+
+/* May the first line be a heading whose words nobody knows? Where coordinates
+ * are asked for a word in their place is refused anyway. Else it has words
+ * alone, and a name without a digit. */
+static int may_be_heading(const struct import *m)
+{
+    const struct record *r = &m->record;
+    int numbers = m->columns.at[EASTING] >= 0 || m->columns.at[HEIGHT] >= 0 ||
+                  import_is_dated(m);
+
+    if (m->o->given & OPTION_SKIP || r->fields != m->columns.fields ||
+        (numbers && !(m->o->given & OPTION_ANY_TEXT)) ||
+        has_digit(column(m, COLUMN_NAME)))
+        return 0;
+    for (size_t i = 0; i < r->fields; i++) {
+        const struct piece field = piece_trim(record_field(r, i));
+
+        if (field.length == 0 || is_number(field, '.') || is_number(field, ','))
+            return 0;
+    }
+    return 1;
+}
+
+static int complain_of_doubt(struct import *m)
+{
+    if (import_is_told(m))
+        complain("%s: this may be a heading or a point: --skip %lu passes over "
+                 "it, --skip %lu takes it for a point",
+                 import_place(m, m->record.line), m->record.line,
+                 m->record.line - 1);
+    return TROUBLE;
+}
+
 /* The first record settles the columns; *used says whether it was a heading. */
 static int read_first(struct import *m, int *used)
 {
@@ -168,7 +235,7 @@ static int read_first(struct import *m, int *used)
 
     *used = is_heading(&m->record);
     if (!*used && m->columns.fields != 0)
-        return DONE;
+        return may_be_heading(m) ? complain_of_doubt(m) : ask_epochs(m);
     if (!*used)
         return complain_of_line(m, "the first line is no heading, so that "
                                    "nobody knows which column is which; say "
@@ -178,7 +245,7 @@ static int read_first(struct import *m, int *used)
                                   import_place(m, m->record.line));
     m->heading = m->record;
     memset(&m->record, 0, sizeof m->record);
-    return status;
+    return status == DONE ? ask_epochs(m) : status;
 }
 
 /* Writes a decimal comma as a point, in the record's own bytes. */
@@ -189,14 +256,6 @@ static void use_point(struct record *r, struct piece number)
 
     if (comma != NULL)
         *comma = '.';
-}
-
-static struct piece column(const struct import *m, int which)
-{
-    const struct piece none = { (const uint8_t *)"", 0 };
-
-    return m->columns.at[which] < 0
-        ? none : record_field(&m->record, (size_t)m->columns.at[which]);
 }
 
 /* What helps is said once. */
@@ -321,6 +380,24 @@ static int make_room(struct crowd *c)
     return 0;
 }
 
+/* The epoch of a line, where there is a column for it. */
+static int take_epoch(struct import *m, uint32_t *epoch)
+{
+    const struct piece field = piece_trim(column(m, COLUMN_EPOCH));
+    char word[32];
+
+    *epoch = 0;
+    if (!import_is_dated(m))
+        return DONE;
+    if (field.length > 0 && field.length < sizeof word) {
+        memcpy(word, field.bytes, field.length);
+        word[field.length] = '\0';
+        if (epoch_read(word, m->weeks, epoch) == 0)
+            return DONE;
+    }
+    return complain_of_line(m, EPOCH_IS);
+}
+
 static int put_point(struct import *m, const struct piece fields[POINT_FIELDS])
 {
     struct crowd *c = &m->crowd;
@@ -328,9 +405,10 @@ static int put_point(struct import *m, const struct piece fields[POINT_FIELDS])
     const struct piece text = column(m, COLUMN_TEXT);
     int empty = says_empty(m, text, fields);
     struct incoming *p;
+    uint32_t epoch;
     int done;
 
-    if (empty < 0)
+    if (empty < 0 || take_epoch(m, &epoch) != DONE)
         return TROUBLE;
     if (text.length > 0 && !says(m, text, fields))
         return complain_of_line(m, "the column text says something else than "
@@ -340,6 +418,7 @@ static int put_point(struct import *m, const struct piece fields[POINT_FIELDS])
     p = &c->all[c->count++];
     memset(p, 0, sizeof *p);
     p->line = m->record.line;
+    p->epoch = epoch;
     p->name = c->bytes.length;
     done = buffer_put(&c->bytes, name.bytes, name.length);
     p->text = c->bytes.length;
@@ -427,6 +506,9 @@ static int read_options(struct import *m)
     const struct options *o = m->o;
 
     m->decimal = '.';
+    m->columns.dates = o->unit != NULL && !(o->given & OPTION_EPOCH);
+    if (epoch_weeks(o, &m->weeks) != DONE)
+        return TROUBLE;
     m->kind = o->given & (OPTION_GSI | OPTION_LANDXML);
     if (foreign_options(o->given) != DONE ||
         drop_read(o->drop, &m->dropped) != 0 ||

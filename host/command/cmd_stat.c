@@ -2,6 +2,7 @@
 #include "commands.h"
 
 #include "bhtf.h"
+#include "epochs_left.h"
 #include "long_work.h"
 #include "space_used.h"
 
@@ -195,6 +196,8 @@ static int print_figures(const struct buffer *copy, const char *file)
     print_searches(&f);
     print_misses(&f, h.slots);
     print_displacements(&f, h.slots);
+    if (epochs_left_print(copy, &h, &f.space) != DONE)
+        return TROUBLE;
     if (f.points != h.count)
         printf("damaged: the header counts %lu points\n",
                (unsigned long)h.count);

@@ -65,6 +65,9 @@
 #define OPTION_EPOCH OPTION(51)
 #define OPTION_EPOCH_UNIT OPTION(52)
 #define OPTION_TOLERANCE OPTION(50)
+#define OPTION_FROM OPTION(53)
+#define OPTION_TO OPTION(54)
+#define OPTION_ALPHA OPTION(55)
 #define OPTION_FINISH OPTION(56)
 #define OPTION_SET_ASIDE OPTION(57)
 #define OPTION_SPREADSHEET OPTION(58)
@@ -106,6 +109,9 @@ struct options {
     const char *sigma;
     const char *by;
     const char *tolerance;
+    const char *from;
+    const char *to;
+    const char *alpha;
     const char *format;
     const char *delta;
     const char *encoding;
@@ -141,6 +147,9 @@ int options_read(struct options *o, const struct command *command, int count,
  * complaint. */
 int epoch_wanted(const struct options *o, const char *word, uint32_t *epoch);
 
+/* Does --epoch-unit say week? DONE, or TROUBLE after a complaint. */
+int epoch_weeks(const struct options *o, int *weeks);
+
 /* Each answers an enum status. */
 int run_create(const struct options *o);
 int run_add(const struct options *o);
@@ -154,6 +163,7 @@ int run_list(const struct options *o);
 int run_find(const struct options *o);
 int run_at(const struct options *o);
 int run_epochs(const struct options *o);
+int run_report(const struct options *o);
 int run_store_records(const struct options *o);
 int run_read_records(const struct options *o);
 int run_check(const struct options *o);

@@ -51,6 +51,16 @@ static enum spot_kind take_coordinates(struct spot *s, struct record *r)
         ? SPOT_PLACED : SPOT_OTHER;
 }
 
+void spot_of_text(struct spot *s, struct record *r, const struct piece *text)
+{
+    memset(s, 0, sizeof *s);
+    s->kind = text == NULL ? SPOT_BARE : SPOT_EMPTY;
+    if (text == NULL || text->length == 0)
+        return;
+    s->text = *text;
+    s->kind = take_coordinates(s, r);
+}
+
 int has_coordinates(const struct spot *s)
 {
     return s->kind == SPOT_PLACED || s->kind == SPOT_LEVEL;

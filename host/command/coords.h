@@ -51,6 +51,10 @@ struct site {
  * or is beyond COORDINATE_MOST. */
 int coordinate_read(struct piece p, double *number);
 
+/* A point with this text, NULL for none, and without a name. The record is room
+ * that it uses. */
+void spot_of_text(struct spot *s, struct record *r, const struct piece *text);
+
 /* The point in a taken slot of an accepted image. The record is room that it
  * uses. */
 void spot_at(struct spot *s, struct record *r, const struct buffer *copy,

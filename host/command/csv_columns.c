@@ -9,7 +9,7 @@
 
 const char *const column_words[COLUMNS] = { "easting", "northing", "height",
                                             "note", "name", "text",
-                                            "empty" };
+                                            "empty", "epoch" };
 
 /* ---- words ---- */
 
@@ -43,6 +43,9 @@ static const struct {
     { "remark", NOTE }, { "remarks", NOTE }, { "comment", NOTE },
     { "bemerkung", NOTE }, { "beschreibung", NOTE },
     { "text", COLUMN_TEXT }, { "empty", COLUMN_EMPTY },
+    { "epoch", COLUMN_EPOCH }, { "epoche", COLUMN_EPOCH },
+    { "date", COLUMN_DATE }, { "datum", COLUMN_DATE },
+    { "week", COLUMN_DATE }, { "woche", COLUMN_DATE },
     { "-", COLUMN_SKIPPED },
     { "x", COLUMN_X }, { "y", COLUMN_Y }
 };
@@ -174,7 +177,8 @@ static int row_from_words(struct row *row, const char *value)
     for (size_t i = 0; known && i < record.fields; i++) {
         row->column[i] = column_of(record_field(&record, i));
         row->fields++;
-        known = row->column[i] != COLUMN_UNKNOWN;
+        known = row->column[i] != COLUMN_UNKNOWN &&
+                row->column[i] != COLUMN_DATE;
     }
     buffer_free(&record.bytes);
     return known;
@@ -196,8 +200,8 @@ int columns_from_option(struct columns *c, const char *value)
     if (wrong == NULL)
         return DONE;
     complain("--columns %s: %s; it takes PNEZD, PENZD, or words out of name, "
-             "easting, northing, height, note, text, empty and - (a column to "
-             "pass over)", value, wrong);
+             "easting, northing, height, note, text, empty, epoch and - (a "
+             "column to pass over)", value, wrong);
     return TROUBLE;
 }
 
@@ -205,7 +209,8 @@ int columns_from_option(struct columns *c, const char *value)
 
 static int is_known(int column)
 {
-    return column != COLUMN_UNKNOWN && column != COLUMN_SKIPPED;
+    return column != COLUMN_UNKNOWN && column != COLUMN_SKIPPED &&
+           column != COLUMN_DATE;
 }
 
 int is_heading(const struct record *r)
@@ -225,8 +230,8 @@ int is_heading(const struct record *r)
 static int complain_of_heading(const char *place, const char *wrong)
 {
     complain("%s: the heading: %s; --columns names the columns (name, easting, "
-             "northing, height, note, text, empty, or - for one to pass over)",
-             place, wrong);
+             "northing, height, note, text, empty, epoch, or - for one to pass "
+             "over)", place, wrong);
     return TROUBLE;
 }
 
@@ -242,6 +247,15 @@ static struct piece word_of(const struct record *r, const struct row *row,
     word = piece_trim(record_field(r, i));
     word.length = word.length > 60 ? 60 : word.length;
     return word;
+}
+
+static int complain_of_date(const char *place, struct piece word)
+{
+    complain("%s: the heading: %.*s: --epoch-unit day or week takes such a "
+             "column for the epochs of readings, in a file of epochs; "
+             "--columns with - in its place passes over it", place,
+             (int)word.length, (const char *)word.bytes);
+    return TROUBLE;
 }
 
 static int complain_of_word(const char *place, struct piece word)
@@ -299,6 +313,13 @@ static int compare(const struct columns *c, const struct row *row,
     return complain_of_heading(place, "it contradicts --columns");
 }
 
+static int column_in(const struct columns *c, struct piece word)
+{
+    int column = column_of(word);
+
+    return column == COLUMN_DATE && c->dates ? COLUMN_EPOCH : column;
+}
+
 int columns_from_heading(struct columns *c, const struct record *r,
                          const char *place)
 {
@@ -307,7 +328,7 @@ int columns_from_heading(struct columns *c, const struct record *r,
 
     row.fields = r->fields < FIELDS_MAX ? r->fields : FIELDS_MAX;
     for (size_t i = 0; i < row.fields; i++)
-        row.column[i] = column_of(record_field(r, i));
+        row.column[i] = column_in(c, record_field(r, i));
     if (c->fields != 0)
         pass_unwanted(c, &row);
     if (has(&row, COLUMN_OTHER_UNIT))
@@ -318,6 +339,8 @@ int columns_from_heading(struct columns *c, const struct record *r,
         wrong = "there are too many columns";
     else if (has(&row, COLUMN_X) || has(&row, COLUMN_Y))
         wrong = "x and y are each easting to some and northing to others";
+    else if (has(&row, COLUMN_DATE))
+        return complain_of_date(place, word_of(r, &row, COLUMN_DATE));
     else if (has(&row, COLUMN_UNKNOWN))
         return complain_of_word(place, word_of(r, &row, COLUMN_UNKNOWN));
     else

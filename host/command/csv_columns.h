@@ -9,10 +9,12 @@ enum {
     COLUMN_NAME = POINT_FIELDS,
     COLUMN_TEXT,    /* the whole text, byte for byte */
     COLUMN_EMPTY,   /* yes: the text is empty, which is not none */
+    COLUMN_EPOCH,   /* of the reading, in a file of epochs */
     COLUMNS,
     COLUMN_SKIPPED = COLUMNS, /* a field that is not wanted */
     COLUMN_X,       /* easting or northing: nobody can tell */
     COLUMN_Y,
+    COLUMN_DATE,    /* an epoch where dates are said to be epochs */
     COLUMN_OTHER_UNIT, /* a coordinate, and in brackets something else than m */
     COLUMN_UNKNOWN
 };
@@ -20,6 +22,7 @@ enum {
 struct columns {
     int at[COLUMNS]; /* the field that holds it; -1: there is none */
     size_t fields;   /* in each record; 0: not known yet */
+    int dates;       /* a column of dates is one of epochs */
     char wrong[96];  /* words, where the columns are wrong */
 };
 

@@ -55,6 +55,7 @@ static int judge_all(struct edit *e)
     j.image = e->image.bytes;
     j.length = e->image.length;
     j.key_size = e->key_size;
+    j.dated = e->o->given & OPTION_EPOCH && e->key_size > EPOCH_SIZE;
     j.allowed = e->allowed | e->o->given;
     return judge(&j, &e->movers);
 }
@@ -395,7 +396,7 @@ static int say_set(const struct edit *e, const struct options *o,
 {
     const struct piece old = old_text(e);
     const struct texts t = { 1, e->had_text ? &old : NULL, now };
-    const struct change c = change_of(t);
+    const struct text_change c = change_of(t);
     struct buffer words = { NULL, 0, 0 };
     int done = name_show(&words, e->key.bytes, e->key.length) |
                buffer_put(&words, ": ", 2);

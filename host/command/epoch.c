@@ -40,6 +40,25 @@ static int date_read(const char *word, int64_t *days)
     return *days < 0 ? -1 : 0;
 }
 
+/* The Monday of a year's first week, which is the one with January 4. */
+static int64_t first_monday(int year)
+{
+    int64_t days = days_of(year, 1, 4);
+
+    return days - (days + 3) % 7; /* 1970-01-01 was a Thursday */
+}
+
+static int week_read(const char *word, int64_t *days)
+{
+    int year, week, used = 0;
+
+    if (sscanf(word, "%4d-W%2d%n", &year, &week, &used) != 2 || used != 8 ||
+        word[8] != '\0' || year < 1970 || week < 1)
+        return -1;
+    *days = first_monday(year) + 7 * (week - 1);
+    return *days < 0 || *days >= first_monday(year + 1) ? -1 : 0;
+}
+
 int epoch_read(const char *word, int weeks, uint32_t *epoch)
 {
     uint64_t number;
@@ -49,24 +68,31 @@ int epoch_read(const char *word, int weeks, uint32_t *epoch)
         *epoch = (uint32_t)number;
         return 0;
     }
-    if (date_read(word, &days) != 0 || (weeks && days < 4))
+    if ((date_read(word, &days) != 0 && week_read(word, &days) != 0) ||
+        (weeks && days < 4))
         return -1;
     *epoch = (uint32_t)(weeks ? (days - 4) / 7 : days);
     return 0;
 }
 
+int epoch_weeks(const struct options *o, int *weeks)
+{
+    *weeks = o->unit != NULL && strcmp(o->unit, "week") == 0;
+    if (o->unit == NULL || *weeks || strcmp(o->unit, "day") == 0)
+        return DONE;
+    complain("--epoch-unit is day or week, and not %s", o->unit);
+    return TROUBLE;
+}
+
 int epoch_wanted(const struct options *o, const char *word, uint32_t *epoch)
 {
-    int weeks = o->unit != NULL && strcmp(o->unit, "week") == 0;
+    int weeks;
 
-    if (o->unit != NULL && !weeks && strcmp(o->unit, "day") != 0) {
-        complain("--epoch-unit is day or week, and not %s", o->unit);
+    if (epoch_weeks(o, &weeks) != DONE)
         return TROUBLE;
-    }
     if (epoch_read(word, weeks, epoch) == 0)
         return DONE;
-    complain("an epoch is a number from 0 to 4294967295 or a date YYYY-MM-DD, "
-             "and not %s", word);
+    complain("%s, and not %s", EPOCH_IS, word);
     return TROUBLE;
 }
 
@@ -91,6 +117,19 @@ int key_named(struct buffer *key, const struct options *o,
     if (o->given & OPTION_EPOCH)
         return epoch_key(key, typed, length, o->epoch_number, key_size);
     return key_from(key, typed, length, key_size);
+}
+
+int dated_show(struct buffer *to, const uint8_t *key, uint32_t key_size)
+{
+    uint32_t length = key_size - EPOCH_SIZE;
+    char number[32];
+
+    while (length > 0 && key[length - 1] == 0)
+        length--;
+    snprintf(number, sizeof number, " at %lu",
+             (unsigned long)epoch_of(key, key_size));
+    return name_show(to, key, length) |
+           buffer_put(to, number, strlen(number));
 }
 
 uint32_t epoch_of(const uint8_t *key, uint32_t key_size)

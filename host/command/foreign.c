@@ -105,6 +105,13 @@ static int worst_of(int a, int b, int c)
     return a == PARTIAL || b == PARTIAL || c == PARTIAL ? PARTIAL : DONE;
 }
 
+/* Has it a point that no other format has room for? */
+static int is_short(const struct site *s)
+{
+    return s->kinds[SPOT_BARE] + s->kinds[SPOT_EMPTY] + s->kinds[SPOT_OTHER]
+           > 0;
+}
+
 /* What is left out for want of coordinates is told; GSI alone has room for a
  * height without a place. */
 static int write_site(struct site *s, const struct options *o, int by_name)
@@ -117,6 +124,8 @@ static int write_site(struct site *s, const struct options *o, int by_name)
     if (missing == TROUBLE)
         return missing;
     left_out = site_say_left_out(s, o->word[0], level);
+    if (left_out == DONE && is_short(s))
+        left_out = PARTIAL;
     if (by_name)
         site_sort(s);
     if (o->given & OPTION_GSI)

@@ -244,6 +244,35 @@ static const struct command commands[] = {
       "bhtf epochs FILE [PATTERN]..\n"
       "A line for each point: its name, how many epochs it has, and which.\n"
       "A PATTERN is a shell's, for names.\n" WAITING },
+    { "report", OPTION_FROM | OPTION_TO | OPTION_EPOCH_UNIT |
+                OPTION_TOLERANCE | OPTION_SIGMA | OPTION_ALPHA | OPTION_CSV |
+                OPTION_JSON | OPTION_SVG | OPTION_PAPER, 1, ANY_NUMBER,
+      run_report,
+      "bhtf report FILE [PATTERN..] --from A --to B [--tolerance MM] "
+      "[--sigma MM] ..\n"
+      "Says how each prism of a file of epochs moved from epoch A to epoch B: "
+      "dE, dN,\n"
+      "dH and the length, those beyond the tolerance first; prisms without a "
+      "reading\n"
+      "at one of the two are named. Status 1 if a tolerance is exceeded, 2 if "
+      "something\n"
+      "could not be told, else 0.\n"
+      "      --from A       numbers, or dates as in bhtf at\n"
+      "      --to B\n"
+      "      --epoch-unit U  day or week: dates are days from 1970-01-01, as unless\n"
+      "                     given, or whole weeks from 1970-01-05, a Monday\n"
+      "      --tolerance MM  the longest movement that is allowed\n"
+      "      --sigma MM     standard deviation of a coordinate in one epoch, or\n"
+      "                     two, as 0.8,1.2, for plan and height: each movement\n"
+      "                     is tested by chi-square\n"
+      "      --alpha P      level of the test in per cent; 5 unless given\n"
+      "      --csv          as CSV\n"
+      "      --json         as one object\n"
+      "      --svg          as a sheet: a plan with vectors, heights, and a line\n"
+      "                     for each prism over all epochs\n"
+      "  -p, --paper SIZE   of the sheet: A3, A2, A1 or A0; unless given, the\n"
+      "                     smallest that holds all prisms\n"
+      QUIET WAITING PATTERNS },
     { "check", 0, 1, 1, run_check,
       "bhtf check FILE\n"
       "Says whether the file is sound: status 0 if so, 1 if not. If so it says "
@@ -278,7 +307,9 @@ static const struct command commands[] = {
       "and\n"
       "where a name is not there, how many bytes of its data are dead, and how "
       "many\n"
-      "bhtf compact would free.\n"
+      "bhtf compact would free; of a file of epochs, how many more have room at "
+      "the\n"
+      "rate of the last four.\n"
       WAITING },
     { "import", OPTION_REPLACE | OPTION_UPDATE | OPTION_DROP |
                 OPTION_EPOCH | OPTION_EPOCH_UNIT |
@@ -297,6 +328,8 @@ static const struct command commands[] = {
       "stored, or, if a line is refused, nothing. A line of empty fields is a "
       "point\n"
       "without a text; yes in a column empty makes it one with an empty text.\n"
+      "A column epoch has the epoch of each line, for a file of epochs; with\n"
+      "--epoch-unit day or week so has a column date or week.\n"
       "GSI-16 and LandXML are told by their first bytes.\n"
       "  -c, --columns ORDER  the columns of a file without a heading: PNEZD,\n"
       "                     PENZD, or words as above, with commas between "
@@ -547,6 +580,7 @@ void help_print(FILE *to)
           "  bhtf find FILE PATTERN      points of a plate that is half legible\n"
           "  bhtf at FILE NAME EPOCH     a point's text at an epoch\n"
           "  bhtf epochs FILE            which epochs its points have\n"
+          "  bhtf report FILE --from A --to B  which prisms moved, and how far\n"
           "  bhtf store-records FILE NAME  store readings by column\n"
           "  bhtf read-records FILE NAME   print them\n"
           "  bhtf check FILE             say whether the file is sound\n"

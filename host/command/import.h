@@ -17,6 +17,7 @@ struct incoming {
     size_t text;
     size_t text_end;
     int none;            /* it has no text */
+    uint32_t epoch;      /* where there is a column for it */
     unsigned long twice; /* an earlier line that says otherwise, or 0 */
     int again;           /* an earlier line says the same */
 };
@@ -47,6 +48,7 @@ struct import {
     const char *input;
     FILE *file;
     int decimal;
+    int weeks;               /* --epoch-unit week */
     uint64_t kind;           /* OPTION_GSI or OPTION_LANDXML, or 0 for CSV */
     struct buffer bytes;     /* all of the input */
     struct csv csv;
@@ -95,6 +97,9 @@ int import_is_told(struct import *m);
 /* May the import go on after this status of a line? A dry run and
  * --keep-going do, and keep where an import would have stopped. */
 int import_goes_on(struct import *m, int status, unsigned long line);
+
+/* Does each line say its epoch? */
+int import_is_dated(const struct import *m);
 
 /* ---- storing ---- */
 

@@ -35,6 +35,24 @@ static struct piece text_of(const struct import *m, const struct incoming *p)
     return text;
 }
 
+/* The key of a point: 0, or -1 for no memory. */
+static int take_key(struct import *m, const struct incoming *p)
+{
+    const uint8_t *name = m->crowd.bytes.bytes + p->name;
+    size_t length = p->text - p->name;
+
+    if (import_is_dated(m))
+        return epoch_key(&m->key, name, length, p->epoch, m->key_size);
+    return key_named(&m->key, m->o, name, length, m->key_size);
+}
+
+/* Has the key an epoch behind its name? */
+static int has_epoch(const struct import *m)
+{
+    return (import_is_dated(m) || m->o->given & OPTION_EPOCH) &&
+           m->key_size > EPOCH_SIZE;
+}
+
 /* ---- names that stand twice ---- */
 
 /* The keys of a crowd, to be sorted. */
@@ -65,8 +83,7 @@ static int put_keys(struct import *m, struct buffer *keys,
     for (size_t i = 0; i < m->crowd.count && done == 0; i++) {
         const struct incoming *p = &m->crowd.all[i];
 
-        done = key_named(&m->key, m->o, m->crowd.bytes.bytes + p->name,
-                         p->text - p->name, m->key_size);
+        done = take_key(m, p);
         if (done != 0 || m->key.length != m->key_size)
             continue;
         names[(*count)++].index = i;
@@ -140,7 +157,8 @@ static int refuse_line(struct import *m, const struct incoming *p,
         complain("%s: there is no name", import_place(m, p->line));
     else if (import_is_told(m))
         refuse_point(import_place(m, p->line), name_of(m, p, &name), number,
-                     m->key_size, number == BHTF_NO_ROOM
+                     has_epoch(m) ? m->key_size - EPOCH_SIZE : m->key_size,
+                     number == BHTF_NO_ROOM
                          ? room_by_compaction(import_target(m), &m->key, text,
                                               mode_of(m->o)) : 0);
     buffer_free(&name);
@@ -227,7 +245,7 @@ static int make_room(struct outcomes *all)
 }
 
 /* Keeps what would become of a point: its name, and words. */
-static int keep_outcome(struct import *m, const struct change *c,
+static int keep_outcome(struct import *m, const struct text_change *c,
                         struct texts t)
 {
     struct outcomes *all = &m->outcomes;
@@ -240,9 +258,11 @@ static int keep_outcome(struct import *m, const struct change *c,
         return out_of_memory();
     new = &all->all[all->count++];
     new->kind = c->kind;
-    new->harm = fmax(c->plan, fabs(c->height));
+    new->harm = fmax(c->move.plane, fabs(c->move.height));
     new->words = all->bytes.length;
-    done = name_show(&all->bytes, m->key.bytes, m->key.length);
+    done = has_epoch(m)
+        ? dated_show(&all->bytes, m->key.bytes, m->key_size)
+        : name_show(&all->bytes, m->key.bytes, m->key.length);
     if (c->kind != CHANGE_NEW) {
         done |= buffer_put(&all->bytes, ": ", 2);
         done |= change_put(&all->bytes, c, t);
@@ -305,7 +325,7 @@ static int merge(struct import *m, struct piece old, struct piece given,
 static int note_stored(struct import *m, const struct incoming *p,
                        struct texts t)
 {
-    const struct change c = change_of(t);
+    const struct text_change c = change_of(t);
 
     m->taken++;
     m->fresh += c.kind == CHANGE_NEW;
@@ -372,8 +392,9 @@ static int store_point(struct import *m, const struct incoming *p)
         return refuse_twice(m, p);
     if (p->again)
         return DONE;
-    if (key_named(&m->key, m->o, m->crowd.bytes.bytes + p->name,
-                  p->text - p->name, m->key_size) != 0)
+    if (p->text == p->name && has_epoch(m)) /* else the key is all zero */
+        return refuse_line(m, p, BHTF_BAD_KEY, NULL);
+    if (take_key(m, p) != 0)
         return out_of_memory();
     status = find_old(m, &old, &t.old, &number);
     if (status != DONE)
@@ -427,7 +448,9 @@ static int judge_all(struct import *m)
     j.image = to.image;
     j.length = to.length;
     j.key_size = m->key_size;
-    j.allowed = m->o->given;
+    j.dated = has_epoch(m);
+    /* A prism's readings stand within a centimetre of each other. */
+    j.allowed = m->o->given | (import_is_dated(m) ? OPTION_ALLOW_NEAR : 0);
     return judge(&j, &m->movers);
 }
 

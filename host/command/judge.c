@@ -2,6 +2,7 @@
 #include "judge.h"
 
 #include "commands.h"
+#include "epoch.h"
 #include "point.h"
 
 #include <math.h>
@@ -192,9 +193,12 @@ static void put_line(const struct scene *s, const struct mover *m, char *to,
 static const char *show(const struct scene *s, struct buffer *to,
                         const uint8_t *key)
 {
+    uint32_t size = s->j->key_size;
+    int done;
+
     to->length = 0;
-    if (name_show(to, key, s->j->key_size) != 0 ||
-        buffer_put_byte(to, '\0') != 0)
+    done = s->j->dated ? dated_show(to, key, size) : name_show(to, key, size);
+    if (done != 0 || buffer_put_byte(to, '\0') != 0)
         return "?";
     return (const char *)to->bytes;
 }

@@ -37,6 +37,7 @@ struct judgement {
     const uint8_t *image;            /* and all of it after */
     size_t length;
     uint32_t key_size;
+    int dated;           /* the keys are names with epochs */
     uint64_t allowed;    /* bits of OPTION_ALLOW_.. */
 };
 

@@ -12,7 +12,7 @@
 
 /* ---- in ---- */
 
-enum { OTHERS = 8, OTHER = 40 };
+enum { OTHERS = 32, OTHER = 40 };
 
 struct landxml {
     struct arrivals *a;
@@ -30,6 +30,7 @@ struct landxml {
     size_t left_out;          /* points of such a state */
     char others[OTHERS][OTHER]; /* parts of the file that are not points */
     size_t other_count;
+    size_t more;              /* parts behind as many names */
     int status;
 };
 
@@ -126,6 +127,8 @@ static void note_other(struct landxml *x, const char *element)
             return;
     if (x->other_count < OTHERS)
         snprintf(x->others[x->other_count++], OTHER, "%s", element);
+    else
+        x->more++;
 }
 
 static void XMLCALL begin(void *user, const char *name,
@@ -250,6 +253,7 @@ static void say_rest(const struct landxml *x, int quiet)
                                                     "point left out");
     for (size_t i = 0; i < x->other_count; i++)
         complain("%s: %s not carried over", x->a->input, x->others[i]);
+    say_loss(x->a->input, x->more, "other part", "not carried over");
 }
 
 static void parse(struct landxml *x, struct piece file)

@@ -66,17 +66,14 @@ static void draw_leads(const struct plan *p)
     fputs("</g>\n", stdout);
 }
 
+/* It ends before the mark of its point. */
 static void draw_arrow(const struct label *l)
 {
     double x = l->x - l->tip_x, y = l->y - l->tip_y;
     double length = hypot(x, y);
-    double ux = x / length, uy = y / length;
-    double end_x = l->x - ux * 1.5, end_y = l->y - uy * 1.5;
 
-    printf("<path d=\"M%.2f %.2f L%.2f %.2f M%.2f %.2f L%.2f %.2f L%.2f "
-           "%.2f\"/>\n", l->tip_x, l->tip_y, end_x, end_y,
-           end_x - ux * 1.6 - uy * 0.8, end_y - uy * 1.6 + ux * 0.8, end_x,
-           end_y, end_x - ux * 1.6 + uy * 0.8, end_y - uy * 1.6 - ux * 0.8);
+    svg_arrow(l->tip_x, l->tip_y, l->x - x / length * 1.5,
+              l->y - y / length * 1.5);
 }
 
 static void draw_arrows(const struct plan *p)

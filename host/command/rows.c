@@ -77,7 +77,7 @@ static void put_json_character(const uint8_t *at, size_t length, uint32_t c)
 }
 
 /* A byte that is no UTF-8 becomes U+FFFD. */
-static void put_json(struct piece p)
+void json_put(struct piece p)
 {
     putchar('"');
     while (p.length > 0) {
@@ -121,7 +121,7 @@ static void put_json_fields(const struct piece fields[POINT_FIELDS])
             continue;
         printf(",\"%s\":", point_words[i]);
         if (i == NOTE)
-            put_json(fields[i]);
+            json_put(fields[i]);
         else
             put_json_number(fields[i]);
     }
@@ -141,7 +141,7 @@ static void put_json_row(struct rows *r, const struct spot *s)
     struct piece fields[POINT_FIELDS];
 
     fputs("{\"name\":", stdout);
-    put_json(name);
+    json_put(name);
     printf(",\"slot\":%lu", (unsigned long)s->slot);
     if (has_coordinates(s) && point_take(&r->record, s->text, fields)) {
         put_json_fields(fields);
@@ -149,7 +149,7 @@ static void put_json_row(struct rows *r, const struct spot *s)
         fputs(",\"damaged\":true", stdout);
     } else if (s->kind != SPOT_BARE) {
         fputs(",\"text\":", stdout);
-        put_json(s->text);
+        json_put(s->text);
     }
     if (!utf8_whole(s->text.bytes, s->text.length))
         put_hex(s->text);

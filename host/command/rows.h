@@ -26,6 +26,9 @@ void rows_begin(const struct rows *r);
 /* DONE, or TROUBLE after a complaint. */
 int rows_put(struct rows *r, const struct spot *s);
 
+/* A text as JSON writes it. */
+void json_put(struct piece p);
+
 void rows_free(struct rows *r);
 
 #endif

@@ -210,6 +210,18 @@ void svg_end(void)
     fputs("</svg>\n", stdout);
 }
 
+void svg_arrow(double x, double y, double tip_x, double tip_y)
+{
+    double length = hypot(tip_x - x, tip_y - y);
+    double head = fmin(1.6, 0.6 * length);
+    double ux = (tip_x - x) / length * head, uy = (tip_y - y) / length * head;
+
+    printf("<path d=\"M%.2f %.2f L%.2f %.2f M%.2f %.2f L%.2f %.2f L%.2f "
+           "%.2f\"/>\n", x, y, tip_x, tip_y, tip_x - ux - uy / 2,
+           tip_y - uy + ux / 2, tip_x, tip_y, tip_x - ux + uy / 2,
+           tip_y - uy - ux / 2);
+}
+
 /* ---- grid ---- */
 
 static void draw_line(double x1, double y1, double x2, double y2)

@@ -60,6 +60,9 @@ int xml_holds(const char *bytes, size_t length);
 void svg_text(double x, double y, double size, const char *anchor,
               const char *text);
 
+/* An arrow from a place of the sheet to another one. */
+void svg_arrow(double x, double y, double tip_x, double tip_y);
+
 /* A path's last part, at most so many bytes of it, for a title. */
 void file_word(char *to, size_t room, const char *path);
 

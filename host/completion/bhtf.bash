@@ -49,6 +49,7 @@ _bhtf() {
       --decimal) words=(comma point) ;;
       --by | -b) words=(name slot) ;;
       --format) words=(1.0.2 1.0.1 1.0.0 2.0.0) ;;
+      --epoch-unit) words=(day week) ;;
       --paper | -p) words=(A4 A3 A2 A1 A0) ;;
       --delta | --text-file) compopt -o default 2>/dev/null ;;
       *)

@@ -149,12 +149,11 @@ uint32_t bhtf_file_compact(bhtf_file *file);
  * that is answered other than 0; it may be tried again. */
 uint32_t bhtf_file_begin(bhtf_file *file);
 uint32_t bhtf_file_commit(bhtf_file *file);
+uint32_t bhtf_file_rollback(bhtf_file *file);
 
 /* In a batch: the image, to be changed by any call of bhtf.h. Commit brings
  * what has changed. NULL where no batch is open. */
 uint8_t *bhtf_file_batch_image(bhtf_file *file, size_t *image_len);
-
-uint32_t bhtf_file_rollback(bhtf_file *file);
 
 /* ---- a journal that stops everybody ---- */
 

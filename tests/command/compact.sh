@@ -26,8 +26,8 @@ same "stat has nothing more to free" 0 "$(bhtf stat worksite | grep -c compact)"
 same "the book: what was withdrawn holds nothing" $'"a" 5 "first"\n"c" 4 "cccc"\n"d" 2 "dD"\n"e" 0 ""\n"f" - -\n"g" - -' \
   "$(bhtf book worksite | sed 1,6d | LC_ALL=C sort)"
 gives "once more" 0 '^after: 27 bytes of data used, 4069 free, 0 more than before$' bhtf compact worksite
-same "--quiet" '' "$(bhtf compact worksite --quiet 2>&1)"
-holds "dump and load make the same of both" cmp <(bhtf dump before2) <(bhtf dump worksite)
+none "--quiet" "$(bhtf compact worksite --quiet 2>&1)"
+holds "dump and load make the same of both" alike <(bhtf dump before2) <(bhtf dump worksite)
 bhtf create none2 --slots 3
 gives "a file without points" 0 '0 more than before' bhtf compact none2
 bhtf create early4 --format 1.0.1 --slots 9
@@ -43,7 +43,7 @@ unsound() { # NAME WORDS FILE: refused with 15 and those words, by both forms, a
   gives "$1: why" 1 "^unsound: $2\$" bhtf compact "$3"
   gives "$1: why, in a dry run" 1 "^unsound: $2\$" bhtf compact "$3" --dry-run
   same "$1: in check's words" "$(bhtf check "$3")" "$(bhtf compact "$3" 2>&1 | tail -n +2)"
-  same "$1: nothing on standard output" '' "$(bhtf compact "$3" 2>/dev/null)"
+  none "$1: nothing on standard output" "$(bhtf compact "$3" 2>/dev/null)"
   holds "$1: it is as it was" cmp before3 "$3"
 }
 unsound "two points on one text" "$both bytes 4096 to 4104 of the file" joined
@@ -93,4 +93,4 @@ gives "to the last byte" 0 '^data: 4096 bytes, 4096 used, 0 free$' bhtf stat tig
 gives "the file is sound" 0 '^sound: 2 points$' bhtf check tight
 gives "load has nothing to compact" 1 "line [0-9]+: .*refused \\(13\\): .*$larger" \
   sh -c 'printf "%s\n" "bhtf-dump 1" "key-size 4" "slots 5" "size 4096" "seed 0" "\"a\" \"b\"" end | bhtf load full2'
-gives "a program of its own reads the words of 15" 0 'The file is not sound\.' cat "$root/host/file/answer_words.c"
+gives "the words of 15" 0 '^The file is not sound\.' words_of 15

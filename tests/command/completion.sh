@@ -20,11 +20,11 @@ same "bash: every command" "$( (bhtf --help | sed -n 's/^  bhtf \([a-z]*\) .*/\1
   "$(completed 'bhtf ' | grep -v '^-')"
 same "bash: help" $'dump' "$(completed 'bhtf help du')"
 same "bash: options" $'--decimal\n--delimiter\n--delta\n--drop\n--dry-run' "$(completed 'bhtf import finish --d')"
-same "bash: letters are no names of options" '' "$(completed 'bhtf count finish --long')"
+none "bash: letters are no names of options" "$(completed 'bhtf count finish --long')"
 same "bash: names of points" $'CP-1\nCP\\ 2' "$(completed 'bhtf get finish C')"
 same "bash: names behind options" 'RP-3' "$(completed 'bhtf delete finish -q R')"
 same "bash: names to withdraw a text from" 'RP-3' "$(completed 'bhtf withdraw finish R')"
-same "bash: no names for a file of records" '' "$(completed 'bhtf delete finish --delta R')"
+none "bash: no names for a file of records" "$(completed 'bhtf delete finish --delta R')"
 same "bash: names behind one" 'RP-3' "$(completed 'bhtf delete --delta changes finish R')"
 same "bash: versions" $'1.0.0\n1.0.1\n1.0.2' "$(completed 'bhtf create new --format 1')"
 same "bash: the other version" 2.0.0 "$(completed 'bhtf create new --format 2')"
@@ -34,7 +34,7 @@ same "bash: names behind an option's value" 'RP-3' "$(completed 'bhtf get --wait
 same "bash: and behind a letter's" 'RP-3' "$(completed 'bhtf set -H 489.3 finish R')"
 same "bash: patterns begin as names do" 'RP-3' "$(completed 'bhtf list finish --by name R')"
 same "bash: encodings" 'windows-1252' "$(completed 'bhtf import finish x.csv --encoding w')"
-same "bash: a file that is not there" '' "$(completed 'bhtf get nowhere C')"
+none "bash: a file that is not there" "$(completed 'bhtf get nowhere C')"
 
 # zsh's own completion, on a terminal of its own.
 holds "zsh is there" "$root/.ci/install" zsh

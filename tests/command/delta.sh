@@ -52,7 +52,7 @@ gives "once more" 0 '^0 records applied, 1 passed over$' bhtf apply copy <step
 gives "from a file that is named" 0 '^0 records applied' bhtf apply copy step
 gives "and from -" 0 '^0 records applied' sh -c 'bhtf apply copy - <step'
 holds "it is still equal" cmp tuesday copy
-same "--quiet" '' "$(bhtf apply copy step --quiet 2>&1)"
+none "--quiet" "$(bhtf apply copy step --quiet 2>&1)"
 gives "equal files: a record that changes nothing" 0 'monday and monday are equal' sh -c 'bhtf delta monday monday >still'
 same "of the least length" 116 "$(stat -c %s still)"
 gives "which a copy that is up to date passes over" 0 '^0 records applied, 1 passed over$' bhtf apply monday still

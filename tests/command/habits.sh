@@ -38,7 +38,7 @@ holds "the manual page and the help have the true limits" limits_in_page
 gives "refusal 1 has them" 1 "to $(with_commas "$(limit IMAGE_MAX)")\." bhtf create limits --size 5000
 gives "refusal 2" 1 "1 to $(limit KEY_MAX) bytes" bhtf create limits -k 99
 gives "refusal 3" 1 "more than $(with_commas "$(limit SLOTS_MAX)") slots" bhtf create limits -s 4000000000
-gives "refusal 12" 0 "longer than $(with_commas "$(limit MESSAGE_MAX)") bytes" cat "$root/host/file/answer_words.c"
+gives "refusal 12" 0 "longer than $(with_commas "$(limit MESSAGE_MAX)") bytes" words_of 12
 
 # ---- options ----
 
@@ -117,7 +117,7 @@ gives "import waiting on a terminal says so" 0 'habit: waiting for lines of CSV'
 gives "and takes what is typed" 0 '1 point stored' cat typed.out
 typed "bhtf load habit2"
 gives "load waiting on a terminal says so" 0 'habit2: waiting for the lines of a dump' cat typed.out
-same "nor where the text is piped" '' "$(printf x | bhtf add habit piped 2>&1)"
+none "nor where the text is piped" "$(printf x | bhtf add habit piped 2>&1)"
 
 # ---- progress ----
 

@@ -122,7 +122,7 @@ gives "UTF-8 stands as it is" 0 '^"ümlaut Süd" "1,2,5,Kirchturm Süd ✓"$' ca
 holds "nothing but text" sh -c "! LC_ALL=C grep -qP '[\x00-\x09\x0B-\x1F\x7F]' round.dump"
 gives "load" 0 "^$points points loaded$" bhtf load loaded round.dump
 holds "equal points and texts" same_points loaded
-holds "the dump of what was loaded is the same" cmp round.dump <(bhtf dump loaded)
+holds "the dump of what was loaded is the same" alike round.dump <(bhtf dump loaded)
 gives "it is sound" 0 "^sound: $points points$" bhtf check loaded
 same "it is as long" "$(stat -c %s round)" "$(stat -c %s loaded)"
 gives "load leaves an existing file alone" 2 'already is a file' bhtf load loaded round.dump
@@ -170,7 +170,7 @@ first 48
 last 57' "$(sed -n 2,10p foreign.dump)"
 same "its scramble" 10 "$(grep scramble foreign.dump | grep -o 0x | wc -l)"
 bhtf load foreign2 foreign.dump --quiet
-holds "its dump again" cmp foreign.dump <(bhtf dump foreign2)
+holds "its dump again" alike foreign.dump <(bhtf dump foreign2)
 holds "the same header" cmp -n 44 foreign foreign2
 holds "the same scramble" cmp -i 512 -n 40 foreign foreign2
 gives "and it is sound" 0 'sound: 60' bhtf check foreign2
@@ -238,7 +238,7 @@ gives "a dump to a full device" 2 'cannot write' sh -c 'bhtf dump round >/dev/fu
 gives "a dump with closed output" 2 'cannot write' sh -c 'bhtf dump round >&-'
 printf '%s\r\n' "${head_lines[@]}" '# a comment' '' '"\x41b" "\x00\"\\\n"' end >dos.dump
 gives "comments, empty lines, carriage returns" 0 '^1 point loaded$' bhtf load dos dos.dump
-holds "its text" cmp <(printf '\000"\\\n') <(bhtf get dos Ab)
+holds "its text" alike <(printf '\000"\\\n') <(bhtf get dos Ab)
 gives "a dump of nothing but a header" 0 '^0 points loaded$' sh -c 'printf "%s\n" "$@" | bhtf load bare' - "${head_lines[@]}" end
 gives "is a sound file" 0 '^sound: 0 points$' bhtf check bare
 

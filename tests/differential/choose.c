@@ -183,6 +183,8 @@ void lend_data(size_t size)
     list.now.data = data_start + below(POOL - MIB16);
     if (size <= TAIL && one_in(2))
         list.now.data = data_start + data_size - size;
+    if (size <= EVEN && one_in(size < 500 ? 16 : 2))
+        list.now.data = even_start + below(EVENS) * EVEN;
     if (size == 0 && one_in(2))
         list.now.data = NULL;
 }
@@ -260,6 +262,8 @@ uint32_t choose_image_length(uint32_t data)
 
     if (one_in(200))
         return data + PAGE * below(20);
+    if (one_in(400))
+        return data + PAGE * (20 + below(12));
     return data + PAGE * PICK(pages);
 }
 
@@ -271,5 +275,7 @@ size_t wrong_image_length(void)
 
     if (one_in(200))
         return GIB + PAGE;
+    if (one_in(12) && data_size > POOL) /* 32 bits of it are a lawful length */
+        return (size_t)((UINT64_C(1) << 32) + l);
     return PICK(lengths);
 }

@@ -12,9 +12,12 @@
 
 static const struct calls plain = CALLS_OF(plain);
 
-/* A longer slice than the image starts in the bytes before it. */
+/* A longer slice than the image starts in the bytes before it; one of 4 GiB
+ * and more, of which nothing is there and nothing may be read, at the image. */
 static uint8_t *slice(uint8_t *image, size_t length)
 {
+    if (length > UINT32_MAX)
+        return image;
     return length > lent.length ? image + lent.length - length : image;
 }
 

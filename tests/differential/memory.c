@@ -19,6 +19,7 @@ struct slice filled;
 struct slice target;
 uint8_t *data_start;
 size_t data_size;
+uint8_t *even_start;
 uint8_t *key_end;
 uint8_t *lowest_end;
 uint8_t *highest_end;
@@ -74,6 +75,18 @@ static void map_data(void)
     mprotect(data_start + data_size, PAGE, PROT_NONE);
 }
 
+/* Data of one repeated byte: what it changes is one long run, where random
+ * bytes are now and then what was there. */
+static void map_even(void)
+{
+    static const uint8_t bytes[EVENS] = { 'x', 'y', 255 };
+
+    even_start = map_before_wall(EVENS * EVEN) - EVENS * EVEN;
+    for (uint32_t i = 0; i < EVENS; i++)
+        memset(even_start + i * EVEN, bytes[i], EVEN);
+    mprotect(even_start, EVENS * EVEN, PROT_READ);
+}
+
 /* Where the machine allows, lengths that do not fit 32 bits can be lent. */
 static void map_slice(struct slice *s)
 {
@@ -94,6 +107,7 @@ void map_all(void)
     lowest_end = map_before_wall(PAGE);
     highest_end = map_before_wall(PAGE);
     map_data();
+    map_even();
     map_slice(&work);
     map_slice(&listing);
     map_slice(&journal);

@@ -12,6 +12,8 @@
 #define OLD_SLOTS 65536u   /* the same before 02; images ended at MIB16 */
 #define POOL (MIB16 + 64 * PAGE) /* random bytes for data and old content */
 #define TAIL (64 * PAGE)         /* the same at the end of the data */
+#define EVEN (32 * PAGE)         /* data of one repeated byte, for long runs */
+#define EVENS 3u                 /* of so many bytes */
 #define GUARD 64u
 #define GUARD_BYTE 0xA7
 #define NAMES 64u
@@ -150,6 +152,7 @@ extern struct slice target; /* of a conversion */
 
 extern uint8_t *data_start;
 extern size_t data_size;
+extern uint8_t *even_start;
 extern uint8_t *key_end;
 extern uint8_t *lowest_end;
 extern uint8_t *highest_end;
