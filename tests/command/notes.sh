@@ -86,8 +86,8 @@ bhtf add onto a ''
 bhtf add onto b x
 at onto $((2048 + $(bhtf list onto a --long | awk '{ print $1 }') * 12 + 8)) '\000\000\020\004'
 gives "an empty text inside another's bytes" 1 'share byte' bhtf check onto
-gives "other survey files leave both out, and count them" 0 '3 points left out: no text' bhtf export kinds --dxf
-gives "each by its own words" 0 '2 points left out: the text is empty' bhtf export kinds --gsi
+gives "other survey files leave both out, and count them" 3 '3 points left out: no text' bhtf export kinds --dxf
+gives "each by its own words" 3 '2 points left out: the text is empty' bhtf export kinds --gsi
 
 # ---- export and import ----
 
