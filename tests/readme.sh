@@ -1,8 +1,8 @@
 #!/usr/bin/env bash
 # What README.md shows is what happens: each sample, typed in an empty folder in the order of the page and on a terminal, prints what stands
 # below it. A sample stands in a fence ```console; its lines begin with '$ ', further lines of a command with '> ', and the rest is what is
-# printed. Besides: the number of must-fail edits on the page is that of the tree.
-# The last line is 'N passed, M failed'.
+# printed. Besides: the number of must-fail edits on the page is that of the tree, and the entries of docs/DECISIONS.md stand in the
+# order of their numbers. The last line is 'N passed, M failed'.
 #   LIB=path    the library, from the repository's root; target/staticlib/libstation.a unless given
 #   BHTF=path   a command that is already built, in place of building it
 #   --samples   prints what the commands print, to be looked at when a sample is written
@@ -58,5 +58,12 @@ test_that "a sample that shows another line fails" differs
 
 edits=(crates/*/must-fail/*.edit)
 test_that "README says how many must-fail edits there are, ${#edits[@]}" grep -q "tries ${#edits[@]} must-fail edits" README.md
+
+# in_order PAGE: its entries' numbers rise
+in_order() {
+  awk '/^[0-9]+\. / { at = $1 + 0; n++; if (at <= last) { print FILENAME ": " at " stands after " last; bad = 1 } last = at }
+    END { exit bad || !n }' "$1"
+}
+test_that "decisions stand in the order of their numbers" in_order docs/DECISIONS.md
 
 cd "$root" && tally
