@@ -1,8 +1,8 @@
 #!/usr/bin/env bash
 # What README.md shows is what happens: each sample, typed in an empty folder in the order of the page and on a terminal, prints what stands
 # below it. A sample stands in a fence ```console; its lines begin with '$ ', further lines of a command with '> ', and the rest is what is
-# printed. Besides: the number of must-fail edits on the page is that of the tree, and the entries of docs/DECISIONS.md stand in the
-# order of their numbers. The last line is 'N passed, M failed'.
+# printed. Besides: the number of must-fail edits on the page is that of the tree, the entries of docs/DECISIONS.md stand in the order
+# of their numbers, and docs/layers.svg is what docs/layers.awk makes of crates.txt. The last line is 'N passed, M failed'.
 #   LIB=path    the library, from the repository's root; target/staticlib/libstation.a unless given
 #   BHTF=path   a command that is already built, in place of building it
 #   --samples   prints what the commands print, to be looked at when a sample is written
@@ -10,7 +10,6 @@ set -u
 export LC_ALL=C.UTF-8
 cd "$(dirname "$0")/.." || exit 2
 . tests/tally.sh
-root=$PWD
 work=$(mktemp -d)
 trap 'rm -rf "$work"' EXIT
 
@@ -66,4 +65,11 @@ in_order() {
 }
 test_that "decisions stand in the order of their numbers" in_order docs/DECISIONS.md
 
-cd "$root" && tally
+# the picture of the layers: current, well-formed, and every crate is on it
+current() { diff <(awk -f docs/layers.awk crates.txt) docs/layers.svg >"$work/said" || { head -n 5 "$work/said"; return 1; }; }
+says_all() { grep -q ">$(ls -d crates/*/ | wc -l) crates\." docs/layers.svg; }
+test_that "docs/layers.svg is what docs/layers.awk makes of crates.txt" current
+test_that "it counts every crate" says_all
+for picture in docs/layers.svg docs/overview.svg; do test_that "$picture is well-formed" xmllint --noout "$picture"; done
+
+tally
