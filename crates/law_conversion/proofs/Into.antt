@@ -16,7 +16,8 @@ pub convert-number : (img : Bytes) (L : ℕ) → convert img L .answer .number �
 unfolding convert plain
 convert-number img L = refl
 
-pub convert-into : (img t : Bytes) → convertNumber img (length t) ≡ 0 → convert img (length t) .after ≡ convertInto img t
+pub convert-into : (img t : Bytes) → convertNumber img (length t) ≡ 0
+    → convert img (length t) .after ≡ convertInto img t
 unfolding convert convertInto
 convert-into img t z =
     let L = length t in
