@@ -63,7 +63,8 @@ withEntry e es = e ∷ without (e .name) es
 unfoldable pub stepOf : Book → List Question → Book → Outcome Book
 stepOf b asks next = record { after = cond (eqb (firstNo asks) 0) next b; answer = plain (firstNo asks) }
 
--- "12 if m is above 16,777,215 and 13 if U + 4 + m exceeds R"
+-- "12 if m is above 16,777,215 and 13 if U + 4 + m exceeds R". Job 11, here and below: "On a 2.0 image the book adds 5
+-- where it added 4, and question 12's bound is 1,073,741,823"
 unfoldable pub roomAsks : Book → ℕ → List Question
 roomAsks b m = ask 12 (leb m (b .terms .most)) ∷ ask 13 (leb (b .used + b .terms .head + m) (b .terms .R)) ∷ []
 

@@ -22,7 +22,7 @@ mostSlots = 1048576
 abbrev pub mostCharacter : ℕ
 mostCharacter = 255
 
--- ---- messages: bytes of a length, the largest length
+-- ---- messages: bytes of a length, the largest length, in version 1
 abbrev pub lengthWidth : ℕ
 lengthWidth = 3
 

@@ -65,7 +65,7 @@ message W t = (active ∷ digits W (length t)) ++ t
 unfoldable pub setFree : ℕ → Bytes → ℕ → Bytes
 setFree D img x = setField (setField img freeField x) pageField (lastPage D x)
 
--- "New space for m bytes is taken at X, and X grows by 4 + m."
+-- "New space for m bytes is taken at X, and X grows by 4 + m." Job 11: by 5 + m where headers have 5 bytes
 unfoldable pub takeSpace : Layout → Bytes → Bytes → Bytes
 takeSpace g img t =
     let x : ℕ = field img freeField in

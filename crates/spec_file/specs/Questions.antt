@@ -43,7 +43,8 @@ slotsAllowed N = leb N mostSlots
 unfoldable pub tableFits : ℕ → ℕ → ℕ → Bool
 tableFits L K N = leb (dataStart K N) L
 
--- "5. Are the first 5 bytes "BHTFv", the next two 1 and 0, the next at most 1?" 02: "question 5 accepts up to 2"
+-- "5. Are the first 5 bytes "BHTFv", the next two 1 and 0, the next at most 1?" 02: "question 5 accepts up to 2";
+-- Job 11: "Question 5 takes 2, 0, 0 too"
 unfoldable pub versionKnown : Bytes → Bool
 versionKnown img =
     same (part img 0 5) magic
@@ -102,7 +103,8 @@ metMessageSound g img exhausted = true
 unfoldable pub somePoint : Bytes → Bool
 somePoint img = leb 1 (field img pointsField)
 
--- "12. Is the message to be placed in new space at most 16,777,215 bytes?"
+-- "12. Is the message to be placed in new space at most 16,777,215 bytes?" 02, Job 11: on a 2.0 image
+-- "question 12's bound is 1,073,741,823"
 unfoldable pub lengthAllowed : Layout → Option Bytes → Bool
 lengthAllowed g none = true
 lengthAllowed g (some t) = leb (length t) (g .most)

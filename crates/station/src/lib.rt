@@ -69,7 +69,8 @@ pub extern "C" fn bhtf_compact(image: &mut [u8]) -> u32
 #[no_mangle]
 pub extern "C" fn bhtf_convert(source: &[u8], target: &mut [u8]) -> u32
     ensures { λ r. ⌜ (r ≡ convertNumber (now (source .entry)) (length (now (target .entry))))
-        × (now (target .exit) ≡ convertInto (now (source .entry)) (now (target .entry))) ⌝ }
+        × (now (target .exit) ≡ convertInto (now (source .entry)) (now (target .entry)))
+        × (now (source .exit) ≡ now (source .entry)) ⌝ }
 {
     call_convert::convert(source, target)
 }
