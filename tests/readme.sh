@@ -40,6 +40,7 @@ build() {
 }
 
 test_that "the command builds" build
+[ "$failed" -eq 0 ] || { tally; exit 1; }
 PATH=$work/bin:$PATH
 mkdir "$work/folder"
 count=$(samples README.md)
