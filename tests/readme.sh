@@ -2,7 +2,8 @@
 # What README.md shows is what happens: each sample, typed in an empty folder in the order of the page and on a terminal, prints what stands
 # below it. A sample stands in a fence ```console; its lines begin with '$ ', further lines of a command with '> ', and the rest is what is
 # printed. Besides: the number of must-fail edits on the page is that of the tree, the entries of docs/DECISIONS.md stand in the order
-# of their numbers, and docs/layers.svg is what docs/layers.awk makes of crates.txt. The last line is 'N passed, M failed'.
+# of their numbers, docs/layers.svg is what docs/layers.awk makes of crates.txt, and links to headings lead
+# somewhere. The last line is 'N passed, M failed'.
 #   LIB=path    the library, from the repository's root; target/staticlib/libstation.a unless given
 #   BHTF=path   a command that is already built, in place of building it
 #   --samples   prints what the commands print, to be looked at when a sample is written
@@ -65,6 +66,21 @@ in_order() {
     END { exit bad || !n }' "$1"
 }
 test_that "decisions stand in the order of their numbers" in_order docs/DECISIONS.md
+
+# anchors PAGE: of its headings, as they are made in a browser
+anchors() { sed -nE 's/^#+ //p' "$1" | tr 'A-Z ' 'a-z-' | tr -cd 'a-z0-9_\n-'; }
+
+# leads PAGE: each link of the page to a heading, of its own or of another page, finds it
+leads() {
+  local link to bad=0
+  while read -r link; do
+    to=${link%%#*}
+    to=${to:+$(dirname "$1")/$to}
+    anchors "${to:-$1}" | grep -qxF -- "${link#*#}" || { echo "$1: no heading for $link"; bad=1; }
+  done < <(grep -oE '\]\(([^)#: ]+\.md)?#[^)]+\)' "$1" | sed -E 's/^\]\((.*)\)$/\1/' | sort -u)
+  return $bad
+}
+for page in README.md docs/*.md; do test_that "links of $page to headings" leads "$page"; done
 
 # the picture of the layers: current, well-formed, and every crate is on it
 current() { diff <(awk -f docs/layers.awk crates.txt) docs/layers.svg >"$work/said" || { head -n 5 "$work/said"; return 1; }; }
