@@ -5,11 +5,14 @@
 # of one sample of each phase; missed is by callgrind's simulated
 # predictor. The programs must have been built (run.sh does).
 #
-#   bench/count.sh [K,K.. [N,N.. [SUBJECT,SUBJECT.. [SEED]]]]
+#   bench/count.sh [K,K.. [N,N.. [SUBJECT,SUBJECT.. [SEED [VERSION]]]]]
+#
+# VERSION 2 counts on images of version 2.0.0.
 set -u
 cd "$(dirname "$0")/.." || exit 2
 bin=target/bench
 keys=${1:-4,8,16,32} slots=${2:-5507,65521} subjects=${3:-plain,tuned,library} seed=${4:-1}
+export BENCH_VERSION=${5:-1}
 plan="build:50 hit miss replace renew append swap walk check fill:90 hit miss swap fill:100 hit miss swap"
 work=$(mktemp -d) || exit 2
 trap 'rm -rf "$work"' EXIT

@@ -10,10 +10,11 @@
 #     --no-counts            no instructions and branches, which need valgrind
 #     --large                instead, every call at 1,048,576 slots and some
 #                            500 MB of messages beside the two C programs, in
-#                            3 GiB of memory, compaction there and at
-#                            65,536 slots, readings by column, names in
-#                            ranges, and epochs; writes bench/large.md,
-#                            bench/compact.md, bench/columns.md,
+#                            3 GiB of memory, compaction and conversion
+#                            there and at 65,536 slots, long texts, readings
+#                            by column, names in ranges, and epochs; writes
+#                            bench/large.md, bench/compact.md,
+#                            bench/convert.md, bench/columns.md,
 #                            bench/ranges.md, bench/epochs.md,
 #                            bench/listed.md and those sections of
 #                            docs/PERFORMANCE.md
@@ -26,7 +27,7 @@
 set -u
 
 usage() {
-  sed -n '2,26s/^# \{0,1\}//p' "$0"
+  sed -n '2,27s/^# \{0,1\}//p' "$0"
   exit 2
 }
 
@@ -111,9 +112,9 @@ measure() {
   put_section "bench/$1.md"
 }
 
-# Every call at the largest size, compaction, columns, ranges, epochs, and the listed forms.
+# Every call at the largest size, compaction, conversion, columns, ranges, epochs, and the listed forms.
 run_large() {
-  local program programs=(large compact columns ranges epochs)
+  local program programs=(large compact convert columns ranges epochs)
   .ci/install gcc make util-linux $([ "$counts" = 1 ] && echo valgrind) && find_library &&
     make -s -C bench LIB="$LIB" "${programs[@]/#/../$bin/}" "../$bin/listed" || exit 2
   for program in "${programs[@]}"; do measure "$program" "$rounds"; done
@@ -271,6 +272,7 @@ compared() {
   sed '$d' "$out"
 }
 compared compact "$([ "$quick" = 1 ] && echo 1 || echo 7)" 65536
+compared convert "$([ "$quick" = 1 ] && echo 1 || echo 7)" 65536
 compared columns "$([ "$quick" = 1 ] && echo 1 || echo 7)" "$([ "$quick" = 1 ] && echo 1000 || echo 1000000)"
 compared ranges "$([ "$quick" = 1 ] && echo 1 || echo 7)" "$([ "$quick" = 1 ] && echo 5507 || echo 1048576)"
 compared epochs "$([ "$quick" = 1 ] && echo 1 || echo 7)" "$([ "$quick" = 1 ] && echo 5507 || echo 1048576)"
@@ -305,7 +307,7 @@ if [ "$quick" = 1 ] || [ "$self" = 1 ] || [ "$failed" -gt 0 ]; then pages=$bin; 
 mkdir -p "$pages"
 cp "$results" "$bin/results"
 slots_read page >"$work/slots.md" || fail "the slots read"
-awk -v rounds="$rounds" -v head=bench/head.md -v large=bench/large.md -v compact=bench/compact.md -v columns=bench/columns.md -v ranges=bench/ranges.md -v epochs=bench/epochs.md -v listed=bench/listed.md -v disk=bench/files.md -v tried=bench/tried.md -v slots="$work/slots.md" -v command="$given" -v seed="$seed" -v files="$files_say" \
+awk -v rounds="$rounds" -v head=bench/head.md -v large=bench/large.md -v compact=bench/compact.md -v convert=bench/convert.md -v columns=bench/columns.md -v ranges=bench/ranges.md -v epochs=bench/epochs.md -v listed=bench/listed.md -v disk=bench/files.md -v tried=bench/tried.md -v slots="$work/slots.md" -v command="$given" -v seed="$seed" -v files="$files_say" \
   -v machine="Machine: $(nproc) cores, $(uname -m), gcc $(gcc -dumpfullversion)" \
   -v engines="Engines: gdbm $(version libgdbm-dev), tdb $(version libtdb-dev), LMDB $(version liblmdb-dev), Kyoto Cabinet $(version libkyotocabinet-dev)" \
   -f bench/table.awk "$results" >"$pages/PERFORMANCE.md" || fail "the page"

@@ -5,6 +5,7 @@ AS_LIBRARY = -Dplain_create=bhtf_create -Dplain_add=bhtf_add \
 	-Dplain_check=bhtf_check -Dplain_add_slots=bhtf_add_slots \
 	-Dplain_delete_slots=bhtf_delete_slots \
 	-Dplain_lookup_slots=bhtf_lookup_slots -Dplain_compact=bhtf_compact \
+	-Dplain_convert=bhtf_convert \
 	-Dplain_store_columns=bhtf_store_columns \
 	-Dplain_read_columns=bhtf_read_columns \
 	-Dplain_select=bhtf_select -Dplain_at_epoch=bhtf_at_epoch \

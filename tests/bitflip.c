@@ -1,6 +1,7 @@
 /* Flips each of the 65,536 bits of a small image, asks count and check, and
  * compares how often each answer comes with what the layout says; then selects
- * names and compares how many slots are listed how often, and asks for an epoch.
+ * names and compares how many slots are listed how often, asks for an epoch, and
+ * converts. The same for the image in version 2.0.0.
  * Ends with "N passed, 0 failed".
  *
  * The image: seed 0, K = 1, N = 4, L = 8192, so D = 4096.
@@ -56,7 +57,18 @@
  * An epoch, of name 2 up to 4101, of those that 5 and 6 leave: K is below 5,
  * which is 23, but for K = 5, 9 and 17. With 9 and 17 the name has another
  * length, 7. With 5 slot 0 is 2, 0, 0, 16, 5: of epoch 4101, and the offset
- * behind it, 32, 0, 0, 16, leaves the image: 11. */
+ * behind it, 32, 0, 0, 16, leaves the image: 11.
+ *
+ * In version 2.0.0 messages are a byte longer each: they stand at 4096, 4102 and
+ * 4109, and X = 4117. What differs:      5    6  slot count  sound
+ *   0-7 letters, version 2, 0, 0         64
+ *   52 X: 4116, 4113 and 4101 cut messages    20    3             9
+ *   message lengths: one byte more each            92             4
+ *   behind X                                                  32600
+ *   together                             64  247  242     8   64975
+ * Name 2 has epoch 4102 with K = 5.
+ *
+ * A conversion is accepted where the image is sound, and else 5, 6 or 15. */
 #include "calls.h"
 
 #include <stdio.h>
@@ -75,20 +87,33 @@ static const char *const class_name[CLASSES] = {
     "5", "6", "slot", "count", "sound",
 };
 
-/* The points in the order they are added, and where they come to stand. */
-static const struct point {
+/* The points in the order they are added, and where they come to stand; the
+ * offsets are those of version 1, or 2.0.0. */
+static struct point {
     uint8_t key;
     uint32_t slot;
     uint32_t offset;
     uint32_t length;
     const char *text;
 } points[POINTS] = {
-    { 1, 3, D, 1, "P" },
-    { 2, 0, D + 5, 2, "QR" },
-    { 32, 1, D + 5 + 6, 3, "STU" },
+    { 1, 3, 0, 1, "P" },
+    { 2, 0, 0, 2, "QR" },
+    { 32, 1, 0, 3, "STU" },
 };
 
-enum { X = D + 5 + 6 + 7 };
+static uint32_t header_size;
+static uint32_t X;
+
+/* Messages one behind the other, with headers of that size. */
+static void lay_out(uint32_t size)
+{
+    header_size = size;
+    X = D;
+    for (int i = 0; i < POINTS; i++) {
+        points[i].offset = X;
+        X += size + points[i].length;
+    }
+}
 
 static uint8_t image[L];
 static unsigned passed;
@@ -195,7 +220,7 @@ static enum class flip_first_seven(uint32_t f)
 
 static enum class flip_version(uint32_t f)
 {
-    return (2 ^ f) <= 2 ? SOUND : FIVE;
+    return header_size == 4 && (2 ^ f) <= 2 ? SOUND : FIVE;
 }
 
 static enum class flip_free(uint32_t f)
@@ -341,84 +366,101 @@ static enum class flip_offset_3(uint32_t f)
     return flip_offset(points[0].offset, f);
 }
 
-/* A header: the letter, then a length up to what the next message, or X,
- * leaves. */
-static enum class flip_message(const struct point *p, uint32_t f)
+static enum class flip_letter_a(uint32_t f)
+{
+    return ('a' ^ f) == 'd' ? SOUND : SLOT;
+}
+
+static enum class flip_letter_d(uint32_t f)
+{
+    return ('d' ^ f) == 'a' ? SOUND : SLOT;
+}
+
+/* A length up to what the next message, or X, leaves. */
+static enum class flip_length(const struct point *p, uint32_t f)
 {
     uint32_t end = p + 1 < points + POINTS ? p[1].offset : X;
-    uint32_t letter = p->key == 2 ? 'd' : 'a';
-    uint32_t length = p->length ^ (f & 0xFFFFFF);
+    uint32_t length = p->length ^ f;
 
-    letter ^= f >> 24;
-    if (letter != 'a' && letter != 'd')
-        return SLOT;
-    return length <= end - p->offset - 4 ? SOUND : SLOT;
+    return length <= end - p->offset - header_size ? SOUND : SLOT;
 }
 
-static enum class flip_message_1(uint32_t f)
+static enum class flip_length_1(uint32_t f)
 {
-    return flip_message(&points[0], f);
+    return flip_length(&points[0], f);
 }
 
-static enum class flip_message_2(uint32_t f)
+static enum class flip_length_2(uint32_t f)
 {
-    return flip_message(&points[1], f);
+    return flip_length(&points[1], f);
 }
 
-static enum class flip_message_3(uint32_t f)
+static enum class flip_length_3(uint32_t f)
 {
-    return flip_message(&points[2], f);
+    return flip_length(&points[2], f);
 }
 
 /* ---- the regions ---- */
 
-/* Each unit of a region is a number of unit bytes, or bytes by themselves. */
+/* A region ends where the next one begins. Each unit of it is a number of unit
+ * bytes, or bytes by themselves; 0 for a message's length. */
 static const struct region {
     const char *name;
-    uint32_t from;
-    uint32_t to;
+    uint32_t size; /* of all but the messages and what is behind them */
     uint32_t unit;
     enum class (*flipped)(uint32_t f);
 } regions[] = {
-    { "letters and version", 0, 7, 1, flip_first_seven },
-    { "last version byte", 7, 8, 1, flip_version },
-    { "serial", 8, 12, 4, flip_free },
-    { "K", 12, 16, 4, flip_key_size },
-    { "N", 16, 20, 4, flip_slots },
-    { "C", 20, 24, 4, flip_count },
-    { "multiplier", 24, 28, 4, flip_multiplier },
-    { "start value", 28, 32, 4, flip_start },
-    { "F", 32, 36, 4, flip_first },
-    { "E", 36, 40, 4, flip_last },
-    { "scramble and table offset, D", 40, 52, 4, flip_fixed },
-    { "X", 52, 56, 4, flip_next },
-    { "M and behind", 56, SCRAMBLE, 1, flip_free },
-    { "scramble number 0", SCRAMBLE, SCRAMBLE + 4, 4, flip_number_0 },
-    { "up to the table", SCRAMBLE + 4, TABLE, 1, flip_free },
-    { "key of slot 0", TABLE, TABLE + 1, 1, flip_key_0 },
-    { "offset of slot 0", TABLE + 1, TABLE + 5, 4, flip_offset_0 },
-    { "key of slot 1", TABLE + 5, TABLE + 6, 1, flip_key_1 },
-    { "offset of slot 1", TABLE + 6, TABLE + 10, 4, flip_offset_1 },
-    { "key of slot 2", TABLE + 10, TABLE + 11, 1, flip_key_2 },
-    { "offset of slot 2", TABLE + 11, TABLE + 15, 4, flip_free },
-    { "key of slot 3", TABLE + 15, TABLE + 16, 1, flip_key_3 },
-    { "offset of slot 3", TABLE + 16, TABLE + 20, 4, flip_offset_3 },
-    { "up to D", TABLE + 20, D, 1, flip_free },
-    { "header of message 1", D, D + 4, 4, flip_message_1 },
-    { "message 1", D + 4, D + 5, 1, flip_free },
-    { "header of message 2", D + 5, D + 9, 4, flip_message_2 },
-    { "message 2", D + 9, D + 11, 1, flip_free },
-    { "header of message 3", D + 11, D + 15, 4, flip_message_3 },
-    { "message 3", D + 15, X, 1, flip_free },
-    { "behind X", X, L, 1, flip_free },
+    { "letters and version", 7, 1, flip_first_seven },
+    { "last version byte", 1, 1, flip_version },
+    { "serial", 4, 4, flip_free },
+    { "K", 4, 4, flip_key_size },
+    { "N", 4, 4, flip_slots },
+    { "C", 4, 4, flip_count },
+    { "multiplier", 4, 4, flip_multiplier },
+    { "start value", 4, 4, flip_start },
+    { "F", 4, 4, flip_first },
+    { "E", 4, 4, flip_last },
+    { "scramble and table offset, D", 12, 4, flip_fixed },
+    { "X", 4, 4, flip_next },
+    { "M and behind", SCRAMBLE - 56, 1, flip_free },
+    { "scramble number 0", 4, 4, flip_number_0 },
+    { "up to the table", TABLE - SCRAMBLE - 4, 1, flip_free },
+    { "key of slot 0", 1, 1, flip_key_0 },
+    { "offset of slot 0", 4, 4, flip_offset_0 },
+    { "key of slot 1", 1, 1, flip_key_1 },
+    { "offset of slot 1", 4, 4, flip_offset_1 },
+    { "key of slot 2", 1, 1, flip_key_2 },
+    { "offset of slot 2", 4, 4, flip_free },
+    { "key of slot 3", 1, 1, flip_key_3 },
+    { "offset of slot 3", 4, 4, flip_offset_3 },
+    { "up to D", D - TABLE - N * STRIDE, 1, flip_free },
+    { "letter of message 1", 1, 1, flip_letter_a },
+    { "length of message 1", 0, 0, flip_length_1 },
+    { "message 1", 1, 1, flip_free },
+    { "letter of message 2", 1, 1, flip_letter_d },
+    { "length of message 2", 0, 0, flip_length_2 },
+    { "message 2", 2, 1, flip_free },
+    { "letter of message 3", 1, 1, flip_letter_a },
+    { "length of message 3", 0, 0, flip_length_3 },
+    { "message 3", 3, 1, flip_free },
 };
 
 enum { REGIONS = sizeof regions / sizeof *regions };
 
+static uint32_t unit_of(const struct region *r)
+{
+    return r->unit == 0 ? header_size - 1 : r->unit;
+}
+
+static uint32_t size_of(const struct region *r)
+{
+    return r->unit == 0 ? header_size - 1 : r->size;
+}
+
 static void count_by_formula(const struct region *r, unsigned long *counts)
 {
-    for (uint32_t at = r->from; at < r->to; at += r->unit)
-        for (uint32_t bit = 0; bit < 8 * r->unit; bit++)
+    for (uint32_t at = 0; at < size_of(r); at += unit_of(r))
+        for (uint32_t bit = 0; bit < 8 * unit_of(r); bit++)
             counts[r->flipped(1u << bit)]++;
 }
 
@@ -449,9 +491,9 @@ static enum class ask(void)
     return verdict == 1 ? SLOT : verdict == 2 ? COUNT : CLASSES;
 }
 
-static void count_by_run(const struct region *r, unsigned long *counts)
+static void count_by_run(uint32_t at, uint32_t end, unsigned long *counts)
 {
-    for (uint32_t at = r->from; at < r->to; at++)
+    for (; at < end; at++)
         for (int bit = 0; bit < 8; bit++) {
             image[at] ^= (uint8_t)(1u << bit);
             counts[ask()]++;
@@ -459,12 +501,14 @@ static void count_by_run(const struct region *r, unsigned long *counts)
         }
 }
 
-static void compare_region(const struct region *r, unsigned long *totals)
+/* The region from a place on. */
+static void compare_region(const struct region *r, uint32_t at,
+                           unsigned long *totals)
 {
     unsigned long got[CLASSES + 1] = { 0 };
     unsigned long want[CLASSES + 1] = { 0 };
 
-    count_by_run(r, got);
+    count_by_run(at, at + size_of(r), got);
     count_by_formula(r, want);
     for (int c = 0; c < CLASSES; c++) {
         expect(r->name, class_name[c], got[c], want[c]);
@@ -473,11 +517,18 @@ static void compare_region(const struct region *r, unsigned long *totals)
     expect(r->name, "none of the five", got[CLASSES], 0);
 }
 
-static void make_image(void)
+/* Of version 1, or converted before its points are added. */
+static void make_image(uint32_t size)
 {
+    static uint8_t fresh[L];
     uint8_t table[64];
 
+    lay_out(size);
     expect("create", "answer", subject.create(image, L, K, N, 0), 0);
+    if (size == 5) {
+        memcpy(fresh, image, L);
+        expect("convert", "answer", subject.convert(fresh, L, image, L), 0);
+    }
     for (int i = 0; i < POINTS; i++)
         expect("add", "answer",
                subject.add(image, L, &points[i].key, 1,
@@ -490,6 +541,8 @@ static void make_image(void)
     expect("table", "as laid out",
            memcmp(image + TABLE, table, N * STRIDE) == 0, 1);
     expect("X", "number", number_at(52), X);
+    expect("version", "bytes",
+           memcmp(image + 5, size == 5 ? "\2\0\0" : "\1\0\2", 3) == 0, 1);
     expect("whole image", "sound", ask(), SOUND);
 }
 
@@ -519,22 +572,22 @@ static void count_selected(uint8_t lowest, uint8_t highest,
 }
 
 static void select_names(const char *where, uint8_t lowest, uint8_t highest,
-                         const unsigned long *by_hand)
+                         const unsigned long *by_hand, unsigned long five)
 {
     unsigned long listed[LISTED] = { 0 }, refused[REFUSED] = { 0 };
 
     count_selected(lowest, highest, listed, refused);
     for (int i = 0; i < LISTED; i++)
         expect(where, "slots listed", listed[i], by_hand[i]);
-    expect(where, "5", refused[5], 63);
+    expect(where, "5", refused[5], five);
     expect(where, "6", refused[6], 247);
     expect(where, "22", refused[22], 4);
-    expect(where, "accepted", refused[0], 8 * L - 63 - 247 - 4);
+    expect(where, "accepted", refused[0], 8 * L - five - 247 - 4);
 }
 
 /* ---- an epoch ---- */
 
-static void ask_epoch(void)
+static void ask_epoch(unsigned long five, unsigned long below_5)
 {
     const uint8_t name = 2;
     unsigned long numbers[REFUSED] = { 0 };
@@ -543,43 +596,90 @@ static void ask_epoch(void)
         uint32_t shown = 77, offset = 77, length = 77, number;
 
         image[bit / 8] ^= (uint8_t)(1u << bit % 8);
-        number = subject.at_epoch(image, L, &name, 1, 4101, &shown, &offset,
-                                  &length);
+        number = subject.at_epoch(image, L, &name, 1, points[1].offset,
+                                  &shown, &offset, &length);
         image[bit / 8] ^= (uint8_t)(1u << bit % 8);
         numbers[number < REFUSED && (shown | offset | length) == 0 ? number
                                                                    : 0]++;
     }
     expect("an epoch", "0", numbers[0], 0);
-    expect("an epoch", "5", numbers[5], 63);
+    expect("an epoch", "5", numbers[5], five);
     expect("an epoch", "6", numbers[6], 247);
     expect("an epoch", "7", numbers[7], 2);
     expect("an epoch", "11", numbers[11], 1);
-    expect("an epoch", "23", numbers[23], 65223);
+    expect("an epoch", "23", numbers[23], below_5);
 }
 
-int main(void)
-{
-    static const unsigned long all[LISTED] = { 0, 0, 3, 65211, 8 };
-    static const unsigned long of_2[LISTED] = { 8, 65213, 1, 0, 0 };
-    static const unsigned long by_hand[CLASSES] = { 63, 247, 217, 8, 65001 };
-    unsigned long totals[CLASSES] = { 0 };
-    uint32_t end = 0;
+/* ---- a conversion ---- */
 
-    make_image();
-    for (int i = 0; i < REGIONS; i++) {
-        expect(regions[i].name, "begins where the last ends",
-               regions[i].from, end);
-        end = regions[i].to;
-        compare_region(&regions[i], totals);
+static void convert_all(const unsigned long *by_hand)
+{
+    static uint8_t target[L];
+    unsigned long numbers[REFUSED] = { 0 };
+
+    for (uint32_t bit = 0; bit < 8 * L; bit++) {
+        uint32_t number;
+
+        image[bit / 8] ^= (uint8_t)(1u << bit % 8);
+        number = subject.convert(image, L, target, L);
+        image[bit / 8] ^= (uint8_t)(1u << bit % 8);
+        numbers[number < REFUSED ? number : 1]++;
     }
-    expect("regions", "end", end, L);
+    expect("converted", "5", numbers[5], by_hand[FIVE]);
+    expect("converted", "6", numbers[6], by_hand[SIX]);
+    expect("converted", "15", numbers[15], by_hand[SLOT] + by_hand[COUNT]);
+    expect("converted", "accepted", numbers[0], by_hand[SOUND]);
+}
+
+static void flip_bits(const unsigned long *by_hand)
+{
+    const struct region behind = { "behind X", L - X, 1, flip_free };
+    unsigned long totals[CLASSES] = { 0 };
+    uint32_t at = 0;
+
+    for (int i = 0; i < REGIONS; i++) {
+        compare_region(&regions[i], at, totals);
+        at += size_of(&regions[i]);
+    }
+    expect("regions", "end", at, X);
+    compare_region(&behind, X, totals);
     for (int c = 0; c < CLASSES; c++) {
         printf("%s: %lu\n", class_name[c], totals[c]);
         expect("all bits", class_name[c], totals[c], by_hand[c]);
     }
-    select_names("names from 0 to 255", 0, 255, all);
-    select_names("the name 2", 2, 2, of_2);
-    ask_epoch();
+    convert_all(by_hand);
+}
+
+static void flip_version_1(void)
+{
+    static const unsigned long all[LISTED] = { 0, 0, 3, 65211, 8 };
+    static const unsigned long of_2[LISTED] = { 8, 65213, 1, 0, 0 };
+    static const unsigned long by_hand[CLASSES] = { 63, 247, 217, 8, 65001 };
+
+    make_image(4);
+    flip_bits(by_hand);
+    select_names("names from 0 to 255", 0, 255, all, 63);
+    select_names("the name 2", 2, 2, of_2, 63);
+    ask_epoch(63, 65223);
+}
+
+static void flip_version_2(void)
+{
+    static const unsigned long all[LISTED] = { 0, 0, 3, 65210, 8 };
+    static const unsigned long of_2[LISTED] = { 8, 65212, 1, 0, 0 };
+    static const unsigned long by_hand[CLASSES] = { 64, 247, 242, 8, 64975 };
+
+    make_image(5);
+    flip_bits(by_hand);
+    select_names("2.0.0, names from 0 to 255", 0, 255, all, 64);
+    select_names("2.0.0, the name 2", 2, 2, of_2, 64);
+    ask_epoch(64, 65222);
+}
+
+int main(void)
+{
+    flip_version_1();
+    flip_version_2();
     printf("%u passed, %u failed\n", passed, failed);
     return failed != 0;
 }

@@ -38,6 +38,10 @@ struct calls {
                              uint32_t *slots_read);
     uint32_t (*compact)(uint8_t *image, size_t image_len);
 
+    /* Into a second slice, as the other version. */
+    uint32_t (*convert)(const uint8_t *source, size_t source_len,
+                        uint8_t *target, size_t target_len);
+
     /* Readings by column. */
     uint32_t (*store_columns)(uint8_t *image, size_t image_len,
                               const uint8_t *key, size_t key_len,
@@ -94,8 +98,8 @@ struct calls {
     {                                                                       \
         p##_create, p##_add, p##_delete, p##_lookup, p##_count, p##_walk,   \
             p##_check, p##_add_slots, p##_delete_slots, p##_lookup_slots,   \
-            p##_compact, p##_store_columns, p##_read_columns, p##_select,   \
-            p##_at_epoch, p##_add_listed, p##_delete_listed,                \
+            p##_compact, p##_convert, p##_store_columns, p##_read_columns,  \
+            p##_select, p##_at_epoch, p##_add_listed, p##_delete_listed,    \
             p##_compact_listed, p##_add_journaled, p##_delete_journaled,    \
             p##_compact_journaled, p##_recover,                             \
     }

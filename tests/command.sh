@@ -174,7 +174,7 @@ cd "$work" || exit 2
 # ---- help and usage ----
 
 gives "--help" 0 'bhtf create FILE' bhtf --help
-gives "--version" 0 '^bhtf [0-9.]+, file format 1\.0\.2$' bhtf --version
+gives "--version" 0 '^bhtf [0-9.]+, file format 1\.0\.2 and 2\.0\.0$' bhtf --version
 gives "no command" 2 'bhtf create FILE' bhtf
 gives "unknown command" 2 'no command frob' bhtf frob
 for command in create add set rename withdraw delete batch log get count list check compact book stat import export dump load; do

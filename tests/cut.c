@@ -197,6 +197,11 @@ static void make_image(void)
     fill_random(before, length);
     if (subject.create(before, length, key_size, slots, random32()) != 0)
         exit(2);
+    if (below(3) == 0) { /* of version 2.0.0 */
+        if (subject.convert(before, length, after, length) != 0)
+            exit(2);
+        memcpy(before, after, length);
+    }
     for (uint32_t i = below(40); i > 0; i--) {
         choose_call();
         make_call(before);

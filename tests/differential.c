@@ -9,7 +9,10 @@
  *     plain reference, answers and bytes.
  * (d) The same on spliced images, in which points share bytes; the check's word
  *     is also held against its definition, pair by pair.
- * In all, a refused or reading call must leave every byte. Most adds, deletes
+ * In all, a refused or reading call must leave every byte. A list goes on in the
+ * target of an accepted conversion, with files of version 1 and 2.0.0 in turn;
+ * the target is also held against its definition, and taken back, against
+ * compaction. Most adds, deletes
  * and lookups are made by the form that reports the slots read, some adds,
  * deletes and compactions by the one that lists what changed, or by way of a
  * journal. Recovery is called between, from journals of all sorts.
@@ -32,7 +35,7 @@
  * images.c, reopened.c, damage.c and splice.c make arguments and images,
  * steps.c and lists.c calls of them; compare.c and book.c hold the answers
  * against each other; packed.c holds a compaction against its definition,
- * columns.c readings by column, ranges.c names in ranges, epochs.c epochs,
+ * converted.c a conversion, columns.c readings by column, ranges.c names in ranges, epochs.c epochs,
  * changed.c, listed.c and journal.c a list and a journal; and report.c says what
  * differs. */
 #define _DEFAULT_SOURCE

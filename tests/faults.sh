@@ -141,11 +141,11 @@ fault "replace of an inactive message takes new space" \
     'if (old->offset != 0 && text.length <= old->length) {' \
     'if (old->active && text.length <= old->length) {'
 fault "replace in place leaves the message inactive" \
-    'write_active(image, old->offset, (uint32_t)text.length);' \
-    'put32(image + old->offset, (uint32_t)(old->active ? 97 : 100) << 24 | (uint32_t)text.length);'
+    'write_active(image + old->offset, v->header_size, (uint32_t)text.length);' \
+    'write_active(image + old->offset, v->header_size, (uint32_t)text.length); if (!old->active) retire(image, old);'
 fault "replace in place keeps the old length" \
-    'write_active(image, old->offset, (uint32_t)text.length);' \
-    'write_active(image, old->offset, old->length);'
+    'write_active(image + old->offset, v->header_size, (uint32_t)text.length);' \
+    'write_active(image + old->offset, v->header_size, old->length);'
 fault "longer replace keeps the old header active" \
     'return renew(image, v, slot, old, none, text);' \
     'return renew(image, v, slot, &(struct message){ 0, 0, 0 }, none, text);'
@@ -158,7 +158,7 @@ fault "refused replace or append makes the message inactive" \
     'uint32_t answer = ask_room(v, (uint32_t)kept.length, text.length);' \
     'uint32_t answer = (retire(image, old), ask_room(v, (uint32_t)kept.length, text.length));'
 fault "X grows by 3 + m" \
-    'offset + MESSAGE_HEADER + length;' 'offset + 3 + length;'
+    'offset + v->header_size + length;' 'offset + v->header_size - 1 + length;'
 fault "M one too high at 4,096" \
     '(next - data - 1) / PAGE' '(next - data) / PAGE'
 fault "M rewritten though X stays" \
@@ -190,21 +190,21 @@ fault "mode cut to 8 bits" \
     'mode < MODE_NEW || mode > MODE_WITHDRAW' \
     '(uint8_t)mode < MODE_NEW || (uint8_t)mode > MODE_WITHDRAW'
 fault "12 not asked" \
-    'if (m > MESSAGE_MAX || kept + m > MESSAGE_MAX)' 'if (0)'
+    'if (m > v->message_max || kept + m > v->message_max)' 'if (0)'
 fault "12 looks at the new bytes only" \
-    'm > MESSAGE_MAX || kept + m > MESSAGE_MAX' 'm > MESSAGE_MAX'
+    'm > v->message_max || kept + m > v->message_max' 'm > v->message_max'
 fault "12 one byte early" \
-    'm > MESSAGE_MAX || kept + m > MESSAGE_MAX' \
-    'm >= MESSAGE_MAX || kept + m >= MESSAGE_MAX'
+    'm > v->message_max || kept + m > v->message_max' \
+    'm >= v->message_max || kept + m >= v->message_max'
 fault "13 one byte early" \
-    'if (MESSAGE_HEADER + kept + m > v->length' \
-    'if (MESSAGE_HEADER + kept + m >= v->length'
+    'if (v->header_size + kept + m > v->length' \
+    'if (v->header_size + kept + m >= v->length'
 fault "13 one byte late" \
-    'if (MESSAGE_HEADER + kept + m > v->length' \
-    'if (3 + kept + m > v->length'
+    'if (v->header_size + kept + m > v->length' \
+    'if (v->header_size - 1 + kept + m > v->length'
 fault "13 forgets the old bytes" \
-    'if (MESSAGE_HEADER + kept + m > v->length' \
-    'if (MESSAGE_HEADER + m > v->length'
+    'if (v->header_size + kept + m > v->length' \
+    'if (v->header_size + m > v->length'
 fault "image length cut to 32 bits" \
     'return length % PAGE == 0 && length >= PAGE && length <= IMAGE_MAX;' \
     'length = (uint32_t)length; return length % PAGE == 0 && length >= PAGE && length <= IMAGE_MAX;'
@@ -350,16 +350,15 @@ fault "X of L refused" \
 fault "offset below D accepted" \
     'offset < v->data ||' 'offset < TABLE ||'
 fault "header across X accepted" \
-    'offset > v->next - MESSAGE_HEADER' 'offset > v->next'
+    'offset > v->next - v->header_size' 'offset > v->next'
 fault "any letter accepted" \
-    "if (header >> 24 != 'a' && header >> 24 != 'd')" 'if (header >> 24 == 0)'
+    "if (letter != 'a' && letter != 'd')" 'if (letter == 0)'
 fault "inactive message refused" \
-    "if (header >> 24 != 'a' && header >> 24 != 'd')" \
-    "if (header >> 24 != 'a')"
+    "if (letter != 'a' && letter != 'd')" "if (letter != 'a')"
 fault "length 0 of a message refused" \
     'return m->length <= v->next' 'return m->length >= 1 && m->length <= v->next'
 fault "message's end not asked" \
-    'm->length <= v->next - offset - MESSAGE_HEADER' '1'
+    'm->length <= v->next - offset - v->header_size' '1'
 fault "message's end compared with L" \
     'm->length <= v->next - offset' 'm->length <= v->length - offset'
 
@@ -367,7 +366,7 @@ fault "message's end compared with L" \
 fault "lookup shows an inactive message" \
     'if (m.active) {' 'if (m.offset != 0) {'
 fault "lookup shows the header's offset" \
-    '*offset = m.offset + MESSAGE_HEADER;' '*offset = m.offset;'
+    '*offset = m.offset + v.header_size;' '*offset = m.offset;'
 fault "lookup answers 14 behind slot 0" \
     'f.ending == MET ? ACCEPTED : 14' \
     'f.ending == MET && f.slot == 0 ? ACCEPTED : 14'
@@ -409,7 +408,7 @@ fault "nothing appended to a name without an offset is a note" \
     'if (text.length == 0)' 'if (text.length == 0 && old->offset != 0)'
 fault "nothing appended to a withdrawn message wakes it" \
     'if (text.length == 0)' \
-    'if (text.length == 0 && !old->active && old->offset != 0) return overwrite(image, old, text), ACCEPTED; if (text.length == 0)'
+    'if (text.length == 0 && !old->active && old->offset != 0) return overwrite(image, v, old, text), ACCEPTED; if (text.length == 0)'
 fault "empty data in mode 2 withdraws" \
     'if (mode == MODE_REPLACE)' \
     'if (mode == MODE_REPLACE && text.length == 0) return retire(image, &old), ACCEPTED; if (mode == MODE_REPLACE)'
@@ -426,11 +425,11 @@ fault "an empty note in place keeps the old bytes" \
     'memset(to + text.length, 0, old->length - text.length);' \
     'if (text.length > 0) memset(to + text.length, 0, old->length - text.length);'
 fault "13 not asked for empty data" \
-    'if (MESSAGE_HEADER + kept + m > v->length' \
-    'if (m > 0 && MESSAGE_HEADER + kept + m > v->length'
-fault "an empty note takes 5 bytes" \
-    'offset + MESSAGE_HEADER + length;' \
-    'offset + MESSAGE_HEADER + length + (length == 0 && offset + 5 <= v->length);'
+    'if (v->header_size + kept + m > v->length' \
+    'if (m > 0 && v->header_size + kept + m > v->length'
+fault "an empty note takes a byte more than its header" \
+    'offset + v->header_size + length;' \
+    'offset + v->header_size + length + (length == 0 && offset + v->header_size < v->length);'
 fault "mode 4 enters an absent name" \
     'if (mode == MODE_WITHDRAW)' 'if (0)'
 fault "mode 4 accepts an absent name" \
@@ -440,7 +439,7 @@ fault "mode 4 puts 10 before 14" \
     'if (mode == MODE_WITHDRAW && f.ending != EXHAUSTED && v->count < v->slots)'
 fault "mode 4 puts 12 for its data" \
     'return withdraw(image, &old);' \
-    'return text.length > MESSAGE_MAX ? 12 : withdraw(image, &old);'
+    'return text.length > v->message_max ? 12 : withdraw(image, &old);'
 fault "mode 4 puts 13 for its data" \
     'return withdraw(image, &old);' \
     'return text.length > v->length - v->next ? 13 : withdraw(image, &old);'
@@ -451,7 +450,7 @@ fault "mode 4 leaves the message active" \
     'return withdraw(image, &old);' 'return ACCEPTED;'
 fault "mode 4 zeroes the message" \
     'return withdraw(image, &old);' \
-    'return memset(image + old.offset + MESSAGE_HEADER, 0, old.length), withdraw(image, &old);'
+    'return memset(image + old.offset + v->header_size, 0, old.length), withdraw(image, &old);'
 fault "mode 4 drops the offset" \
     'return withdraw(image, &old);' \
     'return write_offset(image, v, slot, 0), withdraw(image, &old);'
@@ -481,8 +480,8 @@ fault "delete sets the version" \
     'put32(image + AT_COUNT, v.count - 1);' \
     'put32(image + AT_COUNT, v.count - 1); image[AT_LAST_VERSION] = NOTES_VERSION;'
 misbook "the book: U without the header of a note" \
-    'b->used += 4 + (uint64_t)e->length;' \
-    'b->used += e->length == 0 ? 0 : 4 + (uint64_t)e->length;'
+    'b->used += b->header + (uint64_t)e->length;' \
+    'b->used += e->length == 0 ? 0 : b->header + (uint64_t)e->length;'
 misbook "the book: a note takes no space where there is no offset" \
     'if (m == 0 ? e->placed : m <= e->held) {' 'if (m <= e->held) {'
 misbook "the book: a note in place keeps held" \
@@ -503,12 +502,13 @@ misbook "the book read off: an empty message is none" \
 
 # Compaction.
 fault "15 not asked" \
-    'if (verdict != 0)' 'if (0)'
+    'uint32_t answer = ask_sound(image, image_len);' \
+    'uint32_t answer = open_image(&v, image, image_len);'
 fault "15 of a slot only" \
-    'if (verdict != 0)' 'if (verdict == 1)'
+    'return verdict == 0 ? ACCEPTED : 15;' 'return verdict != 1 ? ACCEPTED : 15;'
 fault "15 writes behind X" \
-    'if (verdict != 0)' \
-    'if (verdict != 0 && open_image(&v, image, image_len) == ACCEPTED) memset(image + v.next, 0, v.length - v.next); if (verdict != 0)'
+    'uint32_t answer = ask_sound(image, image_len);' \
+    'uint32_t answer = ask_sound(image, image_len); if (answer == 15 && open_image(&v, image, image_len) == ACCEPTED) memset(image + v.next, 0, v.length - v.next);'
 fault "a dead message comes back" \
     'if (old.active)' 'if (old.offset != 0)'
 fault "an inactive message keeps its offset" \
@@ -517,7 +517,7 @@ fault "an inactive message keeps its offset where nothing moves" \
     'write_offset(image, v, slot, 0);' \
     'if (v->next - v->data > 40) write_offset(image, v, slot, 0);'
 fault "offsets of empty slots are zeroed" \
-    'if (!is_taken(v, slot) || message_in(v, slot) == 0)' 'if (0)'
+    'if (is_taken(v, slot))' 'if (1)'
 fault "messages are moved in the order of slots" \
     'qsort(s, active, sizeof *s, by_start);' ';'
 fault "the last message is not moved" \
@@ -529,7 +529,7 @@ fault "messages stay one byte apart" \
     'to += size;' 'to += size + (to + size < s[i].start);'
 fault "the first gap stays" \
     'uint32_t to = v->data;' \
-    'if (active > 0) qsort(s, active, sizeof *s, by_start); uint32_t to = active > 0 ? s[0].start : v->data;'
+    'uint32_t to = active > 0 ? s[0].start : v->data;'
 fault "the text is moved without its last byte" \
     'memmove(image + to, image + s[i].start, size);' \
     'memmove(image + to, image + s[i].start, size - 1);'
@@ -572,14 +572,247 @@ misbook "the book: U does not count an empty text" \
 misbook "the book: U counts a header for no text" \
     'if (e->noted)' 'if (1)'
 
+# Version 2.0.0.
+fault "version 2.0.0 refused" \
+    'if (is_version_2(image)) /* no later one of it */' 'if (0)'
+fault "version 2.0.1 taken" \
+    'memcmp(image + AT_VERSION, version_2, VERSION_SIZE) == 0;' \
+    'image[AT_VERSION] == 2 && image[AT_VERSION + 1] == 0 && image[AT_LAST_VERSION] < 2;'
+fault "version 2.0.2 taken" \
+    'memcmp(image + AT_VERSION, version_2, VERSION_SIZE) == 0;' \
+    'image[AT_VERSION] == 2 && image[AT_VERSION + 1] == 0 && image[AT_LAST_VERSION] <= 2;'
+fault "version 2.1.0 taken" \
+    'memcmp(image + AT_VERSION, version_2, VERSION_SIZE) == 0;' \
+    'image[AT_VERSION] == 2 && image[AT_VERSION + 1] < 2 && image[AT_LAST_VERSION] == 0;'
+fault "version 3.0.0 taken" \
+    'memcmp(image + AT_VERSION, version_2, VERSION_SIZE) == 0;' \
+    '(image[AT_VERSION] == 2 || image[AT_VERSION] == 3) && image[AT_VERSION + 1] == 0 && image[AT_LAST_VERSION] == 0;'
+fault "version 2.0.0 with other letters taken" \
+    'if (memcmp(image, "BHTFv", AT_VERSION) != 0)' \
+    'if (memcmp(image, "BHTFv", AT_VERSION - (image[AT_VERSION] == 2)) != 0)'
+fault "headers of 5 bytes in version 1" \
+    'v->header_size = is_2 ? LONG_MESSAGE_HEADER : MESSAGE_HEADER;' \
+    'v->header_size = LONG_MESSAGE_HEADER;'
+fault "headers of 4 bytes in version 2.0.0" \
+    'v->header_size = is_2 ? LONG_MESSAGE_HEADER : MESSAGE_HEADER;' \
+    'v->header_size = MESSAGE_HEADER;'
+fault "headers of 5 bytes by the last version byte" \
+    'v->header_size = is_2 ? LONG_MESSAGE_HEADER : MESSAGE_HEADER;' \
+    'v->header_size = v->image[AT_LAST_VERSION] == 0 ? LONG_MESSAGE_HEADER : MESSAGE_HEADER;'
+fault "12 at 16 MiB in version 2.0.0" \
+    'v->message_max = is_2 ? LONG_MESSAGE_MAX : MESSAGE_MAX;' \
+    'v->message_max = MESSAGE_MAX;'
+fault "12 at 4 GiB in version 2.0.0" \
+    'v->message_max = is_2 ? LONG_MESSAGE_MAX : MESSAGE_MAX;' \
+    'v->message_max = is_2 ? 0xFFFFFFFFu : MESSAGE_MAX;'
+fault "12 one byte early in version 2.0.0" \
+    'v->message_max = is_2 ? LONG_MESSAGE_MAX : MESSAGE_MAX;' \
+    'v->message_max = is_2 ? LONG_MESSAGE_MAX - 1 : MESSAGE_MAX;'
+fault "12 one byte late in version 2.0.0" \
+    'v->message_max = is_2 ? LONG_MESSAGE_MAX : MESSAGE_MAX;' \
+    'v->message_max = is_2 ? LONG_MESSAGE_MAX + 1 : MESSAGE_MAX;'
+fault "the length's top byte not read" \
+    'for (uint32_t i = 1; i < header_size; i++)' \
+    'for (uint32_t i = header_size - 3; i < header_size; i++)'
+fault "the length's top bit not read" \
+    'length = length << 8 | header[i];' \
+    'length = length << 8 | (header_size == 5 && i == 1 ? header[i] & 127 : header[i]);'
+fault "the length read one byte early" \
+    'for (uint32_t i = 1; i < header_size; i++)' \
+    'for (uint32_t i = 1; i < MESSAGE_HEADER; i++)'
+fault "the length's top byte not written" \
+    'for (uint32_t i = header_size - 1; i > 0; i--, length >>= 8)' \
+    'for (uint32_t i = header_size - 1; i > header_size - 4; i--, length >>= 8)'
+fault "the length written one byte early" \
+    'for (uint32_t i = header_size - 1; i > 0; i--, length >>= 8)' \
+    'for (uint32_t i = 3; i > 0; i--, length >>= 8)'
+fault "an empty note makes 2.0.0 another version" \
+    'if (is_version_2(image)) /* never changes */' 'if (0)'
+misbook "the book read off: the header's size of version 1" \
+    'b->header = image[5] == 2 ? 5 : 4;' 'b->header = 4;'
+misbook "the book read off: the longest text of version 1" \
+    'b->longest = image[5] == 2 ? LONGEST_OF_2 : LONGEST;' \
+    'b->longest = LONGEST;'
+
+# The converter.
+fault "the source's 1 not asked" \
+    'if (!length_fits(source_len) || !length_fits(target_len))' \
+    'source_len &= ~(size_t)4095; if (!length_fits(target_len))'
+fault "the target's 1 not asked" \
+    'if (!length_fits(source_len) || !length_fits(target_len))' \
+    'if (!length_fits(source_len))'
+fault "the target's length cut to 32 bits" \
+    'if (!length_fits(source_len) || !length_fits(target_len))' \
+    'if (!length_fits(source_len) || !length_fits((uint32_t)target_len))'
+fault "the target's 1 after the source's numbers" \
+    'if (!length_fits(source_len) || !length_fits(target_len))' \
+    'if (!length_fits(source_len) || (!length_fits(target_len) && ask_sound(source, source_len) == ACCEPTED))'
+fault "15 not asked before a conversion" \
+    'answer = ask_sound(source, source_len);' \
+    'answer = open_image(&v, source, source_len);'
+fault "15 after 13" \
+    'answer = ask_sound(source, source_len);' \
+    'answer = ask_sound(source, source_len); if (answer == 15 && open_image(&v, source, source_len) == ACCEPTED && v.data > target_len) return 13;'
+fault "20 not asked" \
+    'if (narrows && !texts_fit(v, s, count))' 'if (0)'
+fault "20 one byte early" \
+    'if (text_length(v, &s[i]) > MESSAGE_MAX)' \
+    'if (text_length(v, &s[i]) >= MESSAGE_MAX)'
+fault "20 one byte late" \
+    'if (text_length(v, &s[i]) > MESSAGE_MAX)' \
+    'if (text_length(v, &s[i]) > MESSAGE_MAX + 1)'
+fault "20 asks inactive messages" \
+    'if (narrows && !texts_fit(v, s, count))' \
+    'uint32_t long_one = 0; for (uint32_t i = 0; i < v->slots; i++) { struct message m = { 0, 0, 0 }; if (is_taken(v, i) && read_message(v, message_in(v, i), &m)) long_one |= m.length > MESSAGE_MAX; } if (narrows && long_one)'
+fault "20 after 13" \
+    'if (narrows && !texts_fit(v, s, count))' \
+    'if (narrows && !texts_fit(v, s, count) && target_fits(v, s, count, header_size, target_len))'
+fault "13 not asked of a conversion" \
+    'return needed <= target_len;' 'return v->data <= target_len;'
+fault "13 by the room above the table" \
+    'return needed <= target_len;' \
+    'return needed - v->data <= (target_len > v->data ? target_len - v->data : 0);'
+fault "13 one byte early in a target" \
+    'return needed <= target_len;' 'return needed < target_len;'
+fault "13 one byte late in a target" \
+    'return needed <= target_len;' 'return needed <= target_len + 1;'
+fault "13 without the headers" \
+    'needed += header_size + (uint64_t)text_length(v, &s[i]);' \
+    'needed += text_length(v, &s[i]);'
+fault "13 with the source's headers" \
+    'needed += header_size + (uint64_t)text_length(v, &s[i]);' \
+    'needed += v->header_size + (uint64_t)text_length(v, &s[i]);'
+fault "13 with the source's length" \
+    'return needed <= target_len;' 'return needed <= v->length;'
+fault "13 with the source's X" \
+    'return needed <= target_len;' 'return v->next <= target_len && needed <= target_len;'
+fault "a refused conversion clears the target" \
+    'if (!target_fits(v, s, count, header_size, target_len))' \
+    'if (!target_fits(v, s, count, header_size, target_len) && memset(target, 0, target_len))'
+fault "the target keeps its own bytes" \
+    'memset(target, 0, target_len);' 'memset(target, 0, v->data);'
+fault "the target keeps its own bytes before the table" \
+    'memset(target, 0, target_len);' \
+    'memset(target + TABLE, 0, target_len - TABLE);'
+fault "the version is kept" \
+    'memcpy(target + AT_VERSION, narrows ? version_1 : version_2, VERSION_SIZE);' ''
+fault "the last version byte is kept" \
+    'memcpy(target + AT_VERSION, narrows ? version_1 : version_2, VERSION_SIZE);' \
+    'target[AT_VERSION] = narrows ? 1 : 2;'
+fault "narrowed to 1.0.0" \
+    'memcpy(target + AT_VERSION, narrows ? version_1 : version_2, VERSION_SIZE);' \
+    'memcpy(target + AT_VERSION, narrows ? (const uint8_t *)"\1\0\0" : version_2, VERSION_SIZE);'
+fault "narrowed to 1.0.1" \
+    'memcpy(target + AT_VERSION, narrows ? version_1 : version_2, VERSION_SIZE);' \
+    'memcpy(target + AT_VERSION, narrows ? (const uint8_t *)"\1\0\1" : version_2, VERSION_SIZE);'
+fault "the serial is lost" \
+    'memcpy(target, v->image, AT_NEXT);' \
+    'memcpy(target, v->image, AT_NEXT); put32(target + 8, 0);'
+fault "C becomes the number of messages" \
+    'end = carry_messages(target, v, s, count, header_size);' \
+    'end = carry_messages(target, v, s, count, header_size); put32(target + AT_COUNT, count);'
+fault "the source's X is kept" \
+    'put32(target + AT_NEXT, end);' 'put32(target + AT_NEXT, v->next);'
+fault "the source's M is kept" \
+    'put32(target + AT_LAST_PAGE, last_page(v->data, end));' \
+    'memcpy(target + AT_LAST_PAGE, v->image + AT_LAST_PAGE, 4);'
+fault "bytes behind the header are carried" \
+    'memcpy(target, v->image, AT_NEXT);' 'memcpy(target, v->image, SCRAMBLE);'
+fault "bytes behind the scramble are carried" \
+    'memcpy(target + SCRAMBLE, v->image + SCRAMBLE, 4 * numbers);' \
+    'memcpy(target + SCRAMBLE, v->image + SCRAMBLE, TABLE - SCRAMBLE);'
+fault "the scramble is carried one number short" \
+    'memcpy(target + SCRAMBLE, v->image + SCRAMBLE, 4 * numbers);' \
+    'memcpy(target + SCRAMBLE, v->image + SCRAMBLE, 4 * (numbers - 1));'
+fault "the scramble is carried as create has it" \
+    'size_t numbers = v->last - v->first + 1;' \
+    'size_t numbers = v->last - v->first + 1; if (numbers > 95) numbers = 95;'
+fault "bytes behind the table are carried" \
+    'memcpy(target + SCRAMBLE, v->image + SCRAMBLE, 4 * numbers);' \
+    'memcpy(target + SCRAMBLE, v->image + SCRAMBLE, 4 * numbers); memcpy(target + slot_at(v, v->slots), v->image + slot_at(v, v->slots), v->data - slot_at(v, v->slots));'
+fault "offsets of empty slots are carried" \
+    'if (is_taken(v, i))' \
+    'if (!is_taken(v, i)) write_offset(target, v, i, message_in(v, i)); else'
+fault "offsets of inactive messages are carried" \
+    'write_slot(target, v, i, key_in(v, i), 0);' \
+    'write_slot(target, v, i, key_in(v, i), message_in(v, i));'
+fault "the last slot is not carried" \
+    'if (is_taken(v, i))' 'if (is_taken(v, i) && (i + 1 < v->slots || i == 0))'
+fault "points without a message are not carried" \
+    'if (is_taken(v, i))' 'if (is_taken(v, i) && message_in(v, i) != 0)'
+fault "headers of the source's size" \
+    'write_active(target + at, header_size, length);' \
+    'write_active(target + at, v->header_size, length);'
+fault "the text is carried from the header's old end" \
+    'const uint8_t *text = v->image + s[i].start + v->header_size;' \
+    'const uint8_t *text = v->image + s[i].start + header_size;'
+fault "the text is carried without its last byte" \
+    'memcpy(target + at + header_size, text, length);' \
+    'memcpy(target + at + header_size, text, length - (length > 0));'
+fault "an offset leads to the text" \
+    'write_offset(target, v, s[i].slot, at);' \
+    'write_offset(target, v, s[i].slot, at + header_size);'
+fault "an offset leads behind the message" \
+    'write_offset(target, v, s[i].slot, at);' \
+    'write_offset(target, v, s[i].slot, at + header_size + length);'
+fault "empty notes are not carried" \
+    'const uint8_t *text = v->image + s[i].start + v->header_size;' \
+    'const uint8_t *text = v->image + s[i].start + v->header_size; if (text_length(v, &s[i]) == 0) continue;'
+fault "the last message is not carried" \
+    'end = carry_messages(target, v, s, count, header_size);' \
+    'end = carry_messages(target, v, s, count - (count > 1), header_size);'
+fault "messages are carried one byte apart" \
+    'at += header_size + length;' \
+    'at += header_size + length + (i == 0 && count > 1);'
+fault "inactive messages are carried" \
+    'uint32_t count = collect(v, s), end;' \
+    'uint32_t count = 0, end; for (uint32_t i = 0; i < v->slots; i++) { struct message m; if (is_taken(v, i) && read_message(v, message_in(v, i), &m) && m.offset != 0) note(&s[count++], v, i, &m); } if (count > 0) qsort(s, count, sizeof *s, by_start);'
+fault "messages are carried in the order of slots" \
+    'uint32_t count = collect(v, s), end;' \
+    'uint32_t count = 0, end; for (uint32_t i = 0; i < v->slots; i++) { struct message m; if (is_taken(v, i) && read_message(v, message_in(v, i), &m) && m.active) note(&s[count++], v, i, &m); }'
+fault "the source becomes inactive" \
+    'write_offset(target, v, s[i].slot, at);' \
+    'write_offset(target, v, s[i].slot, at); ((uint8_t *)v->image)[s[i].start] = 100;'
+misbook "the book: a conversion keeps the header's size" \
+    'b->header = header;' ''
+misbook "the book: a conversion keeps the longest text" \
+    'b->longest = longest;' ''
+misbook "the book: a conversion keeps R" \
+    'b->room = target_len - data_offset(b);' ''
+misbook "the book: a conversion is no compaction" \
+    'book_compact(b);' ''
+misbook "the book: a conversion keeps U" \
+    'book_compact(b);' 'uint64_t used = b->used; book_compact(b); b->used = used;'
+misbook "the book: 1 of the target not put" \
+    'if (target_len % 4096 != 0 || target_len < 4096 ||' \
+    'if (target_len < 4096 ||'
+misbook "the book: 20 not put" \
+    'if (e->noted && e->length > longest)' 'if (0)'
+misbook "the book: 20 one byte early" \
+    'if (e->noted && e->length > longest)' 'if (e->noted && e->length >= longest)'
+misbook "the book: 13 of the target not put" \
+    'return end > target_len ? 13 : 0;' 'return 0;'
+misbook "the book: 13 of the target by the old headers" \
+    'end += e->noted ? header + (uint64_t)e->length : 0;' \
+    'end += e->noted ? b->header + (uint64_t)e->length : 0;'
+misbook "the book: 13 of the target by what is held" \
+    'end += e->noted ? header + (uint64_t)e->length : 0;' \
+    'end += e->placed ? header + (uint64_t)e->held : 0;'
+misbook "the book: a refused conversion changes the header's size" \
+    'answer = ask_target(b, target_len, header, longest);' \
+    'answer = ask_target(b, target_len, header, longest); b->header = header;'
+misbook "the book: a refused conversion changes R" \
+    'answer = ask_target(b, target_len, header, longest);' \
+    'answer = ask_target(b, target_len, header, longest); if (answer == 13) b->room += 4096;'
+
 # Two points on one message.
 fault "check does not ask whether messages share bytes" \
     'return first_meeting(s, noted, slot);' \
     'return first_meeting(s, noted, slot), slot;'
 fault "a stretch begins behind its header" \
-    's->start = m->offset;' 's->start = m->offset + MESSAGE_HEADER;'
+    's->start = m->offset;' 's->start = m->offset + v->header_size;'
 fault "a stretch is as long as its text" \
-    's->end = m->offset + MESSAGE_HEADER + m->length;' \
+    's->end = m->offset + v->header_size + m->length;' \
     's->end = m->offset + m->length;'
 fault "messages that touch share bytes" \
     'if (s[i].start < end)' 'if (s[i].start <= end)'

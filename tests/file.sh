@@ -85,12 +85,14 @@ holds "the programs build" make -C tests/file OUT="$work/programs" LIB="$lib" LD
 
 # ---- calls, readers and writers, cuts ----
 
-mkdir "$work/layer" "$work/cuts" "$work/busy"
+mkdir "$work/layer" "$work/layer-wide" "$work/cuts" "$work/cuts-wide" "$work/busy"
 chmod 755 "$work" # parts run as nobody
 counted "the layer's calls" "$work/programs/layer" "$work/layer"
+counted "the same on files of version 2.0.0" "$work/programs/layer" "$work/layer-wide" wide
 counted "two writers and six readers" "$work/programs/busy" "$seconds" "$work/busy/site"
 counted "and writers that are killed" "$work/programs/busy" "$seconds" "$work/busy/site2" kill
 counted "cuts" "$work/programs/cuts" --seed "$seed" --random "$random" --states "$states" --command "$work/host/bhtf" "$work/cuts"
+counted "cuts of a file of version 2.0.0" "$work/programs/cuts" --wide --seed "$seed" --random 2 --states 2 --scenes 13 "$work/cuts-wide"
 
 # ---- as others use it ----
 

@@ -2,7 +2,10 @@
  * data/version-1.0.1.bhtf. The library of that time wrote them, by the steps
  * below; its create wrote version 1.0.1, and the other file's last version byte
  * was set to 0 then. They must read as they did, the steps must still give
- * their bytes, and only an empty note makes their version 1.0.2.
+ * their bytes, and only an empty note makes their version 1.0.2. And
+ * data/version-2.0.0.bhtf, by the steps of today on a file that was converted
+ * before them; no step makes it another version. Each reads the same when it is
+ * converted, and there and back it is itself, compacted.
  * Run as: kept DIRECTORY. Ends with "N passed, 0 failed". */
 #include "calls.h"
 
@@ -15,13 +18,16 @@ enum { ADD_NEW = 1, REPLACE = 2, APPEND = 3, WITHDRAW = 4, DELETE = 99 };
 
 static const struct shape {
     const char *name;
+    uint8_t major;
     uint8_t version; /* its last byte */
+    uint8_t noted;   /* the same with an empty note */
     uint32_t key_size;
     uint32_t slots;
     uint32_t seed;
 } shapes[] = {
-    { "version-1.0.0.bhtf", 0, 5, 11, 7 },
-    { "version-1.0.1.bhtf", 1, 4, 8, 0 },
+    { "version-1.0.0.bhtf", 1, 0, NOTES_VERSION, 5, 11, 7 },
+    { "version-1.0.1.bhtf", 1, 1, NOTES_VERSION, 4, 8, 0 },
+    { "version-2.0.0.bhtf", 2, 0, 0, 6, 9, 3 },
 };
 
 /* A step then and now: empty data in mode 2 withdrew a message, which mode 4
@@ -71,6 +77,7 @@ static unsigned failed;
 static const struct shape *shape;
 static uint8_t kept[L];  /* the file */
 static uint8_t image[L]; /* what is worked on */
+static uint8_t other[L]; /* a second one */
 
 static void expect(const char *where, const char *what, uint32_t got,
                    uint32_t want)
@@ -165,6 +172,11 @@ static void make_it_again(void)
                           shape->seed),
            0);
     expect("made again", "version", image[AT_VERSION], NOTES_VERSION);
+    if (shape->major == 2) {
+        memcpy(other, image, L);
+        expect("made again", "convert", subject.convert(other, L, image, L),
+               0);
+    }
     image[AT_VERSION] = shape->version;
     for (int i = 0; i < STEPS; i++)
         expect("made again", steps[i].key,
@@ -225,7 +237,7 @@ static void refuse_note(void)
     expect("full", "nothing appended", call("F6", "", APPEND), 0);
     expect("full", "version", image[AT_VERSION], shape->version);
     expect("full", "in place", call("D4", "", REPLACE), 0);
-    expect("full", "version then", image[AT_VERSION], NOTES_VERSION);
+    expect("full", "version then", image[AT_VERSION], shape->noted);
     expect_sound("full");
 }
 
@@ -234,7 +246,7 @@ static void note_of(const char *what, const char *name, uint32_t mode)
 {
     const struct shown note = { name, 0, "" };
 
-    then_version(what, name, "", mode, 0, NOTES_VERSION);
+    then_version(what, name, "", mode, 0, shape->noted);
     for (int i = 0; i < SHOWN; i++)
         if (strcmp(shown[i].key, name) != 0)
             look_up(what, &shown[i]);
@@ -249,6 +261,34 @@ static void store_notes(void)
     note_of("note in a message's place", "A2", REPLACE);
     note_of("note in a withdrawn one's place", "D4", REPLACE);
     note_of("note where no message was", "C3", REPLACE);
+}
+
+/* ---- the other version ---- */
+
+static void expect_version(const char *where, uint32_t major, uint32_t last)
+{
+    expect(where, "major version", image[5], major);
+    expect(where, "version's middle", image[6], 0);
+    expect(where, "last version byte", image[AT_VERSION], last);
+}
+
+/* The kept file in the other version, and back. */
+static void convert_it(void)
+{
+    memset(image, 0x5A, L);
+    expect("converted", "answer", subject.convert(kept, L, image, L), 0);
+    expect_version("converted", 3 - shape->major, shape->major == 2 ? 2 : 0);
+    for (int i = 0; i < SHOWN; i++)
+        look_up("converted", &shown[i]);
+    expect_count("converted", POINTS);
+    expect_sound("converted");
+    memcpy(other, image, L);
+    expect("back", "answer", subject.convert(other, L, image, L), 0);
+    expect_version("back", shape->major, shape->major == 2 ? 0 : 2);
+    memcpy(other, kept, L);
+    expect("back", "the kept file, compacted", subject.compact(other, L), 0);
+    other[AT_VERSION] = image[AT_VERSION];
+    expect("back", "bytes", memcmp(image, other, L) == 0, 1);
 }
 
 static int load(const char *directory)
@@ -283,6 +323,7 @@ int main(int argc, char **argv)
         leave_version();
         refuse_note();
         store_notes();
+        convert_it();
     }
     printf("%u passed, %u failed\n", passed, failed);
     return failed != 0;

@@ -1,10 +1,11 @@
 /* Images and tables at the limits: 1 GiB, 1,048,576 slots, and messages of
  * 16,777,215 bytes, which only images beyond the old limit can hold; their
- * compaction; as many readings by column as fit one; what changed in the last
+ * compaction and conversion; longer ones in version 2.0.0, up to one of
+ * 900,000,000 bytes, which is too long for version 1; as many readings by column as fit one; what changed in the last
  * bytes, listed and by way of a journal; two points on one message among many;
  * names in ranges, and epochs, among 1,048,576 slots.
  * Ends with "N passed, M failed". Takes some 2.2 GiB of memory. */
-#define _DEFAULT_SOURCE
+#define _GNU_SOURCE
 
 #include "calls.h"
 #include "reference/plain.h"
@@ -13,6 +14,7 @@
 #include <stdlib.h>
 #include <string.h>
 #include <sys/mman.h>
+#include <unistd.h>
 
 #define PAGE 4096u
 #define GIB 1073741824u
@@ -20,6 +22,8 @@
 #define SLOTS_MAX 1048576u
 #define MESSAGE_MAX 16777215u
 #define HEAD 4u
+#define LONG_HEAD 5u /* of version 2.0.0 */
+#define LONG_TEXT 900000000u
 #define TABLE 2048u
 
 static uint8_t *image; /* room for an image of 1 GiB and a page */
@@ -218,6 +222,139 @@ static void test_longest_message(void)
     munmap(before, MIB64);
 }
 
+/* ---- texts longer than version 1 has, in version 2.0.0 ---- */
+
+/* The image becomes its conversion into a slice of as many bytes. */
+static uint32_t convert(uint32_t length)
+{
+    uint8_t *to = map(length);
+    uint32_t number = subject.convert(image, length, to, length);
+
+    if (number == 0)
+        memcpy(image, to, length);
+    munmap(to, length);
+    return number;
+}
+
+/* Is the name's message in version 2.0.0 these bytes, at that offset? */
+static void expect_long(const char *what, uint32_t length, const char *name,
+                        uint32_t offset, const uint8_t *data, uint32_t size)
+{
+    expect_text(what, length, name, offset + LONG_HEAD - HEAD, data, size);
+    expect("  its letter", image[offset], 'a');
+    expect("  its length", field(offset + 1), size);
+}
+
+static void test_longer_message(void)
+{
+    const uint32_t data = PAGE, space = LONG_HEAD + MESSAGE_MAX;
+
+    before = map(MIB64);
+    created("64 MiB for 2.0.0", MIB64, 4, 16, data);
+    expect("converted", convert(MIB64), 0);
+    expect("16,777,215 bytes", add(MIB64, "AAAA", texts, MESSAGE_MAX, 1), 0);
+    expect_long("  its bytes", MIB64, "AAAA", data, texts, MESSAGE_MAX);
+    expect_space("  X", space);
+    expect("narrowed", convert(MIB64), 0);
+    expect("  its header", field(data), 'a' * 16777216u + MESSAGE_MAX);
+    expect_text("  its bytes", MIB64, "AAAA", data, texts, MESSAGE_MAX);
+    keep();
+    refused("a byte more in version 1",
+            add(MIB64, "AAAA", texts, MESSAGE_MAX + 1, 2), 12);
+    expect("widened", convert(MIB64), 0);
+    expect_long("  its bytes", MIB64, "AAAA", data, texts, MESSAGE_MAX);
+    expect("a byte appended", add(MIB64, "AAAA", texts + MESSAGE_MAX, 1, 3),
+           0);
+    expect_long("  its bytes", MIB64, "AAAA", data + space, texts,
+                MESSAGE_MAX + 1);
+    expect_space("  X", 2 * space + 1);
+    keep();
+    refused("too long for version 1", convert(MIB64), 20);
+    refused("20 before 13",
+            subject.convert(image, MIB64, texts, PAGE), 20);
+    expect("compacted", subject.compact(image, MIB64), 0);
+    expect_long("  its bytes", MIB64, "AAAA", data, texts, MESSAGE_MAX + 1);
+    expect_space("  X", space + 1);
+    expect("another in its place",
+           add(MIB64, "AAAA", texts + 1, MESSAGE_MAX + 1, 2), 0);
+    expect_long("  its bytes", MIB64, "AAAA", data, texts + 1,
+                MESSAGE_MAX + 1);
+    expect("half of it again",
+           add(MIB64, "AAAA", texts, MESSAGE_MAX / 2, 3), 0);
+    expect("  its length", field(data + space + 2),
+           MESSAGE_MAX + 1 + MESSAGE_MAX / 2);
+    expect_sound("  sound", MIB64);
+    expect("withdrawn", add(MIB64, "AAAA", NULL, 0, 4), 0);
+    expect("not too long without it", convert(MIB64), 0);
+    expect("  X", field(52), data);
+    munmap(before, MIB64);
+}
+
+/* The texts again and again, in as much memory as they take once. */
+static uint8_t *repeated(size_t size)
+{
+    const size_t piece = 16777216;
+    int file = memfd_create("texts", 0);
+    uint8_t *at = map(size + piece);
+
+    if (file < 0 || write(file, texts, piece) != (ssize_t)piece)
+        return NULL;
+    for (size_t i = 0; i < size; i += piece)
+        if (mmap(at + i, piece, PROT_READ, MAP_SHARED | MAP_FIXED, file, 0) ==
+            MAP_FAILED)
+            return NULL;
+    close(file);
+    return at;
+}
+
+static void test_longest_of_2(void)
+{
+    uint8_t *text = repeated(LONG_TEXT + 1);
+    uint8_t *to = map(GIB);
+    const uint32_t rest = GIB - PAGE - 2 * LONG_HEAD - LONG_TEXT;
+    uint32_t at = 0, size = 0;
+
+    if (text == NULL) {
+        expect("memory for a long text", 0, 1);
+        return;
+    }
+    subject.create(to, GIB, 4, 16, 0);
+    expect("1 GiB of 2.0.0", subject.convert(to, GIB, image, GIB), 0);
+    madvise(to, GIB, MADV_DONTNEED);
+    expect("1,073,741,824 bytes", add(GIB, "AAAA", text, GIB, 1), 12);
+    expect("1,073,741,823 bytes", add(GIB, "AAAA", text, GIB - 1, 1), 13);
+    expect("900,000,000 bytes", add(GIB, "AAAA", text, LONG_TEXT, 1), 0);
+    expect_long("  its bytes", GIB, "AAAA", PAGE, text, LONG_TEXT);
+    expect("  X", field(52), PAGE + LONG_HEAD + LONG_TEXT);
+    expect("  M", field(56), (LONG_HEAD + LONG_TEXT - 1) / PAGE);
+    expect("as much again appended", add(GIB, "AAAA", text, LONG_TEXT, 3), 12);
+    expect("up to 1 GiB appended",
+           add(GIB, "AAAA", text, GIB - 1 - LONG_TEXT, 3), 13);
+    expect("a byte too many behind it", add(GIB, "BBBB", text, rest + 1, 1),
+           13);
+    expect("up to the last byte", add(GIB, "BBBB", text, rest, 1), 0);
+    expect_long("  its bytes", GIB, "BBBB", PAGE + LONG_HEAD + LONG_TEXT, text,
+                rest);
+    expect_sound("  sound", GIB);
+    expect("too long for version 1", subject.convert(image, GIB, to, GIB), 20);
+    expect("  the target", are_zero(to, GIB / 4), 1);
+    expect("withdrawn", add(GIB, "AAAA", NULL, 0, 4), 0);
+    expect("too long for version 1, the other",
+           subject.convert(image, GIB, to, GIB), 20);
+    expect("deleted", subject.remove(image, GIB, (const uint8_t *)"BBBB", 4),
+           0);
+    expect("900,000,000 bytes in their place",
+           add(GIB, "AAAA", text + 1, LONG_TEXT, 2), 0);
+    expect("  looked up", subject.lookup(image, GIB, (const uint8_t *)"AAAA",
+                                         4, &at, &size), 0);
+    expect("  its bytes",
+           size == LONG_TEXT && memcmp(image + at, text + 1, size) == 0, 1);
+    expect("  X", field(52), GIB);
+    munmap(text, LONG_TEXT + 1 + 16777216);
+    munmap(to, GIB);
+    madvise(image, GIB, MADV_DONTNEED);
+}
+
 /* ---- as many readings by column as a message holds ---- */
 
 static uint32_t store(const char *name, uint32_t size, uint32_t width)
@@ -293,6 +430,34 @@ static const char *name_of(uint32_t i)
     return name;
 }
 
+/* The longest messages, all but every third of them and the last, into a target
+ * that has not a page too much. */
+static void widen_packed(uint32_t whole, uint32_t messages)
+{
+    const uint32_t space = LONG_HEAD + MESSAGE_MAX;
+    const uint32_t end = PAGE + messages * space;
+    const size_t length = (end + PAGE - 1) / PAGE * (size_t)PAGE;
+    uint8_t *to = map(length), *from = image;
+    uint32_t kept = 0;
+
+    expect("a page too few", subject.convert(image, GIB, to, length - PAGE),
+           13);
+    expect("  the target", are_zero(to, PAGE), 1);
+    memset(to + end, 7, length - end);
+    expect("widen 1 GiB", subject.convert(image, GIB, to, length), 0);
+    image = to;
+    for (uint32_t i = 0; i < whole; i++)
+        if (i % 3 != 1)
+            expect_long("  a text", (uint32_t)length, name_of(i),
+                        PAGE + kept++ * space, texts + i, MESSAGE_MAX);
+    expect("  X", field(52), end);
+    expect("  zeros behind it",
+           end == length || are_zero(image + end, (uint32_t)length - end), 1);
+    expect_sound("  sound", length);
+    image = from;
+    munmap(to, length);
+}
+
 /* Every third of the longest messages goes; then they are moved down. */
 static void pack_full_image(uint32_t whole)
 {
@@ -316,6 +481,7 @@ static void pack_full_image(uint32_t whole)
     expect("  its space again", add(GIB, "last", texts, MESSAGE_MAX, 1), 0);
     expect_text("  its bytes", GIB, "last", data + kept * space, texts,
                 MESSAGE_MAX);
+    widen_packed(whole, kept + 1);
 }
 
 static uint32_t number_at(const uint8_t *at)
@@ -461,6 +627,23 @@ static uint32_t walk_all(size_t length)
     return shown;
 }
 
+/* Into a longer slice, and back. */
+static void convert_beside_plain(size_t length, size_t longer)
+{
+    uint8_t *one = map(longer), *other = map(longer), *back = map(length);
+
+    memset(one, 7, longer);
+    expect("convert", subject.convert(image, length, one, longer), 0);
+    expect("convert, plain C", plain_convert(image, length, other, longer), 0);
+    expect("as plain C", memcmp(one, other, longer) == 0, 1);
+    expect("back", subject.convert(one, longer, other, length), 0);
+    expect("back, plain C", plain_convert(one, longer, back, length), 0);
+    expect("as plain C", memcmp(other, back, length) == 0, 1);
+    munmap(one, longer);
+    munmap(other, longer);
+    munmap(back, length);
+}
+
 static void test_full_table(void)
 {
     const size_t length = (TABLE + (size_t)SLOTS_MAX * 9 + PAGE - 1) /
@@ -484,6 +667,7 @@ static void test_full_table(void)
            10);
     expect("walk", walk_all(length), SLOTS_MAX);
     expect_sound("sound", length);
+    convert_beside_plain(length, length);
     done = 0;
     for (uint32_t i = 0; i < SLOTS_MAX; i += 4096) {
         spell(i, name);
@@ -533,6 +717,7 @@ static void test_many_messages(void)
     }
     expect("calls accepted", done, points + (points + 2) / 3 + points / 10);
     expect("as plain C", memcmp(plain, image, length) == 0, 1);
+    convert_beside_plain(length, length + 1024 * PAGE);
     expect("compact", subject.compact(image, length), 0);
     expect("compact, plain C", plain_compact(plain, length), 0);
     expect("as plain C", memcmp(plain, image, length) == 0, 1);
@@ -710,6 +895,8 @@ int main(void)
         texts[i] = (uint8_t)(i * 2654435761u >> 24);
     test_questions();
     test_longest_message();
+    test_longer_message();
+    test_longest_of_2();
     test_longest_columns();
     test_longest_run();
     test_full_image();

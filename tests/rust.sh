@@ -71,9 +71,17 @@ test_that "plain C whose compaction leaves X: found" finds kept
 edited tests/reference/plain.c 's/^        if (old.active)$/        if (old.length > 0)/' "$work/back.c"
 plain back "$work/back.c" || exit 2
 test_that "plain C whose compaction brings back what was withdrawn, and drops notes: found" finds back
-edited tests/reference/plain.c 's/^        return 15;$/        return memset(image + 2048, 0, 4), 15;/' "$work/wrote.c"
+edited tests/reference/plain.c 's/^    return verdict == 0 ? ACCEPTED : 15;$/    if (verdict != 0) memset((uint8_t *)image + 2048, 0, 4); &/' \
+  "$work/wrote.c"
 plain wrote "$work/wrote.c" || exit 2
 test_that "plain C whose refused compaction writes: found" finds wrote
+edited tests/reference/plain.c 's/^        write_offset(target, v, s\[i\].slot, at);$/        write_offset(target, v, s[i].slot, at + header_size);/' \
+  "$work/carried.c"
+plain carried "$work/carried.c" || exit 2
+test_that "plain C whose conversion leads to the text: found" finds carried
+edited tests/reference/plain.c 's/^    if (is_version_2(image)) .. never changes ..$/    if (0)/' "$work/noted.c"
+plain noted "$work/noted.c" || exit 2
+test_that "plain C whose empty note makes 2.0.0 another version: found" finds noted
 edited tests/reference/plain.c 's/^            f.ending = MET;$/& f.read--;/' "$work/met.c"
 plain met "$work/met.c" || exit 2
 test_that "plain C that does not count the slot where the key is met: found" finds met

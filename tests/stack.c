@@ -1,5 +1,5 @@
-/* How much stack the check and the compaction take, this also in the forms with
- * a list and by way of a journal: each runs on a thread whose stack is little
+/* How much stack the check, the compaction, this also in the forms with a list
+ * and by way of a journal, and the conversion take: each runs on a thread whose stack is little
  * larger than the header (host/include/bhtf.h) says, with an unreadable page at
  * its end, and the bytes that it wrote there are counted.
  * Ends with "N passed, 0 failed". */
@@ -84,6 +84,14 @@ static void *run_compact_journaled(void *given)
     return NULL;
 }
 
+static void *run_convert(void *given)
+{
+    struct asked *a = given;
+
+    a->number = subject.convert(a->image, a->length, a->work, a->length);
+    return NULL;
+}
+
 static void *run_nothing(void *given)
 {
     return given;
@@ -149,7 +157,7 @@ static void try(const char *what, size_t length, uint32_t slots)
 {
     struct asked a = { map(length), map(length), map(JOURNAL * length),
                        length, 77, 77, 77 };
-    size_t thread, taken, packing, listing, journaling, most;
+    size_t thread, taken, packing, listing, journaling, converting, most;
 
     if (a.image == NULL || a.work == NULL || a.journal == NULL) {
         failed++;
@@ -163,17 +171,21 @@ static void try(const char *what, size_t length, uint32_t slots)
     packing = packing_stack(run_compact, slots, &a);
     listing = packing_stack(run_compact_listed, slots, &a);
     journaling = packing_stack(run_compact_journaled, slots, &a);
+    converting = packing_stack(run_convert, slots, &a);
     expect("the threads ran", thread > 0 && taken > 0 && packing > 0 &&
-                                  listing > 0 && journaling > 0, 1);
+                                  listing > 0 && journaling > 0 &&
+                                  converting > 0, 1);
     expect("the check takes what the header says",
            taken <= CHECK_SAID + thread, 1);
     most = packing > listing ? packing : listing;
     most = most > journaling ? most : journaling;
     expect("compaction takes what the header says",
            most <= COMPACT_SAID + thread, 1);
+    expect("conversion takes what the header says",
+           converting <= COMPACT_SAID + thread, 1);
     printf("%s: check %zu bytes of stack, compaction %zu, with a list %zu, "
-           "with a journal %zu; %zu of them the thread's own\n", what, taken,
-           packing, listing, journaling, thread);
+           "with a journal %zu, conversion %zu; %zu of them the thread's own\n",
+           what, taken, packing, listing, journaling, converting, thread);
     munmap(a.image, length);
     munmap(a.work, length);
     munmap(a.journal, JOURNAL * length);

@@ -5,7 +5,7 @@
 //! call and may not be more than its points and one; the list of what changed, byte for byte, and that a copy of the file before the
 //! call is the file after it once the listed stretches are copied; the journal, byte for byte, and that recovery makes the file after
 //! the call of the one before; the records that are read by column, the slots listed for ranges of names, and the lent slice behind
-//! them; the epoch shown, and its message; after every list: that the file finds the book's points with the book's texts, that the
+//! them; the epoch shown, and its message; the target of a conversion, byte for byte, in which the list goes on; after every list: that the file finds the book's points with the book's texts, that the
 //! walk shows each of them once, and that the check calls the file sound.
 //! Status 0 if every list agreed.
 use std::collections::{BTreeMap, BTreeSet};
@@ -39,6 +39,7 @@ extern "C" {
         slots_read: *mut u32,
     ) -> u32;
     fn bhtf_compact(image: *mut u8, len: usize) -> u32;
+    fn bhtf_convert(source: *const u8, source_len: usize, target: *mut u8, target_len: usize) -> u32;
     fn bhtf_store_columns(
         image: *mut u8,
         len: usize,
@@ -146,8 +147,8 @@ extern "C" {
     fn bhtf_recover(image: *mut u8, len: usize, journal: *mut u8, journal_len: usize) -> u32;
 }
 
-const HEADER: usize = 4;
 const PAIR: usize = 8;
+const COUNT: usize = 4;
 const MARK: u8 = 0xA5;
 const SCRAMBLE: usize = 512;
 const TABLE: usize = 2048;
@@ -210,6 +211,10 @@ impl File {
 
     fn compact(&mut self) -> u32 {
         unsafe { bhtf_compact(self.0.as_mut_ptr(), self.0.len()) }
+    }
+
+    fn convert(&self, target: &mut [u8]) -> u32 {
+        unsafe { bhtf_convert(self.0.as_ptr(), self.0.len(), target.as_mut_ptr(), target.len()) }
     }
 
     fn store_columns(&mut self, key: &[u8], records: &[u8], width: u32) -> u32 {
@@ -385,9 +390,9 @@ fn write_list(list: &mut [u8], runs: &[(usize, usize)], length: usize) -> u32 {
 /// What a journal takes: the count, the pairs, the new bytes.
 fn content(before: &[u8], after: &[u8]) -> Vec<u8> {
     let runs = changes(before, after);
-    let mut content = vec![0; HEADER + runs.len() * PAIR];
+    let mut content = vec![0; COUNT + runs.len() * PAIR];
     put(&mut content, 0, runs.len());
-    write_list(&mut content[HEADER..], &runs, before.len());
+    write_list(&mut content[COUNT..], &runs, before.len());
     runs.iter().for_each(|&(at, length)| content.extend_from_slice(&after[at..at + length]));
     content
 }
@@ -403,6 +408,7 @@ struct Point {
 struct Book {
     key_size: usize,
     slots: usize,
+    header: usize,
     room: usize,
     used: usize,
     points: BTreeMap<Vec<u8>, Point>,
@@ -413,15 +419,30 @@ fn field(image: &[u8], at: usize) -> usize {
     u32::from_be_bytes(image[at..at + 4].try_into().unwrap()) as usize
 }
 
+/// A message's header is a letter and 3 bytes, in version 2.0.0 a letter and 4.
+fn header_size(image: &[u8]) -> usize {
+    if image[5] == 2 { 5 } else { 4 }
+}
+
+fn length_at(image: &[u8], offset: usize) -> usize {
+    let digits = &image[offset + 1..offset + header_size(image)];
+    digits.iter().fold(0, |length, &digit| length << 8 | digit as usize)
+}
+
+fn message(header: usize, text: &[u8]) -> Vec<u8> {
+    let length = (text.len() as u32).to_be_bytes();
+    [b"a", &length[5 - header..], text].concat()
+}
+
 impl Point {
     /// A taken slot's point: an inactive message holds its bytes and shows no text.
     fn read(image: &[u8], offset: usize) -> Point {
         if offset == 0 {
             return Point::default();
         }
-        let held = field(image, offset) & 0xFF_FFFF;
+        let start = offset + header_size(image);
+        let held = length_at(image, offset);
         let shown = image[offset] == b'a';
-        let start = offset + HEADER;
         Point { text: shown.then(|| image[start..start + held].to_vec()), held, placed: true }
     }
 }
@@ -436,7 +457,7 @@ impl Book {
         let points = taken
             .map(|slot| (slot[..key_size].to_vec(), Point::read(image, field(slot, key_size))))
             .collect();
-        Book { key_size, slots, room: image.len() - data, used: next - data, points }
+        Book { key_size, slots, header: header_size(image), room: image.len() - data, used: next - data, points }
     }
 
     fn named(&self, key: &[u8]) -> bool {
@@ -445,13 +466,13 @@ impl Book {
 
     /// Questions 12 and 13; then the space is taken.
     fn take(&mut self, length: usize) -> u32 {
-        if length > 0xFF_FFFF {
+        if length > if self.header == 5 { 0x3FFF_FFFF } else { 0xFF_FFFF } {
             return 12;
         }
-        if self.used + HEADER + length > self.room {
+        if self.used + self.header + length > self.room {
             return 13;
         }
-        self.used += HEADER + length;
+        self.used += self.header + length;
         0
     }
 
@@ -574,8 +595,23 @@ impl Book {
             point.placed = point.text.is_some();
             point.held = point.text.as_ref().map_or(0, Vec::len);
         }
-        self.used = self.points.values().filter(|p| p.placed).map(|p| HEADER + p.held).sum();
+        self.used = self.points.values().filter(|p| p.placed).map(|p| self.header + p.held).sum();
         0
+    }
+
+    /// Into a target of that length: compaction with the other version's header, and the target's room. No text here is too long.
+    fn convert(&mut self, length: usize) -> u32 {
+        let data = data_start(self.key_size, self.slots);
+        let texts = || self.points.values().filter_map(|p| p.text.as_ref());
+        let header = 9 - self.header;
+        if length % 4096 != 0 || length == 0 {
+            return 1;
+        }
+        if data + texts().map(|t| header + t.len()).sum::<usize>() > length {
+            return 13;
+        }
+        (self.header, self.room) = (header, length - data);
+        self.compact()
     }
 
     fn delete(&mut self, key: &[u8]) -> u32 {
@@ -669,6 +705,9 @@ fn make_header(chance: &mut Chance, image: &mut [u8], key_size: usize, slots: us
     let start = [0x811C_9DC5, chance.below(1 << 32)][chance.below(2)];
     image[..7].copy_from_slice(b"BHTFv\x01\x00");
     image[7] = chance.below(3) as u8;
+    if chance.one_in(3) {
+        image[5..8].copy_from_slice(&[2, 0, 0]);
+    }
     let fields = [
         (12, key_size),
         (16, slots),
@@ -736,17 +775,18 @@ fn take_slot(image: &mut [u8], slot: usize, key: &[u8]) {
 fn place_message(chance: &mut Chance, image: &mut [u8], slot: usize, at: usize) -> usize {
     let start = at + [0, 0, chance.below(8)][chance.below(3)];
     let next = field(image, 52);
-    if start + HEADER > next {
+    let header = header_size(image);
+    if start + header > next {
         return at;
     }
-    let space = next - start - HEADER;
+    let space = next - start - header;
     let most = if chance.one_in(16) { 300 } else { 12 };
     let some = if chance.one_in(6) { 0 } else { chance.below(space.min(most) + 1) };
     let length = if chance.one_in(40) { space } else { some };
-    put(image, start, length);
+    put(image, start + header - 4, length);
     image[start] = [b'a', b'a', b'd'][chance.below(3)];
     put(image, slot_offset(image, slot), start);
-    start + HEADER + length
+    start + header + length
 }
 
 /// Messages from D on, of most taken slots, in any order of the slots.
@@ -789,10 +829,64 @@ fn refuses_unsound(file: &File) -> Result<(), String> {
     put(&mut other.0, 20, if points == 0 { 1 } else { points - 1 });
     let before = other.0.clone();
     match other.compact() {
-        15 if other.0 == before => Ok(()),
-        15 => Err("a refused compaction wrote".into()),
-        number => Err(format!("compaction of a wrong count answered {number}")),
+        15 if other.0 == before => {}
+        15 => return Err("a refused compaction wrote".into()),
+        number => return Err(format!("compaction of a wrong count answered {number}")),
     }
+    let mut target = vec![0x5A; before.len()];
+    match other.convert(&mut target) {
+        15 if target.iter().all(|&c| c == 0x5A) => Ok(()),
+        15 => Err("a refused conversion wrote".into()),
+        number => Err(format!("conversion of a wrong count answered {number}")),
+    }
+}
+
+/// The file in the other version, by the document: each point in its slot, its text in the order of the old offsets; zero else.
+fn converted(image: &[u8], length: usize) -> Vec<u8> {
+    let (header, data) = (9 - header_size(image), field(image, 48));
+    let numbers = field(image, 36) - field(image, 32) + 1;
+    let mut target = vec![0; length];
+    target[..52].copy_from_slice(&image[..52]);
+    target[5..8].copy_from_slice(if header == 5 { &[2, 0, 0] } else { &[1, 0, 2] });
+    target[SCRAMBLE..SCRAMBLE + 4 * numbers].copy_from_slice(&image[SCRAMBLE..SCRAMBLE + 4 * numbers]);
+    let mut texts = BTreeMap::new();
+    for slot in (0..field(image, 16)).filter(|&i| is_taken(image, i)) {
+        let (key, offset) = (slot_at(image, slot), slot_offset(image, slot));
+        target[key..offset].copy_from_slice(&image[key..offset]);
+        let at = field(image, offset);
+        if at != 0 && image[at] == b'a' {
+            let start = at + header_size(image);
+            texts.insert(at, (slot, &image[start..start + length_at(image, at)]));
+        }
+    }
+    let mut next = data;
+    for (slot, text) in texts.into_values() {
+        let bytes = message(header, text);
+        target[next..next + bytes.len()].copy_from_slice(&bytes);
+        put(&mut target, slot_offset(image, slot), next);
+        next += bytes.len();
+    }
+    put(&mut target, 52, next);
+    put(&mut target, 56, if next == data { 0xFFFF_FFFF } else { (next - data - 1) / 4096 });
+    target
+}
+
+/// Into a target of about the file's length; accepted, the list goes on there.
+fn convert(chance: &mut Chance, file: &mut File, book: &mut Book) -> (Answer, Answer) {
+    let length = file.0.len();
+    let needed = data_start(book.key_size, book.slots) + book.used;
+    let whole = (needed + 4095) / 4096 * 4096;
+    let length = [length, length + 4096, whole, whole + 4096, whole.max(8192) - 4096, length + 1, 0][chance.below(7)];
+    let mut target = chance.bytes(length);
+    let before = (file.0.clone(), target.clone());
+    let want = book.convert(length);
+    let got = file.convert(&mut target);
+    let left = if got == 0 && want == 0 { converted(&before.0, length) } else { before.1 };
+    let answer = (got, Some(vec![(file.0 == before.0) as u8, (target == left) as u8]), None);
+    if got == 0 {
+        file.0 = target;
+    }
+    (answer, (want, Some(vec![1, 1]), None))
 }
 
 /// A sound image, and names to call: those it holds, and in a table with empty slots some more.
@@ -981,7 +1075,7 @@ fn call(
     // none where the call is refused before its search
     let searches = if book.named(key) { slots_read(&file.0, key) as u32 } else { 0 };
     let read = |n| counted.then_some(if n == 8 { 0 } else { searches });
-    match chance.below(26) {
+    match chance.below(27) {
         0..=9 => {
             let size = [0, 1, 5, 40, book.room][chance.below(5)];
             let length = chance.below(size + 1);
@@ -1057,6 +1151,10 @@ fn call(
             let (got, want) = at_epoch(chance, file, book, key);
             ("epoch", got, want)
         }
+        24 => {
+            let (got, want) = convert(chance, file, book);
+            ("convert", got, want)
+        }
         _ => {
             let (number, points) = file.count();
             let want = book.points.len() as u32;
@@ -1116,7 +1214,7 @@ fn from_create(chance: &mut Chance) -> Result<usize, String> {
         return Err(format!("create answered {number}"));
     }
     let room = length - data_start(key_size, slots);
-    let mut book = Book { key_size, slots, room, used: 0, points: BTreeMap::new() };
+    let mut book = Book { key_size, slots, header: 4, room, used: 0, points: BTreeMap::new() };
     let calls = calls(chance, &mut file, &mut book, &[])?;
     same_points(&file, &book).map(|()| calls)
 }
@@ -1137,7 +1235,7 @@ fn from_image(chance: &mut Chance, ran: &mut Ran) -> Result<usize, String> {
     same_points(&file, &book).map(|()| calls)
 }
 
-/// What ran, and of the images read: with a full table, of version 1.0.0 or 1.0.1, points, messages.
+/// What ran, and of the images read: with a full table, of version 1.0.0 or 1.0.1, of 2.0.0, points, messages.
 #[derive(Default)]
 struct Ran {
     passed: usize,
@@ -1145,6 +1243,7 @@ struct Ran {
     calls: usize,
     full: usize,
     old: usize,
+    long: usize,
     points: usize,
     active: usize,
     empty: usize,
@@ -1155,7 +1254,8 @@ impl Ran {
     fn start(&mut self, image: &[u8], book: &Book) {
         let points = || book.points.values();
         self.full += (book.points.len() == book.slots) as usize;
-        self.old += (image[7] < 2) as usize;
+        self.old += (image[5] == 1 && image[7] < 2) as usize;
+        self.long += (image[5] == 2) as usize;
         self.points += book.points.len();
         self.active += points().filter(|p| p.text.is_some()).count();
         self.empty += points().filter(|p| p.text == Some(Vec::new())).count();
@@ -1184,8 +1284,8 @@ impl Ran {
     }
 
     fn report_starts(&self) {
-        let Ran { full, old, points, active, empty, inactive, .. } = self;
-        println!("  the images: {full} full, {old} of version 1.0.0 or 1.0.1; {points} points,");
+        let Ran { full, old, long, points, active, empty, inactive, .. } = self;
+        println!("  the images: {full} full, {old} of version 1.0.0 or 1.0.1, {long} of 2.0.0; {points} points,");
         println!("  {active} active messages, {empty} of them empty, {inactive} inactive");
     }
 }

@@ -33,6 +33,8 @@ uint32_t bhtf_lookup_slots(const uint8_t *image, size_t image_len,
                            uint32_t *offset, uint32_t *length,
                            uint32_t *slots_read);
 uint32_t bhtf_compact(uint8_t *image, size_t image_len);
+uint32_t bhtf_convert(const uint8_t *source, size_t source_len,
+                      uint8_t *target, size_t target_len);
 uint32_t bhtf_store_columns(uint8_t *image, size_t image_len,
                             const uint8_t *key, size_t key_len,
                             const uint8_t *records, size_t records_len,

@@ -1,5 +1,5 @@
-/* 01's proved table, 02's empty notes, compaction, readings by column, names in
- * ranges, epochs, lists of changes, journal and recovery, and the generator, run
+/* 01's proved table, 02's empty notes, compaction, version 2.0.0 and conversion,
+ * readings by column, names in ranges, epochs, lists of changes, journal and recovery, and the generator, run
  * on the code under test. Ends with "N passed, 0 failed".
  *
  * The hash is not an export; it is seen through home slots: on an empty table
@@ -381,6 +381,220 @@ static void unsound(void)
     image[0]--;
     length--;
     expect("question 1", compact(), 1);
+}
+
+/* ---- version 2.0.0 and the converter ---- */
+
+static uint8_t target[16384];
+
+/* Into a target of so many bytes, which were not zero; accepted, the list goes
+ * on there. */
+static uint32_t convert(size_t bytes)
+{
+    uint32_t number;
+
+    memset(target, 0xEE, sizeof target);
+    number = subject.convert(image, length, target, bytes);
+    if (number != 0)
+        return number;
+    expect("behind the target", target[bytes], 0xEE);
+    memcpy(image, target, bytes);
+    length = bytes;
+    return 0;
+}
+
+/* How many bytes of a stretch are not zero. */
+static uint32_t not_zero(uint32_t from, uint32_t to)
+{
+    uint32_t count = 0;
+
+    while (from < to)
+        count += image[from++] != 0;
+    return count;
+}
+
+/* Byte 1, in slot 3, is replaced; byte 3, in slot 0, has an empty note; byte 2,
+ * in slot 1, is withdrawn; slot 2 is empty with a dirty offset. Of each place
+ * that is no one's a byte or two are dirty. */
+static void make_mixed(void)
+{
+    create(8192, 1, 4, 0);
+    add(1, "first", 5, 1);
+    add(3, NULL, 0, 1);
+    add(2, "second", 6, 1);
+    add(1, "longer", 6, 2);
+    add(2, NULL, 0, 4);
+    put32(8, 0xC0FFEE42u);
+    put32(TABLE + 5 * 2 + 1, 0xDDDDDDDDu);
+    put32(AT_LAST_PAGE, 77);
+    image[60] = image[511] = image[892] = image[2047] = 1;
+    image[TABLE + 20] = image[4095] = image[8191] = 1;
+}
+
+/* Byte 1's message stands at 4096, dead, then at 4119, byte 3's at 4105, byte
+ * 2's at 4109, inactive. */
+static void widening(void)
+{
+    static uint8_t before[8192];
+
+    make_mixed();
+    memcpy(before, image, 8192);
+    expect("X before", get32(AT_NEXT), 4129);
+    expect("convert", convert(8192), 0);
+    expect("letters and version", memcmp(image, "BHTFv\2\0\0", 8), 0);
+    expect("serial", get32(8), 0xC0FFEE42u);
+    expect("header", memcmp(image + 12, before + 12, 40), 0);
+    expect("scramble", memcmp(image + 512, before + 512, 380), 0);
+    expect("X", get32(AT_NEXT), 4096 + 5 + 11);
+    expect("M", get32(AT_LAST_PAGE), 0);
+    expect("behind the header", not_zero(60, 512), 0);
+    expect("behind the scramble", not_zero(892, 2048), 0);
+    expect("slots", memcmp(image + TABLE, "\3\0\0\x10\0\2\0\0\0\0"
+                           "\0\0\0\0\0\1\0\0\x10\5", 20), 0);
+    expect("behind the table", not_zero(TABLE + 20, 4096), 0);
+    expect("messages", memcmp(image + 4096, "a\0\0\0\0a\0\0\0\6longer", 16),
+           0);
+    expect("behind X", not_zero(4112, 8192), 0);
+}
+
+/* Modes 1 to 4, delete and compaction: headers of five bytes. */
+static void messages_of_2(void)
+{
+    create(8192, 1, 4, 0);
+    expect("convert", convert(8192), 0);
+    expect("M without messages", get32(AT_LAST_PAGE), 0xFFFFFFFFu);
+    expect("add", add(1, "fives", 5, 1), 0);
+    expect("X", get32(AT_NEXT), 4106);
+    expect("header", memcmp(image + 4096, "a\0\0\0\5fives", 10), 0);
+    expect("replace in place", add(1, "abc", 3, 2), 0);
+    expect("X", get32(AT_NEXT), 4106);
+    expect("bytes", memcmp(image + 4096, "a\0\0\0\3abc\0\0", 10), 0);
+    expect("replace", add(1, "four", 4, 2), 0);
+    expect("X", get32(AT_NEXT), 4106 + 9);
+    expect("old letter", image[4096], 'd');
+    expect("append", add(1, "+3", 2, 3), 0);
+    expect("X", get32(AT_NEXT), 4115 + 11);
+    expect("bytes", memcmp(image + 4115, "a\0\0\0\6four+3", 11), 0);
+    expect("note", add(2, NULL, 0, 1), 0);
+    expect("X", get32(AT_NEXT), 4126 + 5);
+    expect("note in place", add(1, NULL, 0, 2), 0);
+    expect("version", memcmp(image + 5, "\2\0\0", 3), 0);
+    expect("withdraw", add(1, NULL, 0, 4), 0);
+    expect("delete", delete(1), 0);
+    expect("compact", compact(), 0);
+    expect("X", get32(AT_NEXT), 4096 + 5);
+    expect("note's header", memcmp(image + 4096, "a\0\0\0\0", 5), 0);
+    expect("version", memcmp(image + 5, "\2\0\0", 3), 0);
+    expect("the rest of R", add(3, (char *)image, 4096 - 5 - 5 + 1, 1), 13);
+    expect("one byte less", add(3, (char *)image, 4096 - 5 - 5, 1), 0);
+    expect("X", get32(AT_NEXT), 8192);
+}
+
+static void versions_opened(void)
+{
+    static const struct opened {
+        uint8_t version[3];
+        uint32_t number;
+    } opened[] = {
+        { { 1, 0, 0 }, 0 }, { { 1, 0, 1 }, 0 }, { { 1, 0, 2 }, 0 },
+        { { 1, 0, 3 }, 5 }, { { 1, 1, 0 }, 5 }, { { 2, 0, 0 }, 0 },
+        { { 2, 0, 1 }, 5 }, { { 2, 0, 2 }, 5 }, { { 2, 1, 0 }, 5 },
+        { { 3, 0, 0 }, 5 }, { { 0, 0, 0 }, 5 }, { { 0, 0, 2 }, 5 },
+        { { 130, 0, 0 }, 5 }, { { 2, 0, 128 }, 5 }, { { 2, 128, 0 }, 5 },
+    };
+    uint32_t points;
+
+    create(8192, 1, 4, 0);
+    for (size_t i = 0; i < sizeof opened / sizeof *opened; i++) {
+        memcpy(image + 5, opened[i].version, 3);
+        expect("version", subject.count(image, length, &points),
+               opened[i].number);
+    }
+    memcpy(image + 5, "\2\0\0", 3);
+    for (int i = 0; i < 5; i++) {
+        image[i] ^= 0x20;
+        expect("other letters", subject.count(image, length, &points), 5);
+        image[i] ^= 0x20;
+    }
+}
+
+/* Back in version 1 there are the same points, and it is 1.0.2. */
+static void there_and_back(void)
+{
+    make_mixed();
+    image[7] = 0;
+    expect("there", convert(12288), 0);
+    expect("back", convert(8192), 0);
+    expect("version", memcmp(image + 5, "\1\0\2", 3), 0);
+    expect("X", get32(AT_NEXT), 4096 + 4 + 10);
+    expect("messages", memcmp(image + 4096, "a\0\0\0a\0\0\6longer", 14), 0);
+    expect("slots", memcmp(image + TABLE, "\3\0\0\x10\0\2\0\0\0\0"
+                           "\0\0\0\0\0\1\0\0\x10\4", 20), 0);
+    expect("C", get32(AT_COUNT), 3);
+    expect("serial", get32(8), 0xC0FFEE42u);
+    expect("behind X", not_zero(4110, 8192), 0);
+}
+
+/* A text that fills version 1's R but for a byte does not fit 2.0.0's; what is
+ * refused goes on in the source. */
+static void target_brim(void)
+{
+    static const char bytes[5000];
+
+    create(8192, 1, 4, 0);
+    expect("4092 bytes", add(1, bytes, 4092, 1), 0);
+    expect("no room", convert(8192), 13);
+    expect("version", image[5], 1);
+    expect("replaced by 4091", add(1, bytes, 4091, 2), 0);
+    expect("room", convert(8192), 0);
+    expect("X", get32(AT_NEXT), 8192);
+    expect("M", get32(AT_LAST_PAGE), 0);
+    expect("a point more", add(2, NULL, 0, 1), 13);
+    expect("without a message", add(2, NULL, 0, 3), 0);
+    expect("the table alone is too small", convert(4096), 13);
+    expect("back", convert(8192), 0);
+    expect("X", get32(AT_NEXT), 8191);
+    create(4096, 1, 4, 0);
+    expect("a file without data area", convert(4096), 0);
+    expect("X", get32(AT_NEXT), 4096);
+    create(12288, 4, 257, 0);
+    expect("a target below D", convert(4096), 13);
+    expect("a target of D", convert(8192), 0);
+}
+
+/* 1 before 5, 5 before 6, 6 before 15, 15 before 13. */
+static void convert_refused(void)
+{
+    create(12288, 4, 257, 0);
+    put32(AT_COUNT, 1);
+    expect("15 before 13", convert(4096), 15);
+    put32(AT_COUNT, 258);
+    expect("6 before 15", convert(4096), 6);
+    image[6] = 1;
+    expect("5 before 6", convert(4096), 5);
+    expect("1 before 5", convert(4097), 1);
+    length--;
+    expect("1 of the source", convert(4096), 1);
+    memset(target, 0xEE, sizeof target);
+    length++;
+    subject.convert(image, length, target, 12288);
+    expect("a refused target", target[0] + target[12287], 2 * 0xEE);
+    create(8192, 1, 4, 0);
+    add(1, "P", 1, 1);
+    add(2, "Q", 1, 1);
+    put32(TABLE + 5 * 0 + 1, 4096);
+    expect("two points on one message", convert(8192), 15);
+}
+
+static void target_lengths(void)
+{
+    static const size_t lengths[] = { 0, 1, 4095, 4097, 8191, 8193,
+                                      1073741824u + PAGE };
+
+    create(8192, 1, 4, 0);
+    for (size_t i = 0; i < sizeof lengths / sizeof *lengths; i++)
+        expect("a target that is no image's length",
+               subject.convert(image, length, target, lengths[i]), 1);
 }
 
 /* ---- readings by column ---- */
@@ -1153,6 +1367,13 @@ int main(void)
     packing();
     nothing_dead();
     unsound();
+    widening();
+    messages_of_2();
+    versions_opened();
+    there_and_back();
+    target_brim();
+    convert_refused();
+    target_lengths();
     columns();
     no_record();
     no_columns();

@@ -51,12 +51,12 @@ test_that "found: slots read not counted round the table's end" \
 test_that "found: slots read of an exhausted search" \
     finds 'if (f.ending == EXHAUSTED)' 'if (f.ending == EMPTY)'
 test_that "found: a message of length 0 is damaged" \
-    finds 'return m->length <= v->next - offset - MESSAGE_HEADER;' \
-    'return m->length - 1 < v->next - offset - MESSAGE_HEADER;'
+    finds 'return m->length <= v->next - offset - v->header_size;' \
+    'return m->length - 1 < v->next - offset - v->header_size;'
 test_that "found: the version's last byte may be 3" \
-    finds '0x76010000u > 2)' '0x76010000u > 3)'
+    finds 'version - VERSION_1 > 2 &&' 'version - VERSION_1 > 3 &&'
 test_that "found: a note in place leaves the version" \
-    finds 'mark_note(image, length);' ''
+    finds 'mark_note(image, v, length);' ''
 test_that "found: a note is written at offset 0" \
     finds 'mode == MODE_REPLACE && old.offset != 0 && data_len' \
     'mode == MODE_REPLACE && data_len'
@@ -65,13 +65,36 @@ test_that "found: messages that touch move as one too many" \
     'i < count && moves[i].from <= end + 1; i++'
 test_that "found: a digit of the places is not sorted by" \
     finds 'shift < 32; shift += 11' 'shift < 11; shift += 11'
+test_that "found: a note makes 2.0.0 another version" \
+    finds 'if (data_len == 0 && v->header_size == MESSAGE_HEADER)' \
+    'if (data_len == 0 && v->header_size > 0)'
+test_that "found: the length of 2.0.0 without its top byte" \
+    finds "version == VERSION_2 ? 0xFFFFFFFFu : MESSAGE_MAX;" 'MESSAGE_MAX;'
+test_that "found: the length of 2.0.0 beginning with the letter" \
+    finds 'get32(at + v->header_size - 4)' 'get32(at)'
+test_that "found: messages that share bytes are carried" \
+    finds 'if (moves[i].from < end)' 'if (moves[i].from + 1 < end)'
+test_that "found: a conversion does not count the points" \
+    finds 'return taken == v->count ? found : v->slots + 1;' 'return found;'
+test_that "found: 20 asked on widening alone" \
+    finds 'header_size == MESSAGE_HEADER && text > MESSAGE_MAX' \
+    'header_size != MESSAGE_HEADER && text > MESSAGE_MAX'
+test_that "found: an empty slot's offset is carried" \
+    finds 'put32(to + v->key_size, 0);' 'if (to[0] != 0) put32(to + v->key_size, 0);'
+test_that "found: the target's bytes behind its table are left" \
+    finds 'memset(target + table_end, 0, v->data - table_end);' \
+    '(void)table_end;'
+test_that "found: the target's bytes behind its scramble are left" \
+    finds 'memset(target + scramble_end, 0, TABLE - scramble_end);' ''
+test_that "found: the target's bytes behind its messages are left" \
+    finds 'memset(target + end, 0, target_len - end);' ''
 test_that "found: a column of each group left out" \
     finds 'if (c < wanted)' 'if (c + 1 < wanted)'
 test_that "found: narrow records written beyond the last one" \
     finds 'size_t spare = width < GROUP ? GROUP : 0;' \
     'size_t spare = width < 2 ? GROUP : 0;'
 test_that "found: columns in place leave the rest of the old bytes" \
-    finds 'memset(to + MESSAGE_HEADER + 1 + size, 0, old.length - 1 - size);' \
+    finds 'memset(to + v.header_size + 1 + size, 0, old.length - 1 - size);' \
     ''
 test_that "found: columns in place one byte too long" \
     finds 'if (records_len < old.length) {' \

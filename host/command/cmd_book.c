@@ -29,7 +29,7 @@ static int put_held(struct buffer *line, const struct buffer *copy,
     if (!slot_stretch(copy->bytes, h, slot, &s) || s.end == 0)
         return buffer_put(line, " - ", 3);
     snprintf(held, sizeof held, " %lu ",
-             (unsigned long)(s.end - s.start - BHTF_MESSAGE_HEADER));
+             (unsigned long)(s.end - s.start - h->message_header));
     return buffer_put(line, held, strlen(held));
 }
 
@@ -45,12 +45,12 @@ static int print_entry(struct buffer *line, const struct buffer *copy,
     line->length = 0;
     done = quoted_put_name(line, key, h->key_size) |
            put_held(line, copy, h, slot);
-    if (offset == 0)
-        done |= buffer_put_byte(line, '-');
-    else
-        done |= quoted_put(line, copy->bytes + offset, length);
-    done |= buffer_put_byte(line, '\n');
     fwrite(line->bytes, 1, line->length, stdout);
+    if (offset == 0)
+        putchar('-');
+    else
+        done |= quoted_print(stdout, copy->bytes + offset, length);
+    putchar('\n');
     return done;
 }
 

@@ -94,12 +94,12 @@ static int print_point(struct dump *d, size_t i)
     /* load puts the padding back */
     done = quoted_put_name(&d->line, key, d->key_size) |
            buffer_put_byte(&d->line, ' ');
-    if (offset == 0)
-        done |= buffer_put_byte(&d->line, '-');
-    else
-        done |= quoted_put(&d->line, d->copy->bytes + offset, length);
-    done |= buffer_put_byte(&d->line, '\n');
     fwrite(d->line.bytes, 1, d->line.length, stdout);
+    if (offset == 0)
+        putchar('-');
+    else
+        done |= quoted_print(stdout, d->copy->bytes + offset, length);
+    putchar('\n');
     return done == 0 ? DONE : out_of_memory();
 }
 

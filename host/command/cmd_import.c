@@ -563,7 +563,7 @@ static int look_at_file(struct import *m)
 {
     const struct target to = import_target(m);
 
-    m->version = header_read(to.image).version[2];
+    m->version = version_of(to.image);
     return neighbours_find(&m->neighbours, to.image, to.length,
                            m->key_size) == 0 ? DONE : out_of_memory();
 }
@@ -746,12 +746,12 @@ static int read_input(struct import *m)
 static int import_points(struct import *m)
 {
     int status = open_image(m);
-    uint8_t now;
+    struct version now;
 
     if (status != DONE)
         return status;
     status = read_input(m);
-    now = header_read(m->image.bytes).version[2];
+    now = version_of(m->image.bytes);
     if (status != DONE)
         delta_append_drop(&m->append, &m->image);
     else if (delta_append_close(&m->append, &m->image) != 0)
@@ -771,8 +771,7 @@ static int try_import(struct import *m)
     if (status != DONE)
         return status;
     status = read_input(m);
-    say_version(m->o->word[0], m->version,
-                header_read(m->copy.bytes).version[2]);
+    say_version(m->o->word[0], m->version, version_of(m->copy.bytes));
     if (!m->o->quiet && print_columns(m) != DONE)
         return TROUBLE;
     return finish_output(import_report_dry(m, status));

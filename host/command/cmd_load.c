@@ -2,6 +2,7 @@
  * and written when all of the text was taken. */
 #include "commands.h"
 
+#include "file_version.h"
 #include "image_header.h"
 #include "command_limits.h"
 #include "progress.h"
@@ -21,7 +22,7 @@ struct load {
     unsigned long number;   /* of the line */
     uint64_t taken;         /* bytes that were read */
     struct dump_head head;
-    uint8_t format;         /* that --format names */
+    struct version format;  /* that --format names */
     uint8_t *image;         /* NULL until the first point, or the end */
     size_t length;
     struct buffer name;
@@ -40,6 +41,9 @@ static int complain_of_line(struct load *l, const char *words)
 }
 
 /* ---- lines ---- */
+
+/* Bytes of a long line after which it is shown how far the work is. */
+enum { SHOWN_AFTER = 1 << 20 };
 
 static int end_of_stream(struct load *l)
 {
@@ -64,6 +68,8 @@ static int read_line(struct load *l, int *more)
             return complain_of_line(l, "the line is too long");
         if (buffer_put_byte(&l->line, (uint8_t)byte) != 0)
             return out_of_memory();
+        if (l->line.length % SHOWN_AFTER == 0)
+            progress_show(&l->progress, l->stored, l->taken + l->line.length);
     }
     l->number++;
     l->taken += l->line.length + 1;
@@ -106,9 +112,7 @@ static void use_options(struct load *l)
     const uint64_t room = room_of(&l->head), slots = l->head.slots;
 
     if (o->format != NULL) {
-        l->head.version[0] = 1;
-        l->head.version[1] = 0;
-        l->head.version[2] = l->format;
+        l->head.version = l->format;
     }
     if (o->given & OPTION_KEY_SIZE)
         l->head.key_size = o->key_size;
@@ -132,7 +136,7 @@ static void use_options(struct load *l)
 static int make_image(struct load *l)
 {
     const char *wrong;
-    uint32_t number;
+    int64_t number;
 
     use_options(l);
     wrong = dump_head_whole(&l->head);
@@ -145,7 +149,10 @@ static int make_image(struct load *l)
     if (l->image == NULL)
         return out_of_memory();
     number = dump_head_create(&l->head, l->image, l->length);
-    return number == BHTF_ACCEPTED ? DONE : refuse(l->o->word[0], number);
+    if (number < 0)
+        return out_of_memory();
+    return number == BHTF_ACCEPTED ? DONE
+                                   : refuse(l->o->word[0], (uint32_t)number);
 }
 
 /* ---- points ---- */
@@ -230,7 +237,7 @@ static int read_point(struct load *l)
     if (wrong != NULL)
         return complain_of_line(l, wrong);
     if (has_text && l->text.length == 0 && l->o->format != NULL &&
-        l->format < FORMAT_EMPTY)
+        !version_has_notes(l->format))
         return complain_of_line(l, "a file of the version that --format names "
                                    "has no empty text; a point without a text "
                                    "has a minus");
@@ -349,9 +356,8 @@ int run_load(const struct options *o)
         status = open_input(&l);
     if (status == DONE)
         status = read_dump(&l);
-    if (status == DONE && l.head.version[0] != 0)
-        say_version(o->word[0], (uint8_t)l.head.version[2],
-                    header_read(l.image).version[2]);
+    if (status == DONE && l.head.version.number[0] != 0)
+        say_version(o->word[0], l.head.version, version_of(l.image));
     if (status == DONE)
         status = write_file(&l);
     if (l.file != NULL && l.file != stdin)

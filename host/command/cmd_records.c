@@ -3,6 +3,7 @@
 #include "commands.h"
 
 #include "bhtf.h"
+#include "command_limits.h"
 #include "edit.h"
 #include "record_fields.h"
 
@@ -25,7 +26,7 @@ static int open_input(FILE **from, const struct options *o)
 
 static int read_raw(struct buffer *records, FILE *from)
 {
-    if (buffer_read(records, from, (size_t)BHTF_MESSAGE_MAX + 1) == 0)
+    if (buffer_read(records, from, (size_t)TEXT_MOST + 1) == 0)
         return DONE;
     complain("the records cannot be read: %s", strerror(errno));
     return TROUBLE;
@@ -47,7 +48,7 @@ static int put_line(struct buffer *records, const struct fields *f,
                      line->line, (unsigned long)i + 1);
             return TROUBLE;
         }
-    if (records->length > BHTF_MESSAGE_MAX) {
+    if (records->length > TEXT_MOST) {
         complain("line %lu: more records than a text can hold", line->line);
         return TROUBLE;
     }

@@ -182,8 +182,9 @@ static int print_figures(const struct buffer *copy, const char *file)
     say_duration(file, "stat", 2 * slots_displaced(copy->bytes, copy->length,
                                                    &h), 0);
     gather(&f, copy, &h);
-    printf("file: %lu bytes, key size %lu\n", (unsigned long)copy->length,
-           (unsigned long)h.key_size);
+    printf("file: %lu bytes, key size %lu, version %u.%u.%u\n",
+           (unsigned long)copy->length, (unsigned long)h.key_size,
+           h.version[0], h.version[1], h.version[2]);
     printf("load: %lu points in %lu slots, %.1f %%\n",
            (unsigned long)f.points, (unsigned long)h.slots,
            100.0 * f.points / h.slots);

@@ -4,13 +4,19 @@
 
 #include "bhtf.h"
 
+#include <stddef.h>
+
 /* What create makes unless told otherwise. */
 #define KEY_SIZE_USUAL 16u
 #define BYTES_A_SLOT 256u           /* of data, in a file of the usual size */
 
-/* The last number of the version of files from which on a text may be empty:
- * 1.0.2, which is also what create writes. */
-#define FORMAT_EMPTY 2u
+/* Bytes in the longest text that a file of any version takes. One byte more is
+ * read, so that the library can refuse it. */
+#define TEXT_MOST BHTF_MESSAGE_MAX_2
+
+/* No longer text is taken for easting,northing,height,note: a scan is not
+ * searched for commas. */
+#define FIELDS_TEXT_MOST BHTF_MESSAGE_MAX
 
 /* Waiting for locks, in seconds. */
 #define WAIT_USUAL 10u
@@ -23,7 +29,7 @@
 
 /* Bytes in the longest record of a CSV file, which may say a text twice, and
  * the fields of one that are kept. */
-#define RECORD_MAX (2u * BHTF_MESSAGE_MAX + 4096u)
+#define RECORD_MAX (UINT64_C(2) * TEXT_MOST + 4096)
 #define FIELDS_MAX 64u
 
 /* Points of a file with which new ones are compared. */
@@ -35,7 +41,7 @@
 /* The version of the text that dump writes and load reads, and the bytes in
  * its longest line: a name and a text of which each byte is escaped. */
 #define DUMP_VERSION 1u
-#define DUMP_LINE_MAX (4u * (BHTF_MESSAGE_MAX + BHTF_KEY_MAX) + 64u)
+#define DUMP_LINE_MAX (UINT64_C(4) * (TEXT_MOST + BHTF_KEY_MAX) + 64)
 
 /* Bytes of a file of another program, and of deltas, that are read at once. */
 #define FOREIGN_MOST (1u << 28)

@@ -2,9 +2,11 @@
 #include "commands.h"
 
 #include "csv.h"
+#include "file_version.h"
 #include "image_header.h"
 #include "command_limits.h"
 #include "terminal.h"
+#include "text_file.h"
 
 #include <string.h>
 #include <unistd.h>
@@ -39,6 +41,8 @@ const char *advice_for(uint32_t number)
 {
     if (number == BHTF_TABLE_FULL)
         return " (bhtf dump, and bhtf load with --slots, make a larger one)";
+    if (number == BHTF_TOO_LONG)
+        return " (bhtf convert makes a file of version 2.0.0)";
     if (number == BHTF_NO_ROOM)
         return " (bhtf dump, and bhtf load with --size, make a larger one)";
     return "";
@@ -73,19 +77,6 @@ int no_text(const struct options *o, const char *name)
     if (!o->quiet)
         complain("%s: %s: the point has no text", o->word[0], name);
     return REFUSED;
-}
-
-int format_read(const struct options *o, uint8_t *last)
-{
-    for (*last = 0; *last <= FORMAT_EMPTY; (*last)++) {
-        char version[8];
-
-        snprintf(version, sizeof version, "1.0.%u", *last);
-        if (strcmp(o->format, version) == 0)
-            return DONE;
-    }
-    complain("--format is 1.0.0, 1.0.1 or 1.0.2, and not %s", o->format);
-    return TROUBLE;
 }
 
 int leave_out(const char *file, const struct buffer *name, uint32_t number)
@@ -188,9 +179,9 @@ int run_create(const struct options *o)
                                                     : KEY_SIZE_USUAL;
     uint64_t size = o->given & OPTION_SIZE ? o->size
                                            : usual_size(key_size, o->slots);
+    struct version format;
     struct image i;
-    uint32_t number;
-    uint8_t format;
+    int64_t number;
 
     if (o->format != NULL && format_read(o, &format) != DONE)
         return TROUBLE;
@@ -201,13 +192,14 @@ int run_create(const struct options *o)
         return TROUBLE;
     number = bhtf_create(i.bytes, i.length, (uint32_t)key_size,
                          (uint32_t)o->slots, (uint32_t)o->seed);
-    if (number != BHTF_ACCEPTED) {
-        image_drop(&i);
-        return refuse_create(o->word[0], number, key_size, o->slots);
-    }
-    if (o->format != NULL)
-        write_version(i.bytes, format);
-    return image_close(&i) == 0 ? DONE : TROUBLE;
+    if (number == BHTF_ACCEPTED && o->format != NULL)
+        number = version_give(i.bytes, i.length, format);
+    if (number == BHTF_ACCEPTED)
+        return image_close(&i) == 0 ? DONE : TROUBLE;
+    image_drop(&i);
+    return number < 0 ? out_of_memory()
+                      : refuse_create(o->word[0], (uint32_t)number, key_size,
+                                      o->slots);
 }
 
 /* ---- get ---- */
@@ -234,8 +226,13 @@ int run_get(const struct options *o)
     uint32_t number, slots_read, key_size, offset, length;
     int status;
 
-    if (o->words > 2 || (o->given & (OPTION_TSV | OPTION_JSON)))
-        return get_several(o);
+    if (o->words > 2 || (o->given & (OPTION_TSV | OPTION_JSON))) {
+        if (o->text_file == NULL)
+            return get_several(o);
+        complain("get: --text-file goes with one point, and without --tsv and "
+                 "--json");
+        return TROUBLE;
+    }
     status = open_for_point(&i, &key, o, &key_size);
     if (status == DONE) {
         number = bhtf_lookup_slots(i.bytes, i.length, key.bytes, key.length,
@@ -247,8 +244,11 @@ int run_get(const struct options *o)
             status = refuse_point(o->word[0], o->word[1], number, key_size, 0);
         say_slots(o, o->word[1], slots_read);
     }
-    if (status == DONE)
-        status = offset == 0 ? no_text(o, o->word[1]) : print_text(&text, o);
+    if (status == DONE && offset == 0)
+        status = no_text(o, o->word[1]);
+    else if (status == DONE)
+        status = o->text_file == NULL ? print_text(&text, o)
+                                      : text_write(&text, o);
     buffer_free(&text);
     buffer_free(&key);
     return status;

@@ -71,6 +71,7 @@
 #define OPTION_FINISH OPTION(56)
 #define OPTION_SET_ASIDE OPTION(57)
 #define OPTION_SPREADSHEET OPTION(58)
+#define OPTION_TEXT_FILE OPTION(59)
 
 /* Forms of rows, of which one at most is given. */
 #define OPTION_FORMS (OPTION_TSV | OPTION_JSON | OPTION_CSV)
@@ -115,6 +116,7 @@ struct options {
     const char *delta;
     const char *encoding;
     const char *drop;
+    const char *text_file;
     int quiet;
     int help;
     int version;
@@ -184,6 +186,7 @@ int run_scramble(const struct options *o);
 int run_take_out(const struct options *o);
 int run_sum(const struct options *o);
 int run_copy(const struct options *o);
+int run_convert(const struct options *o);
 int run_show(const struct options *o);
 
 /* ---- shared by them ---- */
@@ -228,10 +231,6 @@ int leave_out(const char *file, const struct buffer *name, uint32_t number);
 
 /* Says that a point has no text; answers REFUSED. */
 int no_text(const struct options *o, const char *name);
-
-/* The last number of the version that --format names: DONE, or TROUBLE after a
- * complaint. */
-int format_read(const struct options *o, uint8_t *last);
 
 /* get for several points, or in another form. */
 int get_several(const struct options *o);

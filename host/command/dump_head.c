@@ -10,7 +10,6 @@
 
 /* Places in the header. */
 enum {
-    VERSION_AT = 5,
     SERIAL_AT = 8,
     MULTIPLIER_AT = 24,
     START_AT = 28,
@@ -57,8 +56,7 @@ void dump_head_read(struct dump_head *t, const uint8_t *image, size_t length)
     const struct header h = header_read(image);
 
     dump_head_clear(t);
-    for (int i = 0; i < 3; i++)
-        t->version[i] = image[VERSION_AT + i];
+    t->version = version_of(image);
     t->size = length;
     t->key_size = h.key_size;
     t->slots = h.slots;
@@ -135,9 +133,8 @@ int dump_head_put(const struct dump_head *t, struct buffer *to)
     char line[64];
     int done;
 
-    snprintf(line, sizeof line, "version %lu.%lu.%lu\n",
-             (unsigned long)t->version[0], (unsigned long)t->version[1],
-             (unsigned long)t->version[2]);
+    snprintf(line, sizeof line, "version %u.%u.%u\n", t->version.number[0],
+             t->version.number[1], t->version.number[2]);
     done = buffer_put(to, line, strlen(line));
     for (size_t i = 0; i < ROWS; i++) {
         const struct row *r = &rows[i];
@@ -173,9 +170,9 @@ static const char *take_version(struct dump_head *t, const char *numbers)
         sscanf(numbers, "%3u.%3u.%3u%c", &a, &b, &c, &end) != 3 || a > 255 ||
         b > 255 || c > 255)
         return "a version is three numbers with points between them";
-    t->version[0] = a;
-    t->version[1] = b;
-    t->version[2] = c;
+    t->version.number[0] = (uint8_t)a;
+    t->version.number[1] = (uint8_t)b;
+    t->version.number[2] = (uint8_t)c;
     return NULL;
 }
 
@@ -272,8 +269,8 @@ static void write_scramble(const struct dump_head *t, uint8_t *image)
         write_u32(image + SCRAMBLE_AT + 4 * i, t->scramble[i]);
 }
 
-uint32_t dump_head_create(const struct dump_head *t, uint8_t *image,
-                          size_t length)
+int64_t dump_head_create(const struct dump_head *t, uint8_t *image,
+                         size_t length)
 {
     uint32_t number = bhtf_create(image, length, (uint32_t)t->key_size,
                                   (uint32_t)t->slots, (uint32_t)t->seed);
@@ -282,9 +279,8 @@ uint32_t dump_head_create(const struct dump_head *t, uint8_t *image,
     if (number != BHTF_ACCEPTED)
         return number;
     write_u32(image + SERIAL_AT, (uint32_t)t->serial);
-    for (int i = 0; i < 3 && t->version[0] != 0; i++)
-        image[VERSION_AT + i] = (uint8_t)t->version[i];
     if (!t->seeded)
         write_scramble(t, image);
-    return bhtf_count(image, length, &count);
+    return t->version.number[0] != 0 ? version_give(image, length, t->version)
+                                     : bhtf_count(image, length, &count);
 }

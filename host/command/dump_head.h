@@ -4,12 +4,13 @@
 #define DUMP_HEAD_H
 
 #include "buffer.h"
+#include "file_version.h"
 
 enum { SCRAMBLES_MAX = 256 };
 
 struct dump_head {
     unsigned said;         /* which lines were taken, as bits */
-    uint32_t version[3];
+    struct version version; /* 0: not said */
     uint64_t size;         /* of the file; 0: not said */
     uint64_t key_size;     /* 0: not said */
     uint64_t slots;
@@ -40,8 +41,9 @@ const char *dump_head_take(struct dump_head *t, const char *line);
 /* NULL if its lines go together, or what is wrong. */
 const char *dump_head_whole(const struct dump_head *t);
 
-/* Makes an empty file of the whole image: the library's number. */
-uint32_t dump_head_create(const struct dump_head *t, uint8_t *image,
-                          size_t length);
+/* Makes an empty file of the whole image: the library's number, or -1 for no
+ * memory. */
+int64_t dump_head_create(const struct dump_head *t, uint8_t *image,
+                         size_t length);
 
 #endif

@@ -9,10 +9,9 @@
 #include "epoch.h"
 #include "image_header.h"
 #include "long_work.h"
-#include "progress.h"
+#include "text_file.h"
 #include "utf8.h"
 
-#include <errno.h>
 #include <string.h>
 
 /* ---- the file ---- */
@@ -35,7 +34,7 @@ int edit_open(struct edit *e, const struct options *o)
     if (status != DONE)
         image_drop(&e->image);
     else
-        e->version = header_read(e->image.bytes).version[2];
+        e->version = version_of(e->image.bytes);
     return status;
 }
 
@@ -63,7 +62,7 @@ static int judge_all(struct edit *e)
 
 int edit_close(struct edit *e, int status)
 {
-    uint8_t now = header_read(e->image.bytes).version[2];
+    struct version now = version_of(e->image.bytes);
 
     if (status == DONE)
         status = judge_all(e);
@@ -253,31 +252,33 @@ static int text_of_fields(struct edit *e, struct buffer *text,
     return put_fields(e, "add", text, fields, o);
 }
 
-/* Does add take its text from standard input? */
+/* Does add take its text from standard input, or a file? */
 static int from_input(const struct options *o)
 {
     return o->words == 2 && (o->given & (by_fields | OPTION_NO_TEXT)) == 0;
 }
 
-/* Standard input, up to one byte more than any message may have. */
-static int read_typed(struct buffer *text, const struct options *o)
+/* What of --text-file cannot be together. */
+static int ask_text_file(const struct options *o)
 {
-    tell_waiting(o->word[0], "the point's text", o->quiet);
-    if (buffer_read(text, stdin, (size_t)BHTF_MESSAGE_MAX + 1) == 0)
+    if (o->text_file == NULL || from_input(o))
         return DONE;
-    complain("standard input: cannot be read: %s", strerror(errno));
+    complain("add: --text-file gives the whole text; leave out TEXT, the "
+             "fields and --no-text");
     return TROUBLE;
 }
 
-/* What was read of it before the file was opened. */
-static int text_of_input(const struct edit *e, struct buffer *text)
+/* A file's text may be read at any time, one from standard input before the
+ * file is opened. What was read then stays where it is. */
+static int text_of_input(const struct edit *e, struct buffer *text,
+                         const struct options *o)
 {
-    if (e->typed == NULL) {
-        complain("%s: add needs a text, or --no-text", e->place);
-        return TROUBLE;
-    }
-    return buffer_put(text, e->typed->bytes, e->typed->length) == 0
-        ? DONE : out_of_memory();
+    if (e->typed != NULL)
+        return DONE;
+    if (o->text_file != NULL && strcmp(o->text_file, "-") != 0)
+        return text_read(text, o);
+    complain("%s: add needs a text, or --no-text", e->place);
+    return TROUBLE;
 }
 
 static int read_text(struct edit *e, struct buffer *text,
@@ -286,7 +287,7 @@ static int read_text(struct edit *e, struct buffer *text,
     if (o->given & by_fields)
         return text_of_fields(e, text, o);
     if (from_input(o))
-        return text_of_input(e, text);
+        return text_of_input(e, text, o);
     return buffer_put(text, o->word[2], strlen(o->word[2])) == 0
         ? DONE : out_of_memory();
 }
@@ -341,8 +342,11 @@ int edit_add(struct edit *e, const struct options *o)
 {
     struct buffer bytes = { NULL, 0, 0 };
     struct piece text = { (const uint8_t *)"", 0 };
+    const struct buffer *from;
     int status;
 
+    if (ask_text_file(o) != DONE)
+        return TROUBLE;
     if (o->given & OPTION_NO_TEXT) {
         if (o->words == 2 && (o->given & (by_fields | OPTION_APPEND)) == 0)
             return add_text(e, o, NULL);
@@ -350,9 +354,10 @@ int edit_add(struct edit *e, const struct options *o)
         return TROUBLE;
     }
     status = read_text(e, &bytes, o);
-    if (bytes.length > 0)
-        text.bytes = bytes.bytes;
-    text.length = bytes.length;
+    from = from_input(o) && e->typed != NULL ? e->typed : &bytes;
+    if (from->length > 0)
+        text.bytes = from->bytes;
+    text.length = from->length;
     if (status == DONE)
         status = add_text(e, o, &text);
     buffer_free(&bytes);
@@ -534,9 +539,11 @@ int edit_rename(struct edit *e, const struct options *o)
 int run_add(const struct options *o)
 {
     struct buffer typed = { NULL, 0, 0 };
-    int status = from_input(o) ? read_typed(&typed, o) : DONE;
+    int status = ask_text_file(o);
     struct edit e;
 
+    if (status == DONE && from_input(o))
+        status = text_read(&typed, o);
     if (status == DONE)
         status = edit_open(&e, o);
     if (status == DONE) {

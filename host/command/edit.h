@@ -4,6 +4,7 @@
 
 #include "commands.h"
 #include "delta_append.h"
+#include "file_version.h"
 #include "judge.h"
 #include "put_point.h"
 
@@ -15,7 +16,7 @@ struct edit {
     struct image image;
     struct delta_append append;
     uint32_t key_size;
-    uint8_t version;           /* of the file before, its last number */
+    struct version version;    /* of the file before */
     struct neighbours neighbours; /* before the first place was changed */
     int looked;                /* they are known */
     struct movers movers;

@@ -71,21 +71,27 @@ static const struct command commands[] = {
       "                     {image}, also as 64K or 16M; unless given, the\n"
       "                     table and {slot_bytes} bytes a slot\n"
       "      --format V     1.0.2 unless given; 1.0.1 for a station that refuses\n"
-      "                     1.0.2 (5), until an empty text is stored\n"
+      "                     1.0.2 (5), until an empty text is stored; 2.0.0 for\n"
+      "                     texts above {text} bytes\n"
       LOG NO_SYNC },
     { "add", OPTION_REPLACE | OPTION_APPEND | OPTION_EASTING |
              OPTION_NORTHING | OPTION_HEIGHT | OPTION_NOTE |
              OPTION_NO_TEXT | OPTION_SLOTS_READ | OPTION_DELTA |
-             OPTION_EPOCH | OPTION_EPOCH_UNIT | OPTION_DROP | OPTION_ALLOWED | OPTION_LOG | OPTION_NO_SYNC, 2, 3,
+             OPTION_EPOCH | OPTION_EPOCH_UNIT | OPTION_DROP | OPTION_ALLOWED |
+             OPTION_LOG | OPTION_NO_SYNC | OPTION_TEXT_FILE, 2, 3,
       run_add,
       "bhtf add FILE NAME [TEXT] [--replace | --append] [--slots] ..\n"
       "bhtf add FILE NAME --easting E --northing N [--height H] [--note TEXT]\n"
+      "bhtf add FILE NAME --text-file SCAN\n"
       "bhtf add FILE NAME --no-text\n"
       "Stores a point with a text: TEXT, or all of standard input, or one of\n"
       "  -E, --easting E    a number, with a decimal point\n"
       "  -N, --northing N\n"
       "  -H, --height H\n"
       "  -t, --note TEXT    whatever is to be said of the point\n"
+      "      --text-file F  all bytes of that file; of standard input if it is -\n"
+      "A text has up to {text} bytes, in a file of version 2.0.0 up to "
+      "{text_2}.\n"
       "An empty text is a text, as for a point that was visited; a file with "
       "one is\n"
       "of version 1.0.2, which stations that know only 1.0.1 refuse (5).\n"
@@ -150,14 +156,16 @@ static const struct command commands[] = {
       "environment.\n"
       "  -q, --quiet        print no entries; only say whether it is whole\n"
       WAITING NAMES },
-    { "get", OPTION_TSV | OPTION_JSON | OPTION_SLOTS_READ, 2, ANY_NUMBER,
-      run_get,
+    { "get", OPTION_TSV | OPTION_JSON | OPTION_SLOTS_READ | OPTION_TEXT_FILE,
+      2, ANY_NUMBER, run_get,
       "bhtf get FILE NAME.. [--tsv | --json] [--slots]\n"
+      "bhtf get FILE NAME --text-file SCAN\n"
       "Prints a point's text, byte for byte. Of several points, each on a "
       "line\n"
       "behind its name and a tab. Status 1 if one is not there, or has no "
       "text;\n"
       "an empty text is printed as one.\n"
+      "      --text-file F  make a new file F of the text\n"
       "      --tsv          fields with tabs between them, as list prints them\n"
       "      --json         an object a line, as list prints them\n"
       SLOTS_READ
@@ -390,7 +398,8 @@ static const struct command commands[] = {
       "  -S, --size BYTES   length of the file\n"
       "      --format V     its version; 1.0.1 for a station that refuses 1.0.2 "
       "(5).\n"
-      "                     An empty text then has no place\n"
+      "                     An empty text then has no place. 2.0.0 for texts\n"
+      "                     above {text} bytes\n"
       LOG NO_SYNC QUIET },
     { "delta", 0, 2, 2, run_delta,
       "bhtf delta OLD NEW > CHANGES\n"
@@ -471,6 +480,21 @@ static const struct command commands[] = {
       "says its\n"
       "sum. An existing file is never overwritten.\n"
       NO_SYNC QUIET WAITING },
+    { "convert", OPTION_SIZE | OPTION_LOG | OPTION_NO_SYNC, 2, 2, run_convert,
+      "bhtf convert FILE NEW [--size BYTES]\n"
+      "Makes NEW of FILE in the other version: 2.0.0, in which texts may have up "
+      "to\n"
+      "{text_2} bytes, of one of 1.0.0 to 1.0.2, or 1.0.2, with up to {text}, "
+      "of\n"
+      "one of 2.0.0. Points, texts and slots are the same, without dead bytes. "
+      "FILE\n"
+      "stays, an existing file is never overwritten, and a file that is not "
+      "sound is\n"
+      "refused. Stations with an older library refuse a file of 2.0.0 (5).\n"
+      "  -S, --size BYTES   length of NEW; unless given, that of FILE, or more "
+      "if\n"
+      "                     the points need it\n"
+      LOG NO_SYNC QUIET WAITING },
     { "show", 0, 1, 2, run_show,
       "bhtf show CHANGES [COPY]\n"
       "Says what a delta is: its records, with the sums of the files that they "
@@ -510,7 +534,9 @@ static const char *print_limit(const char *at, FILE *to)
         { "{page}", BHTF_PAGE },
         { "{image}", BHTF_IMAGE_MAX },
         { "{slot_bytes}", BYTES_A_SLOT },
-        { "{wait}", WAIT_USUAL }
+        { "{wait}", WAIT_USUAL },
+        { "{text}", BHTF_MESSAGE_MAX },
+        { "{text_2}", BHTF_MESSAGE_MAX_2 }
     };
 
     for (size_t i = 0; i < sizeof all / sizeof all[0]; i++)
@@ -569,6 +595,7 @@ void help_print(FILE *to)
           "  bhtf apply COPY             bring a copy up to date with that\n"
           "  bhtf show CHANGES [COPY]    say what that changes\n"
           "  bhtf copy FILE NEW          make a copy with the same bytes\n"
+          "  bhtf convert FILE NEW       make one of the other version\n"
           "  bhtf sum FILE..             print a short sum to compare by voice\n"
           "  bhtf recover FILE           look at a journal that stops commands\n"
           "  bhtf diff OLD NEW           say what became of the points\n"

@@ -25,6 +25,8 @@ struct header header_read(const uint8_t *image)
     struct header h;
 
     memcpy(h.version, image + VERSION_AT, sizeof h.version);
+    h.message_header = h.version[0] == 2 ? BHTF_MESSAGE_HEADER_2
+                                         : BHTF_MESSAGE_HEADER;
     h.key_size = read_u32(image + 12);
     h.slots = read_u32(image + 16);
     h.count = read_u32(image + 20);
@@ -35,11 +37,6 @@ struct header header_read(const uint8_t *image)
     h.data = read_u32(image + 48);
     h.next = read_u32(image + 52);
     return h;
-}
-
-void write_version(uint8_t *image, uint8_t last)
-{
-    image[VERSION_AT + 2] = last;
 }
 
 uint32_t slot_offset(const struct header *h, uint32_t slot)
@@ -53,6 +50,15 @@ uint32_t slot_message(const uint8_t *image, const struct header *h,
     return read_u32(image + slot_offset(h, slot) + h->key_size);
 }
 
+/* A letter, and the length in the rest of the header. */
+static uint32_t length_at(const uint8_t *image, const struct header *h,
+                          uint32_t offset)
+{
+    uint32_t last = read_u32(image + offset + h->message_header - 4);
+
+    return h->message_header == BHTF_MESSAGE_HEADER ? last & 0xFFFFFFu : last;
+}
+
 int slot_stretch(const uint8_t *image, const struct header *h, uint32_t slot,
                  struct stretch *s)
 {
@@ -63,14 +69,14 @@ int slot_stretch(const uint8_t *image, const struct header *h, uint32_t slot,
     if (offset == 0)
         return 1;
     if (offset < h->data || offset >= h->next ||
-        h->next - offset < BHTF_MESSAGE_HEADER)
+        h->next - offset < h->message_header)
         return 0;
-    length = read_u32(image + offset) & 0xFFFFFFu;
+    length = length_at(image, h, offset);
     if ((image[offset] != 'a' && image[offset] != 'd') ||
-        length > h->next - offset - BHTF_MESSAGE_HEADER)
+        length > h->next - offset - h->message_header)
         return 0;
     s->start = offset;
-    s->end = offset + BHTF_MESSAGE_HEADER + length;
+    s->end = offset + h->message_header + length;
     return 1;
 }
 

@@ -6,6 +6,7 @@
 
 struct header {
     uint8_t version[3];
+    uint32_t message_header; /* bytes of a message before its text */
     uint32_t key_size;
     uint32_t slots;
     uint32_t count;
@@ -26,9 +27,6 @@ uint32_t slot_offset(const struct header *h, uint32_t slot);
 /* The number of a slot's message offset; 0 for no message. */
 uint32_t slot_message(const uint8_t *image, const struct header *h,
                       uint32_t slot);
-
-/* Writes the last of a version's three numbers. */
-void write_version(uint8_t *image, uint8_t last);
 
 /* A message from its header to its end; no bytes, from 0 to 0, if none. */
 struct stretch {

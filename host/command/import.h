@@ -4,6 +4,7 @@
 
 #include "csv_columns.h"
 #include "delta_append.h"
+#include "file_version.h"
 #include "foreign.h"
 #include "judge.h"
 #include "progress.h"
@@ -65,7 +66,7 @@ struct import {
     struct buffer merged;    /* a text with what is given in its place */
     struct buffer place;     /* words: input and line */
     uint32_t key_size;
-    uint8_t version;         /* of the file, its last number */
+    struct version version;  /* of the file */
     struct neighbours neighbours;
     struct movers movers;
     struct outcomes outcomes;

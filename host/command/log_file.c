@@ -42,7 +42,7 @@ int log_open(struct log_reader *r, const char *path)
         complain("%s: cannot open: %s", path, strerror(errno));
         return -1;
     }
-    done = buffer_read(&r->bytes, file, (size_t)1 << 30);
+    done = buffer_read(&r->bytes, file, SIZE_MAX / 2);
     if (done != 0)
         complain("%s: cannot be read: %s", path, strerror(errno));
     fclose(file);

@@ -11,7 +11,7 @@
 
 static int print_version(void)
 {
-    puts("bhtf " VERSION ", file format 1.0.2");
+    puts("bhtf " VERSION ", file format 1.0.2 and 2.0.0");
     return finish_output(DONE);
 }
 

@@ -79,6 +79,7 @@ static const struct row all[] = {
     { 0, "--to", OPTION_TO, TEXT, AT(to), 0, 0 },
     { 0, "--alpha", OPTION_ALPHA, TEXT, AT(alpha), 0, 0 },
     { 0, "--spreadsheet", OPTION_SPREADSHEET, PLAIN, 0, 0, 0 },
+    { 0, "--text-file", OPTION_TEXT_FILE, TEXT, AT(text_file), 0, 0 },
     { 0, "--finish", OPTION_FINISH, PLAIN, 0, 0, 0 },
     { 0, "--set-aside", OPTION_SET_ASIDE, PLAIN, 0, 0, 0 },
     { 'w', "--wait", 0, NUMBER, AT(wait), 0, WAIT_MAX },

@@ -1,6 +1,7 @@
 /* A point's text: easting,northing,height,note, as a record of CSV. */
 #include "point.h"
 
+#include "command_limits.h"
 #include "complain.h"
 
 #include <stdlib.h>
@@ -116,6 +117,8 @@ int point_take(struct record *r, struct piece text,
 {
     struct csv c;
 
+    if (text.length > FIELDS_TEXT_MOST)
+        return 0;
     csv_from_bytes(&c, text.bytes, text.length);
     if (csv_read(&c, r) != CSV_RECORD || r->fields != POINT_FIELDS ||
         c.at != c.end)

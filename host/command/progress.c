@@ -34,20 +34,31 @@ static double time_left(const struct progress *p, double time, uint64_t part)
     return (time - p->began) * (double)(p->whole - part) / (double)part;
 }
 
-void progress_show(struct progress *p, unsigned long points, uint64_t part)
+static void show(struct progress *p, unsigned long done, const char *unit,
+                 uint64_t part)
 {
     double time = p->on ? now() : 0;
 
     if (!p->on || time - p->began < 0.5 || time - p->shown < 0.1)
         return;
     p->shown = time;
-    fprintf(stderr, "\rbhtf: %lu points %s", points, p->what);
+    fprintf(stderr, "\rbhtf: %lu %s %s", done, unit, p->what);
     if (part > 0 && part <= p->whole)
         fprintf(stderr, ", %.0f %%, %.0f s left",
                 100.0 * (double)part / (double)p->whole,
                 time_left(p, time, part));
     fputs("\033[K", stderr);
     fflush(stderr);
+}
+
+void progress_show(struct progress *p, unsigned long points, uint64_t part)
+{
+    show(p, points, "points", part);
+}
+
+void progress_show_bytes(struct progress *p, uint64_t part)
+{
+    show(p, (unsigned long)(part >> 20), "MiB", part);
 }
 
 void progress_end(struct progress *p)

@@ -22,6 +22,9 @@ void progress_begin(struct progress *p, const char *what, uint64_t whole,
  * points done, the share of the whole, and the time that is left. */
 void progress_show(struct progress *p, unsigned long points, uint64_t part);
 
+/* The same of bytes. */
+void progress_show_bytes(struct progress *p, uint64_t part);
+
 /* Takes the line away. */
 void progress_end(struct progress *p);
 

@@ -66,7 +66,7 @@ static uint64_t space_for(struct target to, const struct buffer *key,
     if (mode == BHTF_APPEND)
         bhtf_lookup(to.image, to.length, key->bytes, key->length, &offset,
                     &kept);
-    return BHTF_MESSAGE_HEADER + (uint64_t)kept +
+    return bhtf_message_header(to.image, to.length) + (uint64_t)kept +
            (text == NULL ? 0 : text->length);
 }
 
@@ -89,12 +89,4 @@ uint64_t room_by_compaction(struct target to, const struct buffer *key,
     dead = space_measure(&view, &h).dead;
     return to.length - h.next + dead >= space_for(to, key, text, mode)
         ? dead : 0;
-}
-
-void say_version(const char *file, uint8_t before, uint8_t now)
-{
-    if (now != before)
-        complain("%s: warning: with an empty text the file is of version "
-                 "1.0.%u; a station that knows 1.0.%u and no later one refuses "
-                 "it (5)", file, now, before);
 }

@@ -23,9 +23,4 @@ uint32_t store(struct target to, const struct buffer *key,
 uint64_t room_by_compaction(struct target to, const struct buffer *key,
                             const struct piece *text, uint32_t mode);
 
-/* Says that an empty text took a file to another version than it had, if one
- * did: those who do not know that one refuse the file. Of both, the last
- * number. */
-void say_version(const char *file, uint8_t before, uint8_t now);
-
 #endif

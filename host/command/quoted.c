@@ -6,6 +6,9 @@
 
 #include <string.h>
 
+/* Bytes that are printed at once. */
+enum { PART = 1 << 16 };
+
 /* Letters behind a backslash, and what each stands for. */
 static const char letters[] = "\"\\nrt";
 static const char meanings[] = "\"\\\n\r\t";
@@ -34,6 +37,27 @@ int quoted_put(struct buffer *to, const uint8_t *bytes, size_t length)
         i += step == 0 ? 1 : step;
     }
     return done | buffer_put_byte(to, '"');
+}
+
+int quoted_print(FILE *to, const uint8_t *bytes, size_t length)
+{
+    struct buffer part = { NULL, 0, 0 };
+    int done = 0;
+
+    putc('"', to);
+    for (size_t i = 0; i < length && done == 0;) {
+        size_t step = utf8_prints(bytes + i, length - i);
+
+        done = put_one(&part, bytes + i, step);
+        i += step == 0 ? 1 : step;
+        if (part.length >= PART || i >= length) {
+            fwrite(part.bytes, 1, part.length, to);
+            part.length = 0;
+        }
+    }
+    putc('"', to);
+    buffer_free(&part);
+    return done;
 }
 
 int quoted_put_name(struct buffer *to, const uint8_t *key, size_t length)

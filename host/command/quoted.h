@@ -8,6 +8,9 @@
 /* 0, or -1 for no memory. */
 int quoted_put(struct buffer *to, const uint8_t *bytes, size_t length);
 
+/* The same to a stream, part by part: a text may be as long as a file. */
+int quoted_print(FILE *to, const uint8_t *bytes, size_t length);
+
 /* A name without the zero bytes that pad it: 0, or -1 for no memory. */
 int quoted_put_name(struct buffer *to, const uint8_t *key, size_t length);
 

@@ -15,7 +15,7 @@ static void note_message(struct space *s, const uint8_t *image,
     } else if (m.end > 0 && image[m.start] == 'a') {
         s->active += m.end - m.start;
         s->texts++;
-        s->empty += m.end - m.start == BHTF_MESSAGE_HEADER;
+        s->empty += m.end - m.start == h->message_header;
     } else {
         s->withdrawn += m.end - m.start;
         s->bare++;

@@ -48,10 +48,10 @@ _bhtf() {
       --drop) words=(easting,northing height note text) ;;
       --decimal) words=(comma point) ;;
       --by | -b) words=(name slot) ;;
-      --format) words=(1.0.2 1.0.1 1.0.0) ;;
+      --format) words=(1.0.2 1.0.1 1.0.0 2.0.0) ;;
       --epoch-unit) words=(day week) ;;
       --paper | -p) words=(A4 A3 A2 A1 A0) ;;
-      --delta) compopt -o default 2>/dev/null ;;
+      --delta | --text-file) compopt -o default 2>/dev/null ;;
       *)
         if { [ "$place" -eq 3 ] && [[ $command =~ ^(delete|withdraw|add|set|rename|log)$ ]]; } ||
           { [ "$place" -gt 2 ] && [[ $command =~ ^(get|figure|list|delete|export|plot)$ ]]; }; then

@@ -38,8 +38,12 @@ extern "C" {
 #define BHTF_KEY_MAX 32u            /* bytes in the longest key */
 #define BHTF_SLOTS_MAX 1048576u     /* slots in the largest table */
 #define BHTF_SLOTS_DEFAULT 5507u    /* what create makes of 0 slots */
-#define BHTF_MESSAGE_MAX 16777215u  /* bytes in the longest message */
-#define BHTF_MESSAGE_HEADER 4u      /* bytes that a message takes besides */
+#define BHTF_MESSAGE_MAX 16777215u  /* bytes in the longest message, */
+#define BHTF_MESSAGE_HEADER 4u      /* and that a message takes besides, in
+                                       files of version 1: bhtf_message_max and
+                                       bhtf_message_header ask the file */
+#define BHTF_MESSAGE_MAX_2 1073741823u /* the same in files of version 2.0.0, */
+#define BHTF_MESSAGE_HEADER_2 5u       /* which bhtf_convert makes */
 #define BHTF_PAIR 8u                /* bytes that a pair takes in a list */
 #define BHTF_WIDTH_MAX 64u          /* bytes in the widest record */
 #define BHTF_SLOT_NUMBER 4u         /* bytes that a slot takes in a list */
@@ -61,7 +65,8 @@ extern "C" {
 #define BHTF_BAD_KEY_SIZE 2u   /* create: key size not from 1 to 32 */
 #define BHTF_BAD_SLOTS 3u      /* create: more than BHTF_SLOTS_MAX slots */
 #define BHTF_TABLE_TOO_BIG 4u  /* create: the table does not fit */
-#define BHTF_BAD_VERSION 5u    /* no such file, or a version above 1.0.2 */
+#define BHTF_BAD_VERSION 5u    /* no such file, or a version other than 1.0.0 to
+                                  1.0.2 and 2.0.0 */
 #define BHTF_BAD_HEADER 6u     /* the header's numbers do not fit */
 #define BHTF_BAD_KEY 7u        /* key not of the key size, or all zero */
 #define BHTF_BAD_MODE 8u       /* mode not from 1 to 4 */
@@ -69,11 +74,13 @@ extern "C" {
 #define BHTF_TABLE_FULL 10u    /* no slot for another key */
 #define BHTF_DAMAGED 11u       /* the key's message, or the count, is damaged;
                                   a length of 0 is no damage */
-#define BHTF_TOO_LONG 12u      /* message above BHTF_MESSAGE_MAX bytes */
-#define BHTF_NO_ROOM 13u       /* no space left in the image for the message */
+#define BHTF_TOO_LONG 12u      /* message above bhtf_message_max bytes */
+#define BHTF_NO_ROOM 13u       /* no space left in the image for the message;
+                                  convert: in the target, for all of them */
 #define BHTF_ABSENT 14u        /* the key is not there: lookup, delete, and add
                                   in mode 4, where it is asked after 8 */
-#define BHTF_UNSOUND 15u       /* compact: bhtf_check does not say sound */
+#define BHTF_UNSOUND 15u       /* compact, convert: bhtf_check does not say
+                                  sound */
 #define BHTF_SHORT_SLICE 16u   /* list shorter than BHTF_PAIR, or working slice
                                   than the image; asked before 1. Select: list
                                   too short for all slots; asked last */
@@ -84,6 +91,8 @@ extern "C" {
 #define BHTF_BAD_RECORDS 19u   /* records: width not from 1 to
                                   BHTF_WIDTH_MAX, bytes not a multiple of it,
                                   or slice too short */
+#define BHTF_TOO_LONG_FOR_1 20u /* convert to 1.0.2: a message above
+                                  BHTF_MESSAGE_MAX bytes */
 #define BHTF_BAD_RANGES 22u    /* select: not as many ranges as a key has bytes,
                                   or a lowest byte above its highest */
 #define BHTF_NO_EPOCHS 23u     /* at epoch: the file's keys have fewer than 5
@@ -117,11 +126,12 @@ uint32_t bhtf_create(uint8_t *image, size_t image_len, uint32_t key_size,
  *   BHTF_WITHDRAW  makes the message none and keeps the key, and the space for
  *                  a later BHTF_REPLACE; ignores data; refused with 14 where
  *                  the key is not there.
- * An empty message in new space takes BHTF_MESSAGE_HEADER bytes, so that 13
+ * An empty message in new space takes bhtf_message_header bytes, so that 13
  * can refuse it. Space once taken is not handed out again, but for
  * BHTF_REPLACE's, before bhtf_compact.
  * Versions: the first empty message stored makes a file of version 1.0.0 or
- * 1.0.1 one of 1.0.2; no other call after create changes the version.
+ * 1.0.1 one of 1.0.2; no other call after create changes the version, and
+ * none that of a file of 2.0.0.
  * Libraries before this one know no empty message and refuse a file of 1.0.2,
  * with every call, with 5. So renew the stations' library first; until all
  * have it, send them files that an earlier library created, and store no empty
@@ -247,6 +257,37 @@ uint32_t bhtf_check(const uint8_t *image, size_t image_len,
  * Stack: up to 1,344 KiB (1,376,256 bytes), which a small thread may not
  * have. */
 uint32_t bhtf_compact(uint8_t *image, size_t image_len);
+
+/* ---- files of version 2.0.0 ----
+ *
+ * They are as those of version 1, but for the messages: these may have up to
+ * BHTF_MESSAGE_MAX_2 bytes, and take BHTF_MESSAGE_HEADER_2 bytes besides. All
+ * calls take both. Libraries before this one refuse a file of 2.0.0, with every
+ * call, with 5: renew the stations' library before they get one. */
+
+/* Makes of a sound image one of the other version in a second slice: of 1.0.0,
+ * 1.0.1 or 1.0.2 one of 2.0.0, which no other call makes, and of 2.0.0 one of
+ * 1.0.2. All of the target is written. Keys, their slots and their messages are
+ * the same; the messages stand as bhtf_compact leaves them, and every byte that
+ * has no meaning is 0. The two lengths need not be equal.
+ * The slices must not overlap. The source stays as it is.
+ * Refused with 1 for the source or the target (the number does not say which
+ * of them), then for the source with 5 and 6, with 15 where bhtf_check does not
+ * say sound, with 20 where the target would be of 1.0.2 and a key has a message
+ * that is longer than BHTF_MESSAGE_MAX bytes; and with 13 where the messages do
+ * not fit into the target: it needs the source's data offset (the number at
+ * offset 48) and the length of each message with its header. Refused, it leaves
+ * the target as it was.
+ * Time: a check, some passes over the slots, about one more for every 131,072
+ * texts, and the bytes that are written. Stack: up to 1,344 KiB (1,376,256
+ * bytes), which a small thread may not have. */
+uint32_t bhtf_convert(const uint8_t *source, size_t source_length,
+                      uint8_t *target, size_t target_length);
+
+/* The bytes in the longest message that the image's version allows, and those
+ * that a message takes besides; 0 where bhtf_count would refuse the image. */
+uint32_t bhtf_message_max(const uint8_t *image, size_t image_len);
+uint32_t bhtf_message_header(const uint8_t *image, size_t image_len);
 
 /* ---- what a call changed ----
  *

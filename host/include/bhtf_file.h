@@ -95,6 +95,17 @@ uint8_t *bhtf_file_new_image(bhtf_file_new *made);
 uint32_t bhtf_file_new_end(bhtf_file_new *made);
 void bhtf_file_new_drop(bhtf_file_new *made);
 
+/* Makes a new file of an open one's image, of the other version, as
+ * bhtf_convert does: 2.0.0 of one of 1.0.0 to 1.0.2, and 1.0.2 of one of 2.0.0.
+ * The open file stays as it is. image_len is the new file's length; 0 is that
+ * of the open one, or, where the messages do not fit into that, the least that
+ * holds them. The name is there when all of the file is on the disk, and not
+ * before; BHTF_FILE_NO_SYNC counts as at opening. Answers as bhtf_convert and
+ * bhtf_file_create do. A writer's image shows its own changes, those of a batch
+ * too. */
+uint32_t bhtf_file_convert(bhtf_file *file, const char *path,
+                           size_t image_len);
+
 /* Other milliseconds than those of opening, for all locks of each call that
  * follows. The words of BHTF_FILE_LOCKED go on telling those of opening. */
 void bhtf_file_set_wait(bhtf_file *file, uint32_t wait);

@@ -103,6 +103,7 @@ _image = _declare("bhtf_file_image", ctypes.c_void_p, _file,
 _add = _declare("bhtf_file_add", _u32, _file, _bytes, _size, _bytes, _size,
                 _u32)
 _delete = _declare("bhtf_file_delete", _u32, _file, _bytes, _size)
+_convert = _declare("bhtf_file_convert", _u32, _file, _bytes, _size)
 _batch_image = _declare("bhtf_file_batch_image", ctypes.c_void_p, _file,
                         ctypes.POINTER(_size))
 _error = _declare("bhtf_file_error", ctypes.POINTER(_Why), _file)
@@ -119,6 +120,14 @@ def _to_bytes(value):
 
 def _raise(why):
     raise Error(why.number, why.words.decode(errors="replace"), why.error)
+
+
+def _raise_new(why, path):
+    """For a new file that could not be made."""
+    if why.error == errno.EEXIST:
+        raise FileExistsError(why.error, why.words.decode(errors="replace"),
+                              path)
+    _raise(why)
 
 
 def _alone(method):
@@ -234,6 +243,14 @@ class File:
     def key_size(self):
         self._asked(_count(*self._view(), ctypes.byref(_u32())))
         return int.from_bytes(ctypes.string_at(self._view()[0] + 12, 4), "big")
+
+    @property
+    @_alone
+    def version(self):
+        """Of the file: (1, 0, 2), or (2, 0, 0) where texts may be longer than
+        16,777,215 bytes."""
+        self._asked(_count(*self._view(), ctypes.byref(_u32())))
+        return tuple(ctypes.string_at(self._view()[0] + 5, 3))
 
     def _key(self, name):
         name = _to_bytes(name)
@@ -379,6 +396,16 @@ class File:
         """The file as the last writer left it."""
         self._done(_refresh(self._open_handle()))
 
+    @_alone
+    def convert(self, path, size=None):
+        """Makes a new file of this one, of the other version: (2, 0, 0), or
+        (1, 0, 2) if this one is of (2, 0, 0). It has `size` bytes; as many as
+        this one, or more if its points need them, if that is None."""
+        if size is not None and size < 1:
+            raise ValueError("a file has at least 4096 bytes")
+        if _convert(self._open_handle(), os.fsencode(path), size or 0) != 0:
+            _raise_new(_error(self._handle).contents, path)
+
     # ---- changing ----
 
     @_alone
@@ -475,7 +502,4 @@ def create(path, key_size=16, slots=0, seed=0, size=1 << 20, sync=True):
     why = _Why()
     if _create(os.fsencode(path), image, size, ctypes.byref(how),
                ctypes.byref(why)) != 0:
-        if why.error == errno.EEXIST:
-            raise FileExistsError(
-                why.error, why.words.decode(errors="replace"), path)
-        _raise(why)
+        _raise_new(why, path)

@@ -15,7 +15,7 @@ bhtf create finish
 bhtf add finish 'CP-1' x
 bhtf add finish 'CP 2' x
 bhtf add finish 'RP-3' x
-same "bash: commands" $'check\ncompact\ncopy\ncount\ncreate' "$(completed 'bhtf c')"
+same "bash: commands" $'check\ncompact\nconvert\ncopy\ncount\ncreate' "$(completed 'bhtf c')"
 same "bash: every command" "$( (bhtf --help | sed -n 's/^  bhtf \([a-z]*\) .*/\1/p'; echo help) | LC_ALL=C sort)" \
   "$(completed 'bhtf ' | grep -v '^-')"
 same "bash: help" $'dump' "$(completed 'bhtf help du')"
@@ -27,6 +27,7 @@ same "bash: names to withdraw a text from" 'RP-3' "$(completed 'bhtf withdraw fi
 none "bash: no names for a file of records" "$(completed 'bhtf delete finish --delta R')"
 same "bash: names behind one" 'RP-3' "$(completed 'bhtf delete --delta changes finish R')"
 same "bash: versions" $'1.0.0\n1.0.1\n1.0.2' "$(completed 'bhtf create new --format 1')"
+same "bash: the other version" 2.0.0 "$(completed 'bhtf create new --format 2')"
 same "bash: columns" 'PENZD' "$(completed 'bhtf import finish x.csv --columns PE')"
 same "bash: delimiters" 'semicolon' "$(completed 'bhtf import finish x.csv -d s')"
 same "bash: names behind an option's value" 'RP-3' "$(completed 'bhtf get --wait 5 finish R')"

@@ -112,7 +112,7 @@ gives "add waiting on a terminal says so" 0 'habit: waiting for the point.s text
 same "and takes what is typed" typed "$(bhtf get habit terminal)"
 typed "bhtf add habit terminal2 -q"
 same "but not with --quiet" 0 "$(grep -c waiting typed.out)"
-typed "bhtf import habit - -c P"
+typed "bhtf import habit - -c P --skip 0"
 gives "import waiting on a terminal says so" 0 'habit: waiting for lines of CSV' cat typed.out
 gives "and takes what is typed" 0 '1 point stored' cat typed.out
 typed "bhtf load habit2"

@@ -121,7 +121,7 @@ same "a file without empty texts has no such column" 'name,easting,northing,heig
 same "create writes 1.0.2" 'version 1.0.2' "$(bhtf create newest && bhtf dump newest | sed -n 2p)"
 gives "an earlier one if asked for" 0 '' bhtf create early --format 1.0.1 --slots 9
 same "and nothing else differs" '8 2 1' "$(bhtf create late --slots 9; cmp -l late early | tr -s ' ' | sed 's/^ //')"
-gives "a version that is none" 2 '--format is 1\.0\.0, 1\.0\.1 or 1\.0\.2, and not 1\.0\.3' bhtf create wrong4 --format 1.0.3
+gives "a version that is none" 2 '--format is 1\.0\.0, 1\.0\.1, 1\.0\.2 or 2\.0\.0, and not 1\.0\.3' bhtf create wrong4 --format 1.0.3
 holds "and no file is made" test ! -e wrong4
 gives "a text leaves the version" 0 '' bhtf add early a text
 gives "so does a point without one" 0 '' bhtf add early b --no-text

@@ -126,6 +126,9 @@ void compare_book(const struct call *c, const struct answer *a)
         same_as_book("answer", a->number, 0);
         book_compact(b);
         break;
+    case CONVERT:
+        same_as_book("answer", a->number, book_convert(b, c->target_len));
+        break;
     case STORE:
         same_as_book("answer", a->number,
                      book_store_columns(b, c->key, c->key_len, c->data,

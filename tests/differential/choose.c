@@ -140,6 +140,8 @@ static size_t very_long(int64_t last)
 {
     if (one_in(3) && data_size > POOL)
         return (size_t)((UINT64_C(1) << 32) + below(8));
+    if (header_size() == 5 && one_in(3) && data_size > POOL)
+        return (size_t)((int64_t)GIB - below(2) - (one_in(2) ? last : 0));
     return (size_t)((int64_t)MIB16 - below(2) - (one_in(2) ? last : 0));
 }
 
@@ -147,6 +149,7 @@ static size_t choose_length(uint32_t name)
 {
     int64_t last = name < NAMES ? list.last_length[name] : 0;
     int64_t room = room_left();
+    int64_t header = header_size();
     uint32_t style = below(64);
 
     if (lent.length > MIB16 && one_in(3))
@@ -160,9 +163,9 @@ static size_t choose_length(uint32_t name)
     if (style < 42)
         return below((uint32_t)last + 1);
     if (style < 44)
-        return about(room - 4);
+        return about(room - header);
     if (style < 46)
-        return about(room - 4 - last);
+        return about(room - header - last);
     if (style < 48)
         return about(room / 2);
     if (style < 49)

@@ -142,6 +142,11 @@ static struct answer perform(const struct calls *f, uint8_t *image,
         a.number = f->at_epoch(s, n, c->key, c->key_len, c->epoch, &a.shown,
                                &a.first, &a.second);
         break;
+    case CONVERT:
+        a.number = f->convert(s, n,
+                              f == &plain ? target.plain : target.library,
+                              c->target_len);
+        break;
     case RECOVER:
         a.number = f->recover(s, n,
                               f == &plain ? journal.plain : journal.library,
@@ -278,6 +283,8 @@ static void lend_slices(void)
         lend_filled();
     if (list.now.kind == SELECT)
         lend_selected();
+    if (list.now.kind == CONVERT)
+        lend_target();
     if (list.now.kind == RECOVER && !list.now.again)
         lend_journal();
 }
@@ -298,6 +305,8 @@ static void compare_slices(const struct call *c, const struct answer *a)
         compare_selected(c, a);
     if (c->kind == AT_EPOCH)
         compare_epoch(c, a);
+    if (c->kind == CONVERT)
+        compare_converted(c, a);
     if (c->kind == RECOVER)
         compare_recovered(c, a);
 }
@@ -333,6 +342,8 @@ struct answer run_call(void)
     compare_slices(c, &a);
     if (writes(c->kind) && a.number == 0)
         memcpy(lent.before, lent.library, lent.length);
+    if (c->kind == CONVERT && a.number == 0)
+        go_on_in_target();
     seen[c->kind][a.number < NUMBERS ? a.number : 0]++;
     return a;
 }

@@ -39,20 +39,21 @@ static void damage_message(void)
     uint32_t letters[] = { 'a', 'd', 'a', 'd', 0, 'b', 'e', 255 };
     uint32_t widths[] = { 0, 1, 2, 3, 63, 64, 65, 128, 255 };
     uint32_t at = field(48);
-    uint32_t space = field(52) - at - 4;
+    uint32_t header = header_size();
+    uint32_t space = field(52) - at - header;
 
     if (messages.count > 0)
         at = messages.at[below(messages.count)];
-    if (at > lent.length - 4)
+    if (at > lent.length - header)
         return;
     if (one_in(4))
-        poke(at + 4, (uint8_t)PICK(widths));
+        poke(at + header, (uint8_t)PICK(widths));
     else if (one_in(3))
         poke(at, (uint8_t)PICK(letters));
     else if (one_in(2))
-        poke32(at, (field(at) & 0xFF000000u) | make_length(space % 200));
+        poke_header(at, lent.library[at], make_length(space % 200));
     else
-        flip(at + below(4));
+        flip(at + below(header));
 }
 
 static void damage_slot(void)

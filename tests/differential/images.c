@@ -31,6 +31,8 @@ void make_header(uint32_t data)
     for (uint32_t i = 0; i < sizeof start; i++)
         poke(i, start[i]);
     poke(7, (uint8_t)below(run.old_calls ? 2 : 3));
+    if (!run.old_calls && one_in(3))
+        poke(5, 2), poke(7, 0);
     poke32(8, random32());
     poke32(12, list.key_size);
     poke32(16, list.slots);
@@ -46,6 +48,9 @@ void make_header(uint32_t data)
 
 uint32_t make_length(uint32_t space)
 {
+    uint32_t long_lengths[] = { 0x1000000u, 0x3FFFFFFFu, 0x40000000u,
+                                0x80000000u, 0xFFFFFFFFu, 0xFFFFFFFBu,
+                                space | 0x1000000u, random32() };
     uint32_t style = below(16);
 
     if (style < 9)
@@ -56,6 +61,8 @@ uint32_t make_length(uint32_t space)
         return space + 1;
     if (style < 14)
         return 0;
+    if (header_size() == 5 && one_in(2))
+        return PICK(long_lengths);
     return style < 15 ? 0xFFFFFF : random32() & 0xFFFFFF;
 }
 
@@ -66,7 +73,7 @@ static void make_low_message(void)
     uint32_t places[] = { 60, 1600, data - 5, data - 4, data - 1, data - 9 };
     uint32_t at = PICK(places);
 
-    poke32(at, (uint32_t)(one_in(3) ? 'd' : 'a') << 24 | below(5));
+    poke_header(at, one_in(3) ? 'd' : 'a', below(5));
     messages.at[messages.count++] = at;
 }
 
@@ -75,21 +82,22 @@ static void make_messages(void)
 {
     uint32_t at = field(48);
     uint32_t end = field(52);
+    uint32_t header = header_size();
     uint32_t wanted = below(HEADERS + 1);
 
     messages.count = 0;
-    while (messages.count < wanted && at + 4 <= end) {
-        uint32_t length = make_length(end - at - 4);
+    while (messages.count < wanted && at + header <= end) {
+        uint32_t length = make_length(end - at - header);
         uint32_t letter = one_in(12) ? random32() & 255
                           : one_in(3) ? 'd' : 'a';
 
-        poke32(at, letter << 24 | length);
+        poke_header(at, letter, length);
         messages.at[messages.count++] = at;
         if (one_in(3))
-            poke(at + 4, (uint8_t)(1 + below(4))); /* a width */
-        if (length > end - at - 4)
+            poke(at + header, (uint8_t)(1 + below(4))); /* a width */
+        if (length > end - at - header)
             length = below(8);
-        at += 4 + length + (one_in(6) ? below(8) : 0);
+        at += header + length + (one_in(6) ? below(8) : 0);
     }
     if (one_in(3))
         make_low_message();
@@ -221,6 +229,8 @@ void grown_image(void)
     set_length(choose_image_length(data_offset(k, n)));
     old_content();
     create(k, n);
+    if (one_in(3))
+        convert_list();
     add_all_names();
     for (uint32_t i = below(12); i > 0; i--)
         step_add();
@@ -229,8 +239,12 @@ void grown_image(void)
 /* Random bytes, the longer the more like a file. */
 void random_image(void)
 {
-    static const uint8_t start[] = { 'B', 'H', 'T', 'F', 'v', 1, 0, 2 };
-    uint32_t right = below(sizeof start + 4);
+    static const uint8_t start[2][8] = {
+        { 'B', 'H', 'T', 'F', 'v', 1, 0, 2 },
+        { 'B', 'H', 'T', 'F', 'v', 2, 0, 0 }
+    };
+    uint32_t version = below(2);
+    uint32_t right = below(sizeof start[0] + 4);
 
     list.what = "random image";
     list.key_size = choose_key_size();
@@ -238,8 +252,8 @@ void random_image(void)
     choose_names();
     set_length(PAGE * (1 + below(3)));
     old_content();
-    for (uint32_t i = 0; i < right && i < sizeof start; i++)
-        poke(i, start[i]);
+    for (uint32_t i = 0; i < right && i < sizeof start[0]; i++)
+        poke(i, start[version][i]);
     if (one_in(2))
         poke32(12, 1);
     if (one_in(2))

@@ -1,6 +1,8 @@
 /* The three kinds of lists. */
 #include "parts.h"
 
+#include <string.h>
+
 /* ---- with the book ---- */
 
 static const uint8_t usual[] = { 0, 52, 68, 73, 87, 90, 94, 98 };
@@ -50,12 +52,57 @@ static void close_list(void)
     walk_all();
 }
 
-/* Now and then as long as the old limit, or long enough for question 12. */
+/* Now and then as long as the old limit, or long enough for question 12, or
+ * for a text that is too long for version 1. */
 static uint32_t list_length(uint32_t data)
 {
-    if (data > MIB16 || !one_in(4000))
+    uint32_t lengths[] = { MIB16, 4 * MIB16, MIB16 + data + PAGE,
+                           MIB16 + data + PAGE };
+
+    if (data > MIB16 || !one_in(1500))
         return choose_image_length(data);
-    return one_in(2) || run.old_limits ? MIB16 : 4 * MIB16;
+    return run.old_limits ? MIB16 : PICK(lengths);
+}
+
+/* A call on the first name, by its plain form. */
+static void call_first(enum kind kind, size_t size, uint32_t mode)
+{
+    new_call(kind);
+    memcpy(lend_key(list.key_size), list.name[0], list.key_size);
+    if (kind == ADD)
+        lend_data(size);
+    list.now.mode = mode;
+    list.now.form = PLAIN;
+    run_call();
+}
+
+/* In version 2.0.0 a text of about the length that is too long for version 1: it
+ * stops the way back as long as it is active. */
+static void convert_text(size_t size)
+{
+    call_first(ADD, size, 1);
+    new_call(CONVERT);
+    list.now.target_len = PAGE;
+    run_call();
+    convert_list();
+    if (header_size() == 4)
+        convert_list();
+    if (one_in(2))
+        call_first(ADD, 0, 4);
+    else
+        call_first(DELETE, 0, 0);
+    convert_list();
+    if (header_size() == 4)
+        convert_list();
+    call_first(DELETE, 0, 0);
+}
+
+static void convert_long(void)
+{
+    convert_list();
+    convert_text(MIB16 - 1);
+    convert_text(MIB16);
+    convert_text(MIB16 + below(3));
 }
 
 void list_from_create(void)
@@ -82,6 +129,10 @@ void list_from_create(void)
         calls = 12;
         list.names = 3;
     }
+    if (!run.old_calls && lent.length > MIB16 && list.slots < OLD_SLOTS)
+        convert_long();
+    else if (!run.old_calls && one_in(3))
+        convert_list();
     if (one_in(2))
         add_all_names();
     while (calls-- > 0)
@@ -104,6 +155,8 @@ void list_reopened(void)
     close_list();
     if (one_in(3))
         step_compact();
+    else if (!run.old_calls && one_in(2))
+        step_convert();
     while (calls-- > 0)
         step(weights);
     close_list();

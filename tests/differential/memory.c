@@ -16,6 +16,7 @@ struct slice work;
 struct slice listing;
 struct slice journal;
 struct slice filled;
+struct slice target;
 uint8_t *data_start;
 size_t data_size;
 uint8_t *even_start;
@@ -111,6 +112,7 @@ void map_all(void)
     map_slice(&listing);
     map_slice(&journal);
     map_slice(&filled);
+    map_slice(&target);
 }
 
 static uint32_t choose_shift(void)
@@ -219,4 +221,29 @@ uint32_t get32(const uint8_t *at)
 uint32_t field(uint32_t offset)
 {
     return get32(lent.library + offset);
+}
+
+uint32_t header_size_of(const uint8_t *image)
+{
+    return image[5] == 2 ? 5 : 4;
+}
+
+uint32_t header_size(void)
+{
+    return header_size_of(lent.library);
+}
+
+uint32_t length_in(const uint8_t *image, uint32_t at)
+{
+    return header_size_of(image) == 5 ? get32(image + at + 1)
+                                      : get32(image + at) & 0xFFFFFF;
+}
+
+void poke_header(uint32_t at, uint32_t letter, uint32_t length)
+{
+    if (header_size() == 5)
+        poke32(at + 1, length);
+    else
+        poke32(at, length & 0xFFFFFF);
+    poke(at, (uint8_t)letter);
 }

@@ -35,7 +35,7 @@ static int was_active(uint32_t slot)
 /* Header and text. */
 static uint32_t size_before(uint32_t slot)
 {
-    return 4 + (get32(before + offset_before(slot)) & 0xFFFFFF);
+    return header_size_of(before) + length_in(before, offset_before(slot));
 }
 
 /* Bytes of the active messages that began below that place. */

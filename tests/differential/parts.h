@@ -23,7 +23,7 @@
 /* Those up to compaction, storing columns and recovery write the image. Those
  * before recovery are calls on a file, those up to the check document 01's. */
 enum kind { CREATE, ADD, DELETE, COMPACT, LOOKUP, COUNT, WALK, CHECK, STORE,
-            READ, SELECT, AT_EPOCH, RECOVER, KINDS };
+            READ, SELECT, AT_EPOCH, CONVERT, RECOVER, KINDS };
 
 #define NUMBERS 24 /* answers from 0 to 23 */
 
@@ -54,6 +54,7 @@ struct call {
     enum form form;
     size_t work_len; /* of a listed or journaled call */
     size_t list_len; /* of the slice that is filled, too */
+    size_t target_len; /* of a conversion; 0 for one that is still chosen */
     size_t journal_len;
     uint8_t mark; /* of the journal, before the call */
     int again;    /* with the slices as the last call left them */
@@ -147,6 +148,7 @@ extern struct slice work;
 extern struct slice listing; /* of changes */
 extern struct slice journal;
 extern struct slice filled; /* by a call that reads */
+extern struct slice target; /* of a conversion */
 
 extern uint8_t *data_start;
 extern size_t data_size;
@@ -186,6 +188,17 @@ uint32_t get32(const uint8_t *at);
 
 /* The four bytes at that offset of the image. */
 uint32_t field(uint32_t offset);
+
+/* Bytes of a message's header in an image, by its version: a letter and 3 bytes,
+ * or 4. */
+uint32_t header_size_of(const uint8_t *image);
+uint32_t header_size(void);
+
+/* The length in a message's header. */
+uint32_t length_in(const uint8_t *image, uint32_t at);
+
+/* Write a message's header to both images. */
+void poke_header(uint32_t at, uint32_t letter, uint32_t length);
 
 /* ---- differences (report.c) ---- */
 
@@ -301,6 +314,23 @@ void sound_image(void);
 
 /* After an accepted one: the image against the one before. */
 void compare_packed(void);
+
+/* ---- the converter (converted.c) ---- */
+
+void step_convert(void);
+
+/* A conversion whose target is too small by a byte, or just large enough. */
+void step_convert_to_brim(void);
+
+/* To the other version, in a slice that is long enough. */
+void convert_list(void);
+
+/* Lends list.now a target, as long as it must be or not. */
+void lend_target(void);
+void compare_converted(const struct call *c, const struct answer *a);
+
+/* The list's image is the target of the conversion. */
+void go_on_in_target(void);
 
 /* ---- what a call changed (changed.c) ---- */
 

@@ -1,7 +1,7 @@
 /* Sound images that no list of calls gives, to start from with the book read
- * off them: any hash numbers, versions 1.0.0 to 1.0.2, permuted full tables,
- * gaps between messages, inactive and empty messages, bytes left in empty
- * slots. */
+ * off them: any hash numbers, versions 1.0.0 to 1.0.2 and 2.0.0, permuted full
+ * tables, gaps between messages, inactive and empty messages, bytes left in
+ * empty slots. */
 #include "parts.h"
 
 #include <string.h>
@@ -94,23 +94,23 @@ static int is_taken(uint32_t slot)
 static uint32_t place_message(uint32_t slot, uint32_t at)
 {
     uint32_t start = at;
+    uint32_t header = header_size();
     uint32_t least = run.old_calls ? 1 : 0;
     uint32_t end = field(52);
     uint32_t space, length = 0;
 
     if (layout.gaps && one_in(3))
         start += one_in(6) ? below(end - at + 1) : below(8);
-    if (start + 4 + least > end)
+    if (start + header + least > end)
         return at;
-    space = end - start - 4;
+    space = end - start - header;
     if (space > 0 && (least > 0 || !one_in(5)))
         length = 1 + below(space < 12 ? space : 12);
     if (one_in(16))
         length = space;
-    poke32(start, (uint32_t)(below(8) < layout.inactive ? 'd' : 'a') << 24 |
-                      length);
+    poke_header(start, below(8) < layout.inactive ? 'd' : 'a', length);
     poke32(slot_at(slot) + list.key_size, start);
-    return start + 4 + length;
+    return start + header + length;
 }
 
 /* The slots in any order. */

@@ -10,7 +10,7 @@
 
 const char *const kind_name[KINDS] = {
     "create", "add", "delete", "compact", "lookup", "count", "walk", "check",
-    "store", "read", "select", "epoch",
+    "store", "read", "select", "epoch", "convert",
     "recover",
 };
 
@@ -48,6 +48,8 @@ static void print_call(const struct call *c)
         printf(", data of %zu bytes, mode %u", c->data_len, c->mode);
     if (c->kind == WALK)
         printf(", from slot %u", c->from);
+    if (c->kind == CONVERT)
+        printf(", target of %zu bytes", c->target_len);
     if (c->form == COUNTED)
         printf(", with slots read");
     if (c->form == LISTED)
@@ -66,7 +68,8 @@ static void print_before(void)
 
     if (lent.length < 60)
         return;
-    printf("image before: K %u, N %u, C %u, F %u, E %u, D %u, X %u\n",
+    printf("image before: version %u.%u.%u, K %u, N %u, C %u, F %u, E %u, "
+           "D %u, X %u\n", b[5], b[6], b[7],
            get32(b + 12), get32(b + 16), get32(b + 20), get32(b + 32),
            get32(b + 36), get32(b + 48), get32(b + 52));
 }

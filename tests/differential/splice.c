@@ -16,7 +16,7 @@ static uint32_t blocks;
 
 static uint32_t end_of(const struct block *b)
 {
-    return b->at + 4 + b->length;
+    return b->at + header_size() + b->length;
 }
 
 /* ---- laying out ---- */
@@ -26,23 +26,25 @@ static uint32_t block_length(uint32_t at)
 {
     uint32_t data = field(48);
     uint32_t room = lent.length - at;
+    uint32_t header = header_size();
     uint32_t length = below(one_in(8) ? 300 : 24);
 
     if (one_in(3) && room > 20000) {
         uint32_t step = 1u << (12 + below(11));
         uint32_t end = data + ((at - data) / step + 1) * step + below(3) - 1;
 
-        length = end > at + 4 ? end - at - 4 : length;
+        length = end > at + header ? end - at - header : length;
     }
-    return room < 4 ? 0 : length > room - 4 ? room - 4 : length;
+    return room < header ? 0 : length > room - header ? room - header : length;
 }
 
 /* Its header in an earlier one's text; ends inside, with it, a byte behind, or
  * anywhere. */
 static struct block block_inside(const struct block *outer)
 {
-    struct block b = { outer->at + 4 + below(outer->length - 4), 0 };
-    uint32_t rest = end_of(outer) - b.at - 4;
+    uint32_t header = header_size();
+    struct block b = { outer->at + header + below(outer->length - header), 0 };
+    uint32_t rest = end_of(outer) - b.at - header;
     uint32_t lengths[] = { 0, 1, rest, rest + 1, 1 + below(rest + 1),
                            block_length(b.at) };
 
@@ -71,7 +73,7 @@ static struct block next_block(uint32_t *at, uint32_t rare)
 
     if (meeting && style == 0)
         return *other;
-    if (meeting && style < 3 && other->length > 4)
+    if (meeting && style < 3 && other->length > header_size())
         return block_inside(other);
     return block_behind(at, meeting);
 }
@@ -79,14 +81,16 @@ static struct block next_block(uint32_t *at, uint32_t rare)
 static void lay_out(uint32_t wanted, uint32_t rare)
 {
     uint32_t at = field(48);
+    uint32_t header = header_size();
 
-    for (blocks = 0; blocks < wanted && at + 4 <= lent.length; blocks++) {
+    for (blocks = 0; blocks < wanted && at + header <= lent.length;
+         blocks++) {
         struct block b = next_block(&at, rare);
 
         if (end_of(&b) > lent.length)
             break;
         block[blocks] = b;
-        poke32(b.at, (uint32_t)(one_in(3) ? 'd' : 'a') << 24 | b.length);
+        poke_header(b.at, one_in(3) ? 'd' : 'a', b.length);
     }
 }
 
@@ -151,7 +155,8 @@ static void hand_out(void)
 static void damage_otherwise(void)
 {
     uint32_t at = slot_at(below(list.slots)) + list.key_size;
-    uint32_t offsets[] = { field(48) - 1, field(52) - 4, random32() };
+    uint32_t offsets[] = { field(48) - 1, field(52) - 4, field(52) - 5,
+                           random32() };
     uint32_t style = below(3);
 
     if (style == 0)
@@ -174,15 +179,14 @@ static int is_whole(uint32_t slot)
 {
     uint32_t at = offset_in(slot);
     uint32_t next = field(52);
-    uint32_t length;
+    uint32_t header = header_size();
 
     if (at == 0)
         return 1;
-    if (at < field(48) || at >= next || next - at < 4)
+    if (at < field(48) || at >= next || next - at < header)
         return 0;
-    length = field(at) & 0xFFFFFF;
     return (lent.library[at] == 'a' || lent.library[at] == 'd') &&
-           length <= next - at - 4;
+           length_in(lent.library, at) <= next - at - header;
 }
 
 /* Of whole messages: does the slot's share a byte with a lower slot's? */
@@ -192,13 +196,13 @@ static int meets_lower(uint32_t slot)
 
     if (b.at == 0)
         return 0;
-    b.length = field(b.at) & 0xFFFFFF;
+    b.length = length_in(lent.library, b.at);
     for (uint32_t i = 0; i < slot; i++) {
         struct block lower = { offset_in(i), 0 };
 
         if (lower.at == 0)
             continue;
-        lower.length = field(lower.at) & 0xFFFFFF;
+        lower.length = length_in(lent.library, lower.at);
         if (lower.at < end_of(&b) && b.at < end_of(&lower))
             return 1;
     }
@@ -238,6 +242,8 @@ static void grow_table(void)
         list.now.mode = 3;
         run_call();
     }
+    if (one_in(3))
+        convert_list();
 }
 
 static void splice_and_check(void)
@@ -261,6 +267,8 @@ static void splice_and_check(void)
         fail_number("failing slot", "library", a.second, "pairs", failing);
     if (one_in(2))
         step_compact();
+    if (one_in(4))
+        step_convert();
 }
 
 /* A key that its search may not find any more. */

@@ -146,6 +146,10 @@ void step(const uint8_t *weights)
         step_select();
     else if (!run.old_calls && one_in(list.key_size > 4 ? 8 : 60))
         step_epoch();
+    else if (!run.old_calls && one_in(40))
+        step_convert();
+    else if (!run.old_calls && one_in(200))
+        step_convert_to_brim();
     else if (style < weights[ADD])
         step_add();
     else if (style < weights[DELETE])

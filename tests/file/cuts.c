@@ -1,5 +1,5 @@
 /* cuts [--command PATH] [--seed N] [--random N] [--states N] [--scenes N]
- *     DIRECTORY
+ *     [--wide] DIRECTORY
  *
  * Changes of control point files that are cut: by the signal KILL before and
  * behind every system call and at random instructions, and by the power,
@@ -13,6 +13,7 @@
  *   --random   instructions at which each scene is cut, 20 unless given
  *   --states   random states of the disk for each cut, 6 unless given
  *   --scenes   only so many calls are cut, and create
+ *   --wide     the file is of version 2.0.0
  *
  * The last line is 'N passed, M failed'. */
 #define _GNU_SOURCE
@@ -40,6 +41,7 @@ static const char *command;
 static char work[512], cut_place[600];
 static unsigned long random_cuts = 20, random_states = 6, scenes_wanted = 99;
 static unsigned long cuts, cut_failures;
+static int wide;
 static unsigned passed, failed;
 
 /* ---- scenes ---- */
@@ -117,7 +119,12 @@ static void must(int holds, const char *what)
 
 static void make_first(void)
 {
-    must(bhtf_create(image_at[0], IMAGE, KEY, SLOTS, 7) == 0, "create");
+    must(bhtf_create(image_at[1], IMAGE, KEY, SLOTS, 7) == 0, "create");
+    if (wide)
+        must(bhtf_convert(image_at[1], IMAGE, image_at[0], IMAGE) == 0,
+             "convert");
+    else
+        memcpy(image_at[0], image_at[1], IMAGE);
     for (unsigned i = 0; i < 40; i++) {
         const struct op op = { 'a', i, 20 + i };
         uint8_t key[KEY], text[100];
@@ -930,6 +937,7 @@ static void try_commands(void)
     try_command("apply", WORDS("apply", path, delta), 0);
     must(write_output(dump, WORDS("dump", copy_path)) == 0, "a dump");
     try_command("load", WORDS("load", path, dump), 1);
+    try_command("convert", WORDS("convert", copy_path, path), 1);
     try_records(path, csv);
 }
 
@@ -957,6 +965,8 @@ int main(int argc, char **argv)
             random_states = strtoul(argv[i], NULL, 10);
         else if (option(argc, argv, &i, "--scenes"))
             scenes_wanted = strtoul(argv[i], NULL, 10);
+        else if (strcmp(argv[i], "--wide") == 0)
+            wide = 1;
         else
             directory = argv[i];
     must(directory != NULL, "usage: cuts [OPTION..] DIRECTORY");

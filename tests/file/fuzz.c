@@ -124,6 +124,8 @@ static void try_file(const uint8_t *bytes, size_t length)
     RUN("plot", site);
     put_file(input, first, SIZE);
     RUN("diff", site, input);
+    unlink(input);
+    RUN("convert", site, input, "--no-sync");
     RUN("compact", site, "--no-sync");
     RUN("add", site, "NEW", "text", "--no-sync");
     RUN("delete", site, "P3", "--no-sync");

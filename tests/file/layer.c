@@ -1,5 +1,6 @@
-/* layer DIRECTORY: the calls of bhtf_file.h, one by one, and their errors. The
- * directory is named from the root.
+/* layer DIRECTORY [wide]: the calls of bhtf_file.h, one by one, and their
+ * errors; on files of version 2.0.0 if that is said. The directory is named from
+ * the root.
  * Journals of unfinished changes are made by a child that ends itself in the
  * middle of one. The last line is 'N passed, M failed'. */
 #define _GNU_SOURCE
@@ -36,6 +37,25 @@ static const uint8_t *key(const char *name)
     memset(bytes, 0, KEY);
     memcpy(bytes, name, strlen(name));
     return bytes;
+}
+
+static int wide;
+
+/* An empty image; one of version 2.0.0 comes from the converter. */
+static uint32_t create(uint8_t *image, size_t length, uint32_t slots)
+{
+    uint32_t number = bhtf_create(image, length, KEY, slots, 3);
+    uint8_t *narrow;
+
+    if (number != 0 || !wide)
+        return number;
+    narrow = malloc(length);
+    if (narrow == NULL)
+        exit(2);
+    memcpy(narrow, image, length);
+    number = bhtf_convert(narrow, length, image, length);
+    free(narrow);
+    return number;
 }
 
 static uint32_t put(bhtf_file *f, const char *name, const char *text)
@@ -80,7 +100,7 @@ static void make_fresh(void)
 {
     unlink(file);
     unlink(journal);
-    if (bhtf_create(first, SIZE, KEY, 50, 3) != 0 ||
+    if (create(first, SIZE, 50) != 0 ||
         bhtf_file_create(file, first, SIZE, NULL, NULL) != 0)
         exit(2);
 }
@@ -100,7 +120,7 @@ static void try_new(void)
     if (n == NULL)
         exit(2);
     holds("an image can be made in it",
-          bhtf_create(bhtf_file_new_image(n), SIZE, KEY, 50, 3) == 0);
+          create(bhtf_file_new_image(n), SIZE, 50) == 0);
     holds("it gets its name", bhtf_file_new_end(n) == 0 &&
           has(file, "A", NULL));
     n = bhtf_file_new_begin(file, SIZE, NULL, &why);
@@ -436,7 +456,7 @@ static void try_foreign(void)
     holds("nor is a new file made beside it",
           bhtf_file_create(file, first, SIZE, NULL, &why) != 0 &&
           strstr(why.words, "journal") != NULL);
-    bhtf_create(first, 16384, KEY, 50, 3);
+    create(first, 16384, 50);
     fd = open(file, O_RDWR | O_CREAT, 0644);
     if (write(fd, first, 16384) != 16384)
         exit(2);
@@ -1032,7 +1052,7 @@ static void try_links(const char *directory)
     snprintf(name, sizeof name, "%s/current", directory);
     unlink(name);
     unlink(other);
-    if (image == NULL || bhtf_create(image, SIZE, KEY, 50, 3) != 0 ||
+    if (image == NULL || create(image, SIZE, 50) != 0 ||
         bhtf_add(image, SIZE, key("N"), KEY, key("new"), 3, BHTF_NEW) != 0 ||
         bhtf_file_create(other, image, SIZE, NULL, NULL) != 0 ||
         symlink(file, name) != 0 || chdir(directory) != 0)
@@ -1197,7 +1217,7 @@ static void try_large(void)
 
     unlink(file);
     unlink(journal);
-    if (image == NULL || bhtf_create(image, size, KEY, 1000, 3) != 0 ||
+    if (image == NULL || create(image, size, 1000) != 0 ||
         bhtf_file_create(file, image, size, NULL, NULL) != 0)
         exit(2);
     free(image);
@@ -1224,7 +1244,7 @@ static void try_large_foreign(void)
     unlink(journal);
     memset(text, 'a', TEXT);
     if (image == NULL || older == NULL ||
-        bhtf_create(image, LARGE, KEY, 1000, 3) != 0)
+        create(image, LARGE, 1000) != 0)
         exit(2);
     for (char name[] = "A"; name[0] < 'A' + TEXTS; name[0]++)
         bhtf_add(image, LARGE, key(name), KEY, (uint8_t *)text, TEXT, BHTF_NEW);
@@ -1258,10 +1278,163 @@ static void try_large_foreign(void)
     unlink(file);
 }
 
+/* ---- the other version ---- */
+
+static int major_of(const char *path)
+{
+    uint8_t head[8] = { 0 };
+    int fd = open(path, O_RDONLY);
+
+    if (fd < 0 || read(fd, head, sizeof head) != sizeof head)
+        head[5] = 0;
+    close(fd);
+    return head[5];
+}
+
+static size_t length_of(const char *path)
+{
+    struct stat about;
+
+    return stat(path, &about) == 0 ? (size_t)about.st_size : 0;
+}
+
+static void try_convert(void)
+{
+    const int mine = wide ? 2 : 1;
+    bhtf_file *f;
+    pid_t child;
+    int status = 0;
+
+    make_fresh();
+    unlink(other);
+    f = open_writer(NULL);
+    if (f == NULL || put(f, "A", "a text") != 0 || bhtf_file_begin(f) != 0 ||
+        put(f, "B", "") != 0)
+        exit(2);
+    holds("convert: a writer's batch counts", bhtf_file_convert(f, other, 0) ==
+          0 && has(other, "A", "a text") && has(other, "B", ""));
+    holds("convert: the other version, as long as it was",
+          major_of(other) == 3 - mine && length_of(other) == SIZE);
+    holds("convert: the batch is open still", bhtf_file_rollback(f) == 0 &&
+          has(file, "B", NULL) && major_of(file) == mine);
+    holds("convert: a name that is taken", bhtf_file_convert(f, other, 0) ==
+          BHTF_FILE_SYSTEM && bhtf_file_error(f)->error == EEXIST &&
+          has(other, "B", ""));
+    unlink(other);
+    holds("convert: a length that is none",
+          bhtf_file_convert(f, other, 5000) == BHTF_BAD_LENGTH &&
+          bhtf_file_convert(f, other, (size_t)1 << 31) == BHTF_BAD_LENGTH &&
+          !is_there(other));
+    holds("convert: too short", bhtf_file_convert(f, other, 4096) ==
+          BHTF_NO_ROOM && strstr(bhtf_file_error(f)->words, "8192 bytes") !=
+          NULL && !is_there(other));
+    holds("convert: as short as may be", bhtf_file_convert(f, other, 8192) == 0
+          && has(other, "A", "a text") && length_of(other) == 8192);
+    bhtf_file_close(f);
+    f = bhtf_file_open(other, NULL, NULL);
+    unlink(file);
+    holds("convert: and back", f != NULL &&
+          bhtf_file_convert(f, file, SIZE) == 0 && has(file, "A", "a text") &&
+          major_of(file) == mine);
+    bhtf_file_pause(f);
+    unlink(file);
+    holds("convert: not while paused", bhtf_file_convert(f, file, 0) ==
+          BHTF_FILE_MISUSE && !is_there(file));
+    bhtf_file_refresh(f);
+    child = fork();
+    if (child == 0)
+        _exit(bhtf_file_convert(f, file, 0) == BHTF_FILE_MISUSE ? 0 : 1);
+    waitpid(child, &status, 0);
+    holds("convert: not by a fork", status == 0 && !is_there(file));
+    bhtf_file_close(f);
+    unlink(other);
+}
+
+/* A file whose messages need another page in version 2.0.0, and one that is not
+ * sound. */
+static void try_convert_full(void)
+{
+    enum { SLOTS = 50, FULL = 8192, MOST = FULL - 4096 };
+    static uint8_t image[FULL], text[MOST];
+    uint32_t left = MOST;
+    bhtf_file *f;
+
+    unlink(file);
+    unlink(other);
+    if (bhtf_create(image, FULL, KEY, SLOTS, 3) != 0)
+        exit(2);
+    for (char name[] = "A"; left > 0; name[0]++) {
+        uint32_t size = left < 1004 ? left - 4 : 1000;
+
+        if (bhtf_add(image, FULL, key(name), KEY, text, size, BHTF_NEW) != 0)
+            exit(2);
+        left -= size + 4;
+    }
+    if (bhtf_file_create(file, image, FULL, NULL, NULL) != 0)
+        exit(2);
+    f = bhtf_file_open(file, NULL, NULL);
+    holds("convert: a full file becomes longer", f != NULL &&
+          bhtf_file_convert(f, other, 0) == 0 && length_of(other) ==
+          FULL + 4096 && major_of(other) == 2);
+    bhtf_file_close(f);
+    unlink(other);
+    unlink(file);
+    image[23]++;
+    if (bhtf_file_create(file, image, FULL, NULL, NULL) != 0)
+        exit(2);
+    f = bhtf_file_open(file, NULL, NULL);
+    holds("convert: a file that is not sound", f != NULL &&
+          bhtf_file_convert(f, other, 0) == BHTF_UNSOUND && !is_there(other));
+    bhtf_file_close(f);
+    unlink(file);
+}
+
+/* What a version allows, and a text that only 2.0.0 does. */
+static void try_long_text(void)
+{
+    const size_t size = 40u << 20;
+    const uint32_t text = 17u << 20;
+    uint8_t *image = malloc(size), *bytes = calloc(text, 1);
+    bhtf_file *f;
+    size_t length;
+
+    unlink(file);
+    unlink(other);
+    if (image == NULL || bytes == NULL || create(image, size, 50) != 0 ||
+        bhtf_file_create(file, image, size, NULL, NULL) != 0)
+        exit(2);
+    holds("the longest message", bhtf_message_max(image, size) ==
+          (wide ? BHTF_MESSAGE_MAX_2 : BHTF_MESSAGE_MAX));
+    holds("a message's header", bhtf_message_header(image, size) ==
+          (wide ? BHTF_MESSAGE_HEADER_2 : BHTF_MESSAGE_HEADER));
+    holds("neither of what is no file", bhtf_message_max(image, 4097) == 0 &&
+          bhtf_message_header(bytes, 4096) == 0);
+    f = open_writer(NULL);
+    bytes[text - 1] = 7;
+    holds("a text of 17 MiB", f != NULL &&
+          bhtf_file_add(f, key("S"), KEY, bytes, text, BHTF_NEW) ==
+          (wide ? 0 : BHTF_TOO_LONG));
+    if (wide) {
+        uint32_t at, found;
+        const uint8_t *now = bhtf_file_image(f, &length);
+
+        bhtf_lookup(now, length, key("S"), KEY, &at, &found);
+        holds("is there", found == text && memcmp(now + at, bytes, text) == 0);
+        holds("and has no place in version 1",
+              bhtf_file_convert(f, other, 0) == BHTF_TOO_LONG_FOR_1 &&
+              !is_there(other));
+    }
+    bhtf_file_close(f);
+    unlink(file);
+    free(image);
+    free(bytes);
+}
+
 int main(int argc, char **argv)
 {
-    if (argc != 2)
+    if (argc < 2)
         return 2;
+    wide = argc > 2 && strcmp(argv[2], "wide") == 0;
     snprintf(file, sizeof file, "%s/layer.bhtf", argv[1]);
     snprintf(journal, sizeof journal, "%s.journal", file);
     snprintf(other, sizeof other, "%s.other", file);
@@ -1291,6 +1464,9 @@ int main(int argc, char **argv)
     try_large();
     try_large_foreign();
     try_links(argv[1]);
+    try_convert();
+    try_convert_full();
+    try_long_text();
     printf("%d passed, %d failed\n", passed, failed);
     return failed == 0 && passed > 0 ? 0 : 1;
 }

@@ -28,6 +28,25 @@ except FileExistsError:
 with bhtf.open(path, write=True) as f:
     assert f.key_size == 8 and len(f) == 0
     f.add("CP-103", b"a text")
+    assert f.version == (1, 0, 2)
+    f.convert(path + ".wide", size=64 << 20)
+    refused(13, f.convert, path + ".none", 4096)
+    refused(1, f.convert, path + ".none", 5000)
+    try:
+        f.convert(path + ".wide")
+        raise AssertionError("converted twice")
+    except FileExistsError:
+        pass
+    with bhtf.open(path + ".wide", write=True) as w:
+        assert w.version == (2, 0, 0) and w["CP-103"] == b"a text"
+        scan = b"\0\1\2\3" * (17 << 18)
+        w["SCAN"] = scan
+        assert w["SCAN"] == scan and w.is_sound()
+        refused(20, w.convert, path + ".none")
+        del w["SCAN"]
+        w.convert(path + ".back", size=16384)
+    with bhtf.open(path + ".back") as b:
+        assert b.version == (1, 0, 2) and dict(b.items()) == dict(f.items())
     refused(9, f.add, "CP-103", b"x")
     f.append("CP-103", " and more")
     f["CP-104"] = ""

@@ -1,4 +1,4 @@
-"""The plain control book of document 01, with the rules that document 02 adds to it (Jobs 2, 3, 4, 8, 9, 10 and 14).
+"""The plain control book of document 01, with the rules that document 02 adds to it (Jobs 2, 3, 4, 8, 9, 10, 11 and 14).
 
 The book knows names and texts, and nothing of slots, offsets or hashes. "Each step is fed its call's arguments and nothing from the file",
 but for Job 9's 17. A step returns a tuple: the number, then what the call answers beside it. A text is None (none) or bytes, which may be
@@ -6,7 +6,7 @@ empty (Job 4).
 """
 
 import image as file
-from image import LONGEST_MESSAGE, columns, data_offset, records_of
+from image import LONGEST_MESSAGE, LONGEST_OF_2, columns, data_offset, question_1, records_of
 
 
 class Entry:
@@ -21,6 +21,7 @@ class Book:
         # 01: "U, space used, 0 at first. N and K are as created; R = L − D."
         self.K, self.N, self.L = K, N, L
         self.R = L - data_offset(K, N)
+        self.header, self.longest = 4, LONGEST_MESSAGE
         self.U = 0
         self.entries = {}
 
@@ -31,6 +32,7 @@ class Book:
         h = file.head(image)
         book = Book(h.K, h.N, len(image))
         book.U = h.X - h.D
+        book.header, book.longest = file.header_size(image), file.longest_message(image)
         for _, key, offset in file.taken_slots(image):
             held = file.length_at(image, offset) if offset else 0
             book.entries[key] = Entry(file.text_at(image, offset), held, offset != 0)
@@ -41,10 +43,11 @@ class Book:
         return 0 if len(name) == self.K and any(name) else 7
 
     def room_refuses(self, m):
-        # 01: "12 if m is above 16,777,215 and 13 if U + 4 + m exceeds R".
-        if m > LONGEST_MESSAGE:
+        # 01: "12 if m is above 16,777,215 and 13 if U + 4 + m exceeds R". Job 11: "On a 2.0 image the book adds 5 where it added 4, and
+        # question 12's bound is 1,073,741,823."
+        if m > self.longest:
             return 12
-        return 13 if self.U + 4 + m > self.R else 0
+        return 13 if self.U + self.header + m > self.R else 0
 
     # ---- the plain calls ----
 
@@ -71,7 +74,7 @@ class Book:
             if number:
                 return (number,)
             self.entries[name] = Entry(bytes(data), m, True)
-            self.U += 4 + m
+            self.U += self.header + m
             return (0,)
 
         if mode == 1:  # "Name present: mode 1 gives 9."
@@ -97,7 +100,7 @@ class Book:
         if number:
             return (number,)
         entry.text, entry.held, entry.has_offset = before + bytes(data), t, True
-        self.U += 4 + t
+        self.U += self.header + t
         return (0,)
 
     def delete(self, name):
@@ -129,8 +132,25 @@ class Book:
             entry.held = len(entry.text or b'')
             entry.has_offset = entry.text is not None
             if entry.has_offset:
-                self.U += 4 + entry.held
+                self.U += self.header + entry.held
         return (0,)
+
+    # ---- Job 11 ----
+
+    def convert(self, L):
+        # "the book takes its compaction step with the other header size and the target's R, and puts the target's 1, 20 and 13 as the file
+        # does". A target may be shorter than D.
+        header, longest = (4, LONGEST_MESSAGE) if self.header == 5 else (5, LONGEST_OF_2)
+        texts = [entry.text for entry in self.entries.values() if entry.text is not None]
+        D = data_offset(self.K, self.N)
+        if not question_1(L):
+            return (1,)
+        if any(len(text) > longest for text in texts):
+            return (20,)
+        if D + sum(header + len(text) for text in texts) > L:
+            return (13,)
+        self.header, self.longest, self.L, self.R = header, longest, L, L - D
+        return self.compact()
 
     # ---- Jobs 8 and 9 ----
 

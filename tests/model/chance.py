@@ -94,6 +94,8 @@ class Chance:
         self.draw_pool(K, N)
         image = bytearray(L)
         assert self.model.create(image, K, N, self.rng.choice((0, 1, self.rng.randrange(2 ** 32)))) == (0,)
+        if self.odds(0.3):  # as a conversion leaves one without points
+            image[5:8] = b'\2\0\0'
         return image
 
     def other_header(self, image):
@@ -101,7 +103,7 @@ class Chance:
         rng = self.rng
         first = rng.choice((0, 32, rng.randrange(256)))
         last = rng.choice((255, first, rng.randint(first, 255)))
-        image[7] = rng.randrange(3)
+        image[5:8] = rng.choice((b'\1\0\0', b'\1\0\1', b'\1\0\2', b'\2\0\0', b'\2\0\0'))
         image[8:12] = rng.randbytes(4)
         image[24:32] = rng.choice((image[24:32], rng.randbytes(8), bytes(8)))
         image[32:40] = struct.pack('>2I', first, last)
@@ -168,11 +170,12 @@ class Chance:
         for slot in slots:
             m = rng.choice((0, 1, rng.randint(0, 30)))
             gap = rng.choice((0, 0, 1, rng.randint(0, 9)))
-            if self.odds(0.8) and X + gap + 4 + m <= len(image):
+            new = model.message(image, rng.choice((b'a', b'a', b'd')), self.stuff(m))
+            if self.odds(0.8) and X + gap + len(new) <= len(image):
                 X += gap
-                image[X:X + 4 + m] = rng.choice((b'a', b'a', b'd')) + m.to_bytes(3, 'big') + self.stuff(m)
+                image[X:X + len(new)] = new
                 model.set_offset(image, slot, X)
-                X += 4 + m
+                X += len(new)
         X = min(len(image), X + rng.choice((0, 0, 1, rng.randint(0, 4096), len(image))))
         model.put(image, model.C_AT, len(slots))
         model.put(image, model.X_AT, X)
@@ -188,7 +191,7 @@ class Chance:
         letters = rng.choice((b'\0\1', b'\1\2', b'\0\1\2\3', bytes(range(256))))
         X = rng.choice((h.D, len(image), rng.randint(h.D, len(image)), min(len(image), h.D + rng.randint(0, 60))))
         for slot in range(h.N):
-            offset = rng.choice((0, self.near(h.D, X, X - 4), min(X, h.D + rng.randint(0, 50)), rng.randint(h.D, X),
+            offset = rng.choice((0, self.near(h.D, X, X - 4, X - 5), min(X, h.D + rng.randint(0, 50)), rng.randint(h.D, X),
                                  rng.randrange(2 ** 32)))
             at = model.slot_at(h, slot)
             key = bytes(rng.choices(letters, k=h.K)) if self.odds(0.7) else rng.choice(self.pool)
@@ -206,6 +209,9 @@ class Chance:
         rng = self.rng
         if self.odds(0.25):
             image[rng.randrange(8)] = rng.choice((0, 1, 2, 3, 255, rng.randrange(256)))
+            return
+        if self.odds(0.1):
+            image[5:8] = rng.choice((b'\2\0\0', b'\2\0\1', b'\2\0\2', b'\2\1\0', b'\3\0\0', b'\1\0\3', b'\0\0\0'))
             return
         at = rng.choice((8, 12, 16, 20, 24, 28, 32, 36, 40, 44, 48, 52, 56))
         old = self.model.get(image, at)
@@ -242,6 +248,11 @@ class Chance:
         """Slots with offsets that pass 11, and the offsets."""
         return [(slot, offset) for slot, _, offset in self.model.taken_slots(image) if offset and self.model.message_passes(image, offset)]
 
+    def set_length(self, image, at, m):
+        """A length in a message's header, the largest that it can tell if m is above that."""
+        size = self.model.header_size(image) - 1
+        image[at + 1:at + 1 + size] = min(256 ** size - 1, m).to_bytes(size, 'big')
+
     def damage_messages(self, image):
         rng, model = self.rng, self.model
         h = model.head(image)
@@ -255,7 +266,8 @@ class Chance:
             image[at] = rng.choice((ord('a'), ord('d'), 0, ord('A'), rng.randrange(256)))
         else:
             m = model.length_at(image, at)
-            image[at + 1:at + 4] = min(0xFFFFFF, self.near(0, m, m + 4, h.X - at - 4, len(image) - at - 4, 0xFFFFFF)).to_bytes(3, 'big')
+            self.set_length(image, at, self.near(0, m, m + 4, h.X - at - 4, h.X - at - 5, len(image) - at - 4, 0xFFFFFF,
+                                                 m | 0x1000000, m | 0x80000000, 0xFFFFFFFF))
 
     def splice(self, image):
         """Leads one point into the bytes of another, or up to them."""
@@ -274,16 +286,18 @@ class Chance:
             return
         h = model.head(image)
         m = model.length_at(image, other)
+        header = model.header_size(image)
         if kind == 1:  # a header inside of the other's message
-            at = other + rng.randint(1, 4 + m)
+            at = other + rng.randint(1, header + m)
             model.set_offset(image, slot, at)
         elif kind == 2:  # one that begins before the other
             at = max(h.D, other - rng.randint(1, 9))
             model.set_offset(image, slot, at)
         # its end at the beginning of the other or a byte behind, or anywhere
-        end = max(at + 4, rng.choice((other, other + 1, other + 1, self.near(other + 4 + m, h.X))))
-        if end <= len(image) and at + 4 <= len(image):
-            image[at:at + 4] = rng.choice((b'a', b'd')) + min(0xFFFFFF, end - at - 4).to_bytes(3, 'big')
+        end = max(at + header, rng.choice((other, other + 1, other + 1, self.near(other + header + m, h.X))))
+        if end <= len(image) and at + header <= len(image):
+            image[at:at + 1] = rng.choice((b'a', b'd'))
+            self.set_length(image, at, end - at - header)
 
     def wrong_length(self, image):
         rng = self.rng
@@ -295,14 +309,14 @@ class Chance:
     def data(self, image, key):
         """Data of a length that matters to this key in this image, as far as there is one."""
         rng, model = self.rng, self.model
-        if self.odds(0.008):
+        if self.odds(0.013):
             return rng.choice(LONG)
         if self.odds(0.15):
             return b''
         lengths = [1, 3, rng.randint(0, 20), rng.randint(0, 20)]
         if model.opening(image) == 0 and self.odds(0.5):
             _, _, length = model.lookup(image, key)
-            room = len(image) - model.head(image).X - 4  # what fills the image to its last byte
+            room = len(image) - model.head(image).X - model.header_size(image)  # what fills the image to its last byte
             lengths = [room, room - length] if self.odds(0.15) else [*lengths, length, length, length // 2]
         n = self.near(*lengths)
         return self.stuff(n if n < 200_000 else 5)
@@ -380,7 +394,7 @@ class Chance:
 
     def records(self):
         rng = self.rng
-        if self.odds(0.006):
+        if self.odds(0.01):
             return rng.choice(LONG), 1
         width = rng.choice((1, 2, 3, 5, 63, 64, rng.randint(1, 64)))
         records = self.stuff(width * rng.choice((0, 1, 2, 3, rng.randint(0, 9))))
@@ -416,6 +430,19 @@ class Chance:
         name = key[:-4] if self.odds(0.95) else key[:rng.randint(0, len(key))]
         own = int.from_bytes(key[-4:], 'big')
         return name, rng.choice((self.near(own) % 2 ** 32, rng.randint(0, 8), 2 ** 32 - 1, rng.randrange(2 ** 32)))
+
+    def target(self, image):
+        """A slice for a conversion: as long as the messages need, a page less, or anything."""
+        rng, model = self.rng, self.model
+        n = len(image)
+        if model.check(image)[:2] == (0, model.SOUND) and self.odds(0.6):
+            n = (model.converted_end(image) + 4095) // 4096 * 4096
+            n = rng.choice((n, n, n, n - 4096, n + 4096))
+        elif model.opening(image) == 0 and self.odds(0.4):
+            n = rng.choice((4096, model.head(image).D, model.head(image).D - 4096))
+        if self.odds(0.05):
+            n = rng.choice((0, 1, 4095, 4097, n + 1, n - 1))
+        return self.stuff(max(0, n))
 
     def create_args(self, image):
         rng = self.rng
@@ -457,6 +484,8 @@ class Chance:
         if name == 'read_columns':
             key = self.key(image)
             return image, key, self.out(image, key)
+        if name == 'convert':
+            return image, self.target(image)
         if name == 'select':
             return (image, *self.ranges(image))
         if name == 'at_epoch':

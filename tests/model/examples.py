@@ -138,6 +138,33 @@ def by_column():
             assert file.columns(records, width) == image[at:at + length]
 
 
+def widened():
+    # Job 11: "Points, texts and each point's slot are equal before and after, as are scramble and header but for version, X and M; space is
+    # compacted as in Job 2, all other bytes are zero."
+    image, book = fresh(1, 4, 8192), Book(1, 4, 8192)
+    for key, data, mode in ((b'\1', b'first', 1), (b'\2', b'second', 1), (b'\3', b'', 1), (b'\1', b'longer', 2), (b'\2', b'', 4)):
+        assert file.add(image, key, data, mode) == book.add(key, data, mode) == (0,)
+    image[file.slot_at(file.head(image), 2) + 1] = 7  # an offset byte of the empty slot
+    image[60] = image[511] = image[2047] = image[4095] = 9
+    before, target = bytes(image), bytearray(b'\xEE' * 8192)
+    assert file.convert(image, target) == book.convert(8192) == (0,) and image == before
+    # Slots 3, 0 and 1 have 1, 2 and 3. The note of 3 stood before the second text of 1.
+    assert target[4096:4112] == b'a\0\0\0\0a\0\0\0\6longer' and not any(target[4112:])
+    assert target[2048:2068] == b'\2\0\0\0\0\3\0\0\x10\0\0\0\0\0\0\1\0\0\x10\5'
+    assert not any(target[2068:4096]) and not any(target[60:512]) and not any(target[512 + 4 * 95:2048])
+    assert target[512:512 + 4 * 95] == image[512:512 + 4 * 95] and target[8:52] == image[8:52]
+    assert target[:8] == b'BHTFv\2\0\0' and file.get(target, 52) == 4112 and file.get(target, 56) == 0 and book.U == 16
+    # "its version bytes never change"; 5 where there was 4.
+    assert file.add(target, b'\2', b'', 2) == book.add(b'\2', b'', 2) == (0,) and target[5:8] == b'\2\0\0' and book.U == 21
+    for m, number in ((4096 - 21 - 5 + 1, 13), (4096 - 21 - 5, 0)):
+        assert file.add(target, b'\x20', bytes(m), 1) == book.add(b'\x20', bytes(m), 1) == (number,)
+    # A target of 4,096 bytes has no room; one page more than needed has.
+    assert file.convert(target, bytearray(4096)) == book.convert(4096) == (13,)
+    back = bytearray(12288)
+    assert file.convert(target, back) == book.convert(12288) == (0,) and back[5:8] == b'\1\0\2'
+    assert file.head(back).X - 4096 == book.U == 4096 - 4 and file.get(back, 56) == 0
+
+
 def half_legible():
     # Job 13: "equal bounds everywhere give what lookup finds on a sound image".
     image, out = fresh(2, 8, 8192), bytearray(32)
@@ -161,4 +188,4 @@ def epochs():
 
 
 EXAMPLES = [data_offsets, last_pages, hashes, four_slots, three_slots, room, replacing, zero_key, listing, fnv_1, recovered, refreshed,
-            by_column, half_legible, epochs]
+            by_column, widened, half_legible, epochs]

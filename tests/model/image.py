@@ -24,7 +24,9 @@ Readings, where the documents are open:
     may stand at L.
 11. Job 10: "W from the first stored byte, 0 if none" makes W = 0, out of range, and so 19, of no message and of an empty one.
 12. Job 13: a list that can't hold N slot numbers is 16 also where fewer are found.
-13. Job 14: 7 asks the length alone of a name, so that a name of zeros may be asked for. Epochs are unsigned. The entry is any taken slot,
+13. Job 11: 1 is put to both slices before the source's 5. 13 is D and the messages with their headers against the target's length, since a
+    target may be shorter than D. Only active messages are asked 20 and carried. M is by its formula.
+14. Job 14: 7 asks the length alone of a name, so that a name of zeros may be asked for. Epochs are unsigned. The entry is any taken slot,
     found by its search or not.
 """
 
@@ -36,6 +38,7 @@ PAGE = 4096
 LONGEST_IMAGE = 1_073_741_824  # Job 5: "Images may be up to 1,073,741,824 bytes
 MOST_SLOTS = 1_048_576         # and N up to 1,048,576. Questions 1, 3 and 6 take the new limits."
 LONGEST_MESSAGE = 16_777_215   # 01, question 12
+LONGEST_OF_2 = 1_073_741_823   # Job 11: "On a 2.0 image .. question 12's bound is 1,073,741,823"
 SCRAMBLE = 512                 # 01: "40 scramble offset, 512; 44 table offset, 2,048"
 TABLE = 2048
 CUT = 2 ** 32                  # 01: "cut to 32 bits"
@@ -91,8 +94,9 @@ def question_1(length):
 
 
 def question_5(image):
-    # 01: "Are the first 5 bytes "BHTFv", the next two 1 and 0, the next at most 1?" Job 4: "question 5 accepts up to 2".
-    return image[:5] == b'BHTFv' and image[5:7] == b'\1\0' and image[7] <= 2
+    # 01: "Are the first 5 bytes "BHTFv", the next two 1 and 0, the next at most 1?" Job 4: "question 5 accepts up to 2". Job 11: "Question 5
+    # takes 2, 0, 0 too".
+    return image[:5] == b'BHTFv' and image[5:8] in (b'\1\0\0', b'\1\0\1', b'\1\0\2', b'\2\0\0')
 
 
 def question_6(image):
@@ -215,9 +219,23 @@ def set_offset(image, slot, offset):
 
 # ---- messages ----
 
+def header_size(image):
+    # 01: "points at "a" (active) or "d" (inactive), a 3-byte length m". Job 11: "Version 2.0.0 has message headers of a letter and 4 bytes".
+    return 5 if image[5] == 2 else 4
+
+
+def longest_message(image):
+    return LONGEST_OF_2 if image[5] == 2 else LONGEST_MESSAGE
+
+
 def length_at(image, offset):
-    # 01: "a 3-byte length m (most significant byte first)".
-    return int.from_bytes(image[offset + 1:offset + 4], 'big')
+    # 01: a length m "(most significant byte first)".
+    return int.from_bytes(image[offset + 1:offset + header_size(image)], 'big')
+
+
+def message(image, letter, text):
+    # The bytes of a message as the image's version has them.
+    return letter + len(text).to_bytes(header_size(image) - 1, 'big') + text
 
 
 def message_passes(image, offset):
@@ -226,9 +244,10 @@ def message_passes(image, offset):
     if offset == 0:
         return True
     h = head(image)
-    if offset < h.D or offset + 4 > h.X:
+    text_start = offset + header_size(image)
+    if offset < h.D or text_start > h.X:
         return False
-    return image[offset] in b'ad' and offset + 4 + length_at(image, offset) <= h.X
+    return image[offset] in b'ad' and text_start + length_at(image, offset) <= h.X
 
 
 def text_at(image, offset):
@@ -236,13 +255,16 @@ def text_at(image, offset):
     # points at "a" (active) or "d" (inactive)".
     if offset == 0 or image[offset] != ord('a'):
         return None
-    return bytes(image[offset + 4:offset + 4 + length_at(image, offset)])
+    text_start = offset + header_size(image)
+    return bytes(image[text_start:text_start + length_at(image, offset)])
 
 
 def write_active(image, offset, data):
-    image[offset:offset + 4 + len(data)] = b'a' + len(data).to_bytes(3, 'big') + data
-    # Job 4: "Version bytes become 1, 0, 2 .. at the first empty message stored". They were 1, 0 and at most 2 (question 5).
-    if len(data) == 0:
+    written = message(image, b'a', data)
+    image[offset:offset + len(written)] = written
+    # Job 4: "Version bytes become 1, 0, 2 .. at the first empty message stored". They were 1, 0 and at most 2 (question 5); or 2.0.0, of
+    # which Job 11 says: "its version bytes never change".
+    if len(data) == 0 and image[5] == 1:
         image[7] = 2
 
 
@@ -295,9 +317,10 @@ def add_slots(image, key, data, mode):
         in_place = offset != 0 and len(data) <= length_at(image, offset)
         needs = None if in_place else len(data)
 
-    if needs is not None and needs > LONGEST_MESSAGE:  # "12. Is the message to be placed in new space at most 16,777,215 bytes?"
+    header = header_size(image)
+    if needs is not None and needs > longest_message(image):  # "12. Is the message to be placed in new space at most 16,777,215 bytes?"
         return 12, read
-    if needs is not None and h.X + 4 + needs > len(image):  # "13. Does that space end at or below L?"
+    if needs is not None and h.X + header + needs > len(image):  # "13. Does that space end at or below L?"
         return 13, read
 
     if not present:
@@ -311,13 +334,14 @@ def add_slots(image, key, data, mode):
     elif in_place:
         rest = length_at(image, offset) - len(data)
         write_active(image, offset, data)
-        image[offset + 4 + len(data):offset + 4 + len(data) + rest] = bytes(rest)
+        end = offset + header + len(data)
+        image[end:end + rest] = bytes(rest)
     elif needs is not None:
-        # "New space for m bytes is taken at X, and X grows by 4 + m."
+        # "New space for m bytes is taken at X, and X grows by 4 + m." Job 11: the header's size "where it added 4".
         withdraw(image, offset)
         write_active(image, h.X, (text or b'') + data if mode == 3 else data)
         set_offset(image, slot, h.X)
-        set_next_free(image, h.X + 4 + needs)
+        set_next_free(image, h.X + header + needs)
     return 0, read
 
 
@@ -382,7 +406,7 @@ def lookup_slots(image, key):
 
 def shown(image, offset):
     text = text_at(image, offset)
-    return (0, 0) if text is None else (offset + 4, len(text))
+    return (0, 0) if text is None else (offset + header_size(image), len(text))
 
 
 def count(image):
@@ -418,7 +442,7 @@ def check(image):
         # Job 1: "a taken slot with an offset other than 0 also fails the check when its stretch, from its header to the end of its
         # message, meets the stretch of a lower-numbered taken slot".
         if offset != 0:
-            end = offset + 4 + length_at(image, offset)
+            end = offset + header_size(image) + length_at(image, offset)
             if 1 in below[offset:end]:
                 return 0, SLOT_FAILS, slot
             below[offset:end] = b'\1' * (end - offset)
@@ -461,8 +485,9 @@ def compact(image):
     X = head(image).D
     for _, slot, text in sorted(kept):
         set_offset(image, slot, X)
-        image[X:X + 4 + len(text)] = b'a' + len(text).to_bytes(3, 'big') + text
-        X += 4 + len(text)
+        moved = message(image, b'a', text)
+        image[X:X + len(moved)] = moved
+        X += len(moved)
     image[X:] = bytes(len(image) - X)
     set_next_free(image, X)
     return (0,)
@@ -621,6 +646,58 @@ def read_columns(image, key, out):
         return 19, 0
     out[:len(records)] = records
     return 0, len(records)
+
+
+# ---- Job 11: scans longer than sixteen MiB ----
+
+def active_messages(image):
+    # "in the order of their offsets" (Job 2): the offset, slot and text of each active message of a point.
+    texts = ((offset, slot, text_at(image, offset)) for slot, _, offset in taken_slots(image))
+    return sorted(one for one in texts if one[2] is not None)
+
+
+def converted_end(image):
+    # Where the messages of a sound image end in the other version: D, and each with its other header, "compacted as in Job 2".
+    other = 9 - header_size(image)
+    return head(image).D + sum(other + len(text) for _, _, text in active_messages(image))
+
+
+def convert(source, target):
+    # "The converter puts 1 to both slices, 5 and 6, then 15 if unsound, 20 on narrowing an active message above 16,777,215 bytes, and 13 for
+    # a target too small; accepted, it answers 0."
+    if not question_1(len(source)) or not question_1(len(target)):
+        return (1,)
+    number, verdict, _ = check(source)
+    if number:
+        return (number,)
+    if verdict != SOUND:
+        return (15,)
+    narrows = header_size(source) == 5
+    if narrows and any(len(text) > LONGEST_MESSAGE for _, _, text in active_messages(source)):
+        return (20,)
+    X = converted_end(source)
+    if X > len(target):
+        return (13,)
+    # "Points, texts and each point's slot are equal before and after, as are scramble and header but for version, X and M; .. all other
+    # bytes are zero." It carries the image "as the other version (2.0.0 or 1.0.2)".
+    h = head(source)
+    target[:] = bytes(len(target))
+    target[:X_AT] = source[:X_AT]
+    target[5:8] = b'\1\0\2' if narrows else b'\2\0\0'
+    scramble_end = SCRAMBLE + 4 * (h.E - h.F + 1)
+    target[SCRAMBLE:scramble_end] = source[SCRAMBLE:scramble_end]
+    for slot, key, _ in taken_slots(source):
+        at = slot_at(h, slot)
+        target[at:at + h.K] = key
+    at = h.D
+    for _, slot, text in active_messages(source):
+        carried = message(target, b'a', text)
+        target[at:at + len(carried)] = carried
+        set_offset(target, slot, at)
+        at += len(carried)
+    put(target, X_AT, X)
+    put(target, M_AT, last_page(X, h.D))
+    return (0,)
 
 
 # ---- Job 13: plates that are half legible ----

@@ -18,11 +18,12 @@ CALLS = {
     'add_listed': ('MrruwM', 1), 'delete_listed': ('MrwM', 1), 'compact_listed': ('MwM', 1),
     'add_journaled': ('MrruwM', 0), 'delete_journaled': ('MrwM', 0), 'compact_journaled': ('MwM', 0), 'recover': ('MM', 0),
     'store_columns': ('Mrru', 0), 'read_columns': ('rrM', 1),
+    'convert': ('rM', 0),
     'select': ('rrrM', 1),
     'at_epoch': ('rru', 3),
 }
-# Calls that a library may not have yet: Jobs 10, 13 and 14.
-LATER = ('store_columns', 'read_columns', 'select', 'at_epoch')
+# Calls that a library may not have yet: Jobs 10, 11, 13 and 14.
+LATER = ('store_columns', 'read_columns', 'convert', 'select', 'at_epoch')
 
 GUARD = 64
 GUARD_BYTES = bytes(0x5A ^ i for i in range(GUARD))

@@ -38,7 +38,7 @@ PLAIN = {'add': (7, 8, 14, 9, 10, 11, 12, 13), 'delete': (7, 14, 11), 'compact':
 NUMBERS = {'create': (0, 1, 2, 3, 4), 'count': (0, *OPEN), 'walk': (0, *OPEN), 'check': (0, *OPEN), 'recover': (0, 18),
            'lookup': (0, *OPEN, 7, 14, 11), 'lookup_slots': (0, *OPEN, 7, 14, 11),
            'store_columns': (0, *OPEN, 7, 19, 10, 11, 12, 13), 'read_columns': (0, *OPEN, 7, 14, 11, 19),
-           'select': (0, *OPEN, 22, 16), 'at_epoch': (0, *OPEN, 23, 7, 14, 11)}
+           'convert': (0, *OPEN, 15, 13), 'select': (0, *OPEN, 22, 16), 'at_epoch': (0, *OPEN, 23, 7, 14, 11)}
 for base, own in PLAIN.items():
     NUMBERS[base] = NUMBERS[base + '_slots'] = (0, *OPEN, *own)
     NUMBERS[base + '_listed'] = (0, 16, *OPEN, *own)
@@ -48,7 +48,8 @@ CALL_FLOOR = 25     # calls of one name on images of one kind
 NUMBER_FLOOR = 3    # calls of one name that answered one number
 BOOK_FLOOR = 100    # calls of one name beside the book
 LONG_FLOOR = 50     # calls with long slices
-LARGE_FLOOR = 5     # calls on a large table
+LARGE_FLOOR = 6     # calls on a large table
+LONG_TEXT_FLOOR = 8 # calls with texts around version 1's longest
 DIFFERENCES = 5     # after as many the run ends
 FAULT_CALLS = 60_000  # in as many a fault must be found
 
@@ -113,6 +114,13 @@ def first_differences(one, other):
         if places:
             lines.append(f'  slice {n}: ' + ', '.join(f'byte {i} is {a[i]:02x}, not {b[i]:02x}' for i in places))
     return lines
+
+
+def going_on(name, image, answers, after):
+    """The image with which a list goes on. Job 11: "Lists of calls may contain it and go on in the target"."""
+    if name == 'convert':
+        return after[0] if answers[0] == 0 else image
+    return after[0] if CALLS[name][0][0] == 'M' else image
 
 
 def zero_stretches(content, holds):
@@ -224,6 +232,8 @@ class Run:
             return answers, book.count()
         if name == 'check':  # Job 2: "Sound" of every image that these calls made of a sound one, or compaction would not be the book's
             return answers, (0, self.image.SOUND, 0)
+        if name == 'convert':
+            return (number,), book.convert(len(args[1]))
         if name == 'store_columns':
             return (number,), book.store_columns(*args[1:])
         if name == 'read_columns':
@@ -263,8 +273,7 @@ class Run:
             pair = self.book_step(book, name, args, answers, after)
             if pair and pair[0] != pair[1]:
                 return calls[:n + 1], pair
-            if CALLS[name][0][0] == 'M':
-                image = after[0]
+            image = going_on(name, image, answers, after)
         pair = self.closing(book, image)
         return None if pair[0] == pair[1] else (calls, pair)
 
@@ -325,8 +334,7 @@ class Run:
                 read = answers[-1]
                 if not (read == 0 if answers[0] in (7, 8) else 1 <= read <= min(before.N, before.C + 1)):
                     raise Difference('slots read within the bound', [*sparse(image), *call_lines(name, args), f'  library: {answers}'])
-            if CALLS[name][0][0] == 'M':
-                image = after[0]
+            image = going_on(name, image, answers, after)
             if rng.random() < 0.03:
                 self.cut(kind, draw, image)
         self.seen['closing clause'] += 1
@@ -344,7 +352,7 @@ class Run:
         for key in draw.pool:
             if model.head(image).C < h.N - rng.choice((0, 1)) and any(key):
                 model.add(image, key, draw.stuff(rng.randint(0, 9)), 2)
-        room = len(image) - model.head(image).X - 4
+        room = len(image) - model.head(image).X - model.header_size(image)
         if room > 0 and draw.odds(0.7):
             model.add(image, rng.choice(draw.pool), draw.stuff(max(0, room - rng.choice((0, 3, 4, 5, rng.randint(0, 40))))), 3)
         return image
@@ -405,8 +413,8 @@ class Run:
                     image = draw.wrong_length(image)
             name = 'check' if kind == 'spliced' and draw.odds(0.3) else rng.choices(self.names, self.weights)[0]
             answers, after = self.beside(kind, name, draw.call(name, image))
-            if CALLS[name][0][0] == 'M' and name != 'create':
-                image = after[0]
+            if name != 'create':
+                image = going_on(name, image, answers, after)
 
     def longest(self):
         """Slices of a length at Job 5's limit, or above 32 bits, where what is cut to 32 bits would pass. Little of them is touched."""
@@ -460,6 +468,12 @@ class Run:
             ('store_columns', lambda: (image, long(FOUR + 6, key), b'ab', 2)),
             ('read_columns', lambda: (image, key, long(FOUR + 1))),
             ('read_columns', lambda: (image, long(FOUR + 6, key), bytes(9))),
+            ('convert', lambda: (image, long(FOUR + 8192))),
+            ('convert', lambda: (long(FOUR + 8192, image), bytes(8192))),
+            ('convert', lambda: (image, long(GIB + 4096))),
+            ('convert', lambda: (long(GIB + 4096, image), bytes(8192))),
+            ('convert', lambda: (image[:20] + b'\0\0\0\2' + image[24:], long(GIB))),
+            ('convert', lambda: (long(GIB), bytes(8192))),
             ('select', lambda: (image, bytes(6), b'\xff' * 6, long(FOUR + 1))),
             ('select', lambda: (image, long(FOUR + 6), b'\xff' * 6, bytes(32))),
             ('select', lambda: (image, bytes(6), long(FOUR + 6), bytes(32))),
@@ -504,19 +518,42 @@ class Run:
             X += 4 + m
         model.put(image, model.X_AT, X)
         model.put(image, model.C_AT, texts)
-        cases = [('check', (image,)), ('compact_listed', (image, bytes(len(image)), bytes(4 * len(image))))]
+        cases = [('check', (image,)), ('compact_listed', (image, bytes(len(image)), bytes(4 * len(image)))),
+                 ('convert', (image, b'\xC3' * (len(image) + 4096)))]
         for _ in range(3):
             spliced = bytearray(image)
             one, other = rng.sample(slots, 2)
             model.set_offset(spliced, one, model.offset_in(image, other))
             cases.append(('check', (spliced,)))
         for name, args in cases:
-            self.seen['large table'] += 1
-            self.calls += 1
-            mine, its = self.both(name, (bytes(args[0]), *args[1:]))
-            if mine != its:
-                raise Difference('large table', [f'{name}, --large --seed {seed}', f'  library: {mine[0]}', f'  model:   {its[0]}',
-                                                 *first_differences(mine[1], its[1])])
+            self.one_of('large table', name, args, seed)
+
+    def one_of(self, group, name, args, seed):
+        """A call on large arguments; what it answered, and what it left."""
+        self.seen[group] += 1
+        self.calls += 1
+        mine, its = self.both(name, (bytes(args[0]), *args[1:]))
+        if mine != its:
+            raise Difference(group, [f'{name}, --large --seed {seed}', f'  library: {mine[0]}', f'  model:   {its[0]}',
+                                     *first_differences(mine[1], its[1])])
+        return mine
+
+    def long_texts(self, seed):
+        """Texts of 16,777,215 and 16,777,216 bytes in version 2.0.0, as active messages and as inactive ones: 20 of a conversion."""
+        model, group = self.drawing, 'long texts'
+        for m in (16_777_215, 16_777_216):
+            image = bytearray(8192 + 4096 * 4098)
+            model.create(image, 1, 8, seed % 2 ** 32)
+            image[5:8] = b'\2\0\0'
+            model.add(image, b'A', b'first', 1)
+            _, (image,) = self.one_of(group, 'add', (image, b'B', bytes(m), 1), seed)
+            one, _ = self.one_of(group, 'convert', (image, bytes(len(image))), seed)
+            small, _ = self.one_of(group, 'convert', (image, bytes(8192)), seed)
+            _, (image,) = self.one_of(group, 'add', (image, b'B', b'', 4), seed)
+            withdrawn, _ = self.one_of(group, 'convert', (image, bytes(8192)), seed)
+            expected = ((0,), (13,), (0,)) if m == 16_777_215 else ((20,), (20,), (0,))
+            if (one, small, withdrawn) != expected:
+                raise Difference(group, [f'{m} bytes: {one}, {small}, withdrawn {withdrawn}, not {expected}'])
 
     def play(self, seed, n):
         """List n of a seed."""
@@ -553,7 +590,7 @@ class Run:
         for name in self.names:
             numbers = sorted(int(key.split()[-1]) for key in self.seen if key.startswith(name + ' answers '))
             print(f'{name} answered ' + ', '.join(f'{number}: {self.seen[f"{name} answers {number}"]}' for number in numbers))
-        for other in ('closing clause', 'cut and recovered', 'slots read within the bound', 'long slices', 'large table'):
+        for other in ('closing clause', 'cut and recovered', 'slots read within the bound', 'long slices', 'large table', 'long texts'):
             print(f'{other}: {self.seen[other]}')
 
 
@@ -610,8 +647,9 @@ def full_run(library, options):
         floors = run.floors()
         attempt(run, options, run.longest)
         if options.large:
-            floors['large table'] = LARGE_FLOOR
+            floors.update({'large table': LARGE_FLOOR, 'long texts': LONG_TEXT_FLOOR})
             attempt(run, options, lambda: run.large(options.seed))
+            attempt(run, options, lambda: run.long_texts(options.seed))
         play_lists(run, options)
     run.table()
     print(f'seed {options.seed}: {run.lists} lists, {run.calls} calls in {time.monotonic() - begun:.0f} s, '

@@ -4,7 +4,8 @@
 #include <stdlib.h>
 #include <string.h>
 
-#define LONGEST 16777215u
+#define LONGEST 16777215u        /* text of version 1 */
+#define LONGEST_OF_2 1073741823u /* of version 2.0.0 */
 
 static void *must(void *memory)
 {
@@ -13,17 +14,23 @@ static void *must(void *memory)
     return memory;
 }
 
+/* What table and header take. */
+static uint64_t data_offset(const struct book *b)
+{
+    uint64_t end = 2048 + (uint64_t)b->slots * (b->key_size + 4);
+
+    return (end + 4095) / 4096 * 4096;
+}
+
 void book_open(struct book *b, size_t image_len, uint32_t key_size,
                uint32_t slots)
 {
-    uint64_t data;
-
     memset(b, 0, sizeof *b);
     b->key_size = key_size;
     b->slots = slots == 0 ? 5507 : slots;
-    data = 2048 + (uint64_t)b->slots * (key_size + 4);
-    data = (data + 4095) / 4096 * 4096;
-    b->room = image_len - data;
+    b->header = 4;
+    b->longest = LONGEST;
+    b->room = image_len - data_offset(b);
 }
 
 void book_close(struct book *b)
@@ -72,9 +79,9 @@ static struct entry *new_entry(struct book *b, const uint8_t *key)
 /* Questions 12 and 13 for t bytes of new space. */
 static uint32_t ask_space(const struct book *b, uint64_t t)
 {
-    if (t > LONGEST)
+    if (t > b->longest)
         return 12;
-    return b->used + 4 + t > b->room ? 13 : 0;
+    return b->used + b->header + t > b->room ? 13 : 0;
 }
 
 /* The text becomes its first kept bytes and the data behind them. */
@@ -100,7 +107,7 @@ static uint32_t set_in_new_space(struct book *b, struct entry *e,
     set_text(e, kept, data, m);
     e->held = e->length;
     e->placed = 1;
-    b->used += 4 + (uint64_t)e->length;
+    b->used += b->header + (uint64_t)e->length;
     return 0;
 }
 
@@ -142,13 +149,15 @@ static uint32_t number_at(const uint8_t *at)
            (uint32_t)at[2] << 8 | at[3];
 }
 
-/* The message at an offset other than 0. */
-static void read_message(struct entry *e, const uint8_t *at)
+/* The message at an offset other than 0: a letter and a length of 3 bytes, or
+ * 4. */
+static void read_message(const struct book *b, struct entry *e,
+                         const uint8_t *at)
 {
     e->placed = 1;
-    e->held = number_at(at) & 0xFFFFFF;
+    e->held = b->header == 4 ? number_at(at) & 0xFFFFFF : number_at(at + 1);
     if (at[0] == 'a')
-        set_text(e, 0, at + 4, e->held);
+        set_text(e, 0, at + b->header, e->held);
 }
 
 void book_read(struct book *b, const uint8_t *image, size_t image_len)
@@ -158,6 +167,8 @@ void book_read(struct book *b, const uint8_t *image, size_t image_len)
     memset(b, 0, sizeof *b);
     b->key_size = number_at(image + 12);
     b->slots = number_at(image + 16);
+    b->header = image[5] == 2 ? 5 : 4;
+    b->longest = image[5] == 2 ? LONGEST_OF_2 : LONGEST;
     b->used = number_at(image + 52) - data;
     b->room = image_len - data;
     for (uint32_t i = 0; i < b->slots; i++) {
@@ -169,7 +180,7 @@ void book_read(struct book *b, const uint8_t *image, size_t image_len)
             continue;
         e = new_entry(b, slot);
         if (offset != 0)
-            read_message(e, image + offset);
+            read_message(b, e, image + offset);
     }
 }
 
@@ -240,7 +251,7 @@ static int has_columns(uint32_t width, size_t size)
     return 1 <= width && width <= 64 && size % width == 0;
 }
 
-/* Column after column; what is too long for a message is not made. */
+/* Column after column; what is too long for the file is not made. */
 uint32_t book_store_columns(struct book *b, const uint8_t *key, size_t key_len,
                             const uint8_t *records, size_t records_len,
                             uint32_t width)
@@ -251,8 +262,8 @@ uint32_t book_store_columns(struct book *b, const uint8_t *key, size_t key_len,
         return 7;
     if (!has_columns(width, records_len))
         return 19;
-    if (records_len > LONGEST)
-        return book_add(b, key, key_len, NULL, records_len, 2);
+    if (records_len > b->room)
+        return book_add(b, key, key_len, NULL, 1 + records_len, 2);
     count = records_len / width;
     b->scratch = must(realloc(b->scratch, 1 + records_len));
     b->scratch[0] = (uint8_t)width;
@@ -352,8 +363,45 @@ void book_compact(struct book *b)
         e->placed = e->noted;
         e->held = e->noted ? e->length : 0;
         if (e->noted)
-            b->used += 4 + (uint64_t)e->held;
+            b->used += b->header + (uint64_t)e->held;
     }
+}
+
+/* Questions 20 and 13 of a target of that length, for headers of that size and
+ * texts up to the longest. */
+static uint32_t ask_target(const struct book *b, size_t target_len,
+                           uint32_t header, uint32_t longest)
+{
+    uint64_t end = data_offset(b);
+
+    for (uint32_t i = 0; i < b->count; i++) {
+        const struct entry *e = &b->entries[i];
+
+        if (e->noted && e->length > longest)
+            return 20;
+        end += e->noted ? header + (uint64_t)e->length : 0;
+    }
+    return end > target_len ? 13 : 0;
+}
+
+uint32_t book_convert(struct book *b, size_t target_len)
+{
+    int narrows = b->header == 5;
+    uint32_t header = narrows ? 4 : 5;
+    uint32_t longest = narrows ? LONGEST : LONGEST_OF_2;
+    uint32_t answer;
+
+    if (target_len % 4096 != 0 || target_len < 4096 ||
+        target_len > 1073741824u)
+        return 1;
+    answer = ask_target(b, target_len, header, longest);
+    if (answer != 0)
+        return answer;
+    b->header = header;
+    b->longest = longest;
+    b->room = target_len - data_offset(b);
+    book_compact(b);
+    return 0;
 }
 
 uint32_t book_ask_listed(size_t image_len, size_t work_len, size_t list_len)

@@ -18,6 +18,8 @@ struct entry {
 struct book {
     uint32_t key_size;
     uint32_t slots;
+    uint32_t header;  /* bytes of a message's header: 4, or 5 in 2.0 */
+    uint32_t longest; /* text */
     uint64_t used; /* U */
     uint64_t room; /* R */
     struct entry *entries;
@@ -69,6 +71,10 @@ uint32_t book_at_epoch(const struct book *b, const uint8_t *name,
 
 /* The step of compaction. */
 void book_compact(struct book *b);
+
+/* The same with the other version's header size and longest text, and with the
+ * target's room: the target's 1, then 20 and 13. */
+uint32_t book_convert(struct book *b, size_t target_len);
 
 /* Question 16 of the forms with a list and by way of a journal, put before the
  * call's other ones. */

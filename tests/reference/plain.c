@@ -15,7 +15,9 @@
 #define KEY_MAX 32u
 #define SLOTS_DEFAULT 5507u
 #define MESSAGE_MAX 16777215u
-#define MESSAGE_HEADER 4u
+#define LONG_MESSAGE_MAX 1073741823u /* of version 2.0.0 */
+#define MESSAGE_HEADER 4u /* a letter and the length */
+#define LONG_MESSAGE_HEADER 5u
 #define OFFSET_SIZE 4u
 #define PAIR 8u /* a stretch's offset and length */
 #define PAIR_COUNT 4u /* bytes of it, at a journal's start */
@@ -32,6 +34,7 @@
 
 /* Where the header's numbers stand. */
 enum {
+    AT_VERSION = 5,
     AT_LAST_VERSION = 7,
     AT_KEY_SIZE = 12,
     AT_SLOTS = 16,
@@ -51,10 +54,17 @@ enum { ACCEPTED = 0 };
 enum { MODE_NEW = 1, MODE_REPLACE = 2, MODE_APPEND = 3, MODE_WITHDRAW = 4 };
 enum { NOTES_VERSION = 2 }; /* from 1.0.2 on an empty note is a note */
 
-/* An opened image: the header's numbers, and L. */
+#define VERSION_SIZE 3u
+static const uint8_t version_1[] = { 1, 0, NOTES_VERSION };
+static const uint8_t version_2[] = { 2, 0, 0 };
+
+/* An opened image: the header's numbers, and L; what its version makes of a
+ * message's header and its longest text. */
 struct view {
     const uint8_t *image;
     uint32_t length;
+    uint32_t header_size;
+    uint32_t message_max;
     uint32_t key_size;
     uint32_t slots;
     uint32_t count;
@@ -140,10 +150,19 @@ static int length_fits(size_t length)
     return length % PAGE == 0 && length >= PAGE && length <= IMAGE_MAX;
 }
 
+static int is_version_2(const uint8_t *image)
+{
+    return memcmp(image + AT_VERSION, version_2, VERSION_SIZE) == 0;
+}
+
 /* Question 5. */
 static int version_fits(const uint8_t *image)
 {
-    return memcmp(image, "BHTFv\1\0", AT_LAST_VERSION) == 0 &&
+    if (memcmp(image, "BHTFv", AT_VERSION) != 0)
+        return 0;
+    if (is_version_2(image)) /* no later one of it */
+        return 1;
+    return image[AT_VERSION] == 1 && image[AT_VERSION + 1] == 0 &&
            image[AT_LAST_VERSION] <= NOTES_VERSION;
 }
 
@@ -169,6 +188,10 @@ static int header_fits(const struct view *v)
 
 static void read_header(struct view *v)
 {
+    int is_2 = is_version_2(v->image);
+
+    v->header_size = is_2 ? LONG_MESSAGE_HEADER : MESSAGE_HEADER;
+    v->message_max = is_2 ? LONG_MESSAGE_MAX : MESSAGE_MAX;
     v->key_size = get32(v->image + AT_KEY_SIZE);
     v->slots = get32(v->image + AT_SLOTS);
     v->count = get32(v->image + AT_COUNT);
@@ -324,30 +347,43 @@ static int key_fits(const struct view *v, const uint8_t *key, size_t length)
 
 /* ---- messages ---- */
 
+/* The length in a header of that size, behind its letter. */
+static uint32_t get_length(const uint8_t *header, uint32_t header_size)
+{
+    uint32_t length = 0;
+
+    for (uint32_t i = 1; i < header_size; i++)
+        length = length << 8 | header[i];
+    return length;
+}
+
+static void write_active(uint8_t *header, uint32_t header_size,
+                         uint32_t length)
+{
+    header[0] = 'a';
+    for (uint32_t i = header_size - 1; i > 0; i--, length >>= 8)
+        header[i] = (uint8_t)length;
+}
+
 /* Question 11, the message's part: no message, or a good one. */
 static int read_message(const struct view *v, uint32_t offset,
                         struct message *m)
 {
-    uint32_t header;
+    uint8_t letter;
 
     m->offset = offset;
     m->length = 0;
     m->active = 0;
     if (offset == 0)
         return 1;
-    if (offset < v->data || offset > v->next - MESSAGE_HEADER)
+    if (offset < v->data || offset > v->next - v->header_size)
         return 0;
-    header = get32(v->image + offset);
-    if (header >> 24 != 'a' && header >> 24 != 'd')
+    letter = v->image[offset];
+    if (letter != 'a' && letter != 'd')
         return 0;
-    m->length = header & 0xFFFFFFu;
-    m->active = header >> 24 == 'a';
-    return m->length <= v->next - offset - MESSAGE_HEADER;
-}
-
-static void write_active(uint8_t *image, uint32_t offset, uint32_t length)
-{
-    put32(image + offset, (uint32_t)'a' << 24 | length);
+    m->length = get_length(v->image + offset, v->header_size);
+    m->active = letter == 'a';
+    return m->length <= v->next - offset - v->header_size;
 }
 
 /* An old header, if there is one, becomes inactive. */
@@ -360,9 +396,9 @@ static void retire(uint8_t *image, const struct message *m)
 /* Questions 12 and 13 for kept old bytes and m new ones. */
 static uint32_t ask_room(const struct view *v, uint32_t kept, size_t m)
 {
-    if (m > MESSAGE_MAX || kept + m > MESSAGE_MAX)
+    if (m > v->message_max || kept + m > v->message_max)
         return 12;
-    if (MESSAGE_HEADER + kept + m > v->length - v->next)
+    if (v->header_size + kept + m > v->length - v->next)
         return 13;
     return ACCEPTED;
 }
@@ -373,10 +409,10 @@ static uint32_t place(uint8_t *image, const struct view *v, struct text kept,
 {
     uint32_t offset = v->next;
     uint32_t length = (uint32_t)(kept.length + fresh.length);
-    uint32_t next = offset + MESSAGE_HEADER + length;
-    uint8_t *to = image + offset + MESSAGE_HEADER;
+    uint32_t next = offset + v->header_size + length;
+    uint8_t *to = image + offset + v->header_size;
 
-    write_active(image, offset, length);
+    write_active(image + offset, v->header_size, length);
     copy(to, kept.bytes, kept.length);
     copy(to + kept.length, fresh.bytes, fresh.length);
     put32(image + AT_NEXT, next);
@@ -385,12 +421,12 @@ static uint32_t place(uint8_t *image, const struct view *v, struct text kept,
 }
 
 /* Writes a text that fits over the old message. */
-static void overwrite(uint8_t *image, const struct message *old,
-                      struct text text)
+static void overwrite(uint8_t *image, const struct view *v,
+                      const struct message *old, struct text text)
 {
-    uint8_t *to = image + old->offset + MESSAGE_HEADER;
+    uint8_t *to = image + old->offset + v->header_size;
 
-    write_active(image, old->offset, (uint32_t)text.length);
+    write_active(image + old->offset, v->header_size, (uint32_t)text.length);
     copy(to, text.bytes, text.length);
     memset(to + text.length, 0, old->length - text.length);
 }
@@ -457,7 +493,7 @@ static uint32_t replace(uint8_t *image, const struct view *v, uint32_t slot,
     const struct text none = { NULL, 0 };
 
     if (old->offset != 0 && text.length <= old->length) {
-        overwrite(image, old, text);
+        overwrite(image, v, old, text);
         return ACCEPTED;
     }
     return renew(image, v, slot, old, none, text);
@@ -471,7 +507,7 @@ static uint32_t append(uint8_t *image, const struct view *v, uint32_t slot,
     if (text.length == 0)
         return ACCEPTED;
     if (old->active) {
-        kept.bytes = v->image + old->offset + MESSAGE_HEADER;
+        kept.bytes = v->image + old->offset + v->header_size;
         kept.length = old->length;
     }
     return renew(image, v, slot, old, kept, text);
@@ -499,9 +535,11 @@ static uint32_t add_present(uint8_t *image, const struct view *v,
     return withdraw(image, &old);
 }
 
-/* A file that holds an empty note is of version 1.0.2. */
+/* A file that holds an empty note is of version 1.0.2, or 2.0.0. */
 static void mark_note(uint8_t *image, struct text text, uint32_t mode)
 {
+    if (is_version_2(image)) /* never changes */
+        return;
     if (text.length == 0 && (mode == MODE_NEW || mode == MODE_REPLACE))
         image[AT_LAST_VERSION] = NOTES_VERSION;
 }
@@ -654,7 +692,7 @@ uint32_t plain_lookup_slots(const uint8_t *image, size_t image_len,
     if (!read_message(&v, message_in(&v, slot), &m))
         return 11;
     if (m.active) {
-        *offset = m.offset + MESSAGE_HEADER;
+        *offset = m.offset + v.header_size;
         *length = m.length;
     }
     return ACCEPTED;
@@ -716,10 +754,21 @@ struct stretch {
     uint32_t slot;
 };
 
-static void note(struct stretch *s, uint32_t slot, const struct message *m)
+/* Room for as many messages as there are slots. */
+static struct stretch *new_stretches(const struct view *v)
+{
+    struct stretch *s = malloc(v->slots * sizeof *s);
+
+    if (s == NULL)
+        abort();
+    return s;
+}
+
+static void note(struct stretch *s, const struct view *v, uint32_t slot,
+                 const struct message *m)
 {
     s->start = m->offset;
-    s->end = m->offset + MESSAGE_HEADER + m->length;
+    s->end = m->offset + v->header_size + m->length;
     s->slot = slot;
 }
 
@@ -784,7 +833,7 @@ static uint32_t first_failing(const struct view *v, struct stretch *s,
             break;
         ++*taken;
         if (m.offset != 0)
-            note(&s[noted++], slot, &m);
+            note(&s[noted++], v, slot, &m);
     }
     return first_meeting(s, noted, slot);
 }
@@ -801,9 +850,7 @@ uint32_t plain_check(const uint8_t *image, size_t image_len,
     *slot = 0;
     if (answer != ACCEPTED)
         return answer;
-    s = malloc(v.slots * sizeof *s);
-    if (s == NULL)
-        abort();
+    s = new_stretches(&v);
     failing = first_failing(&v, s, &taken);
     free(s);
     if (failing < v.slots) {
@@ -817,33 +864,49 @@ uint32_t plain_check(const uint8_t *image, size_t image_len,
 
 /* ---- compaction ---- */
 
-/* The active messages of taken slots; the offsets of inactive ones become 0. */
-static uint32_t collect(uint8_t *image, const struct view *v,
-                        struct stretch *s)
+/* Questions 1, 5 and 6, then 15. */
+static uint32_t ask_sound(const uint8_t *image, size_t image_len)
+{
+    uint32_t verdict, slot;
+    uint32_t answer = plain_check(image, image_len, &verdict, &slot);
+
+    if (answer != ACCEPTED)
+        return answer;
+    return verdict == 0 ? ACCEPTED : 15;
+}
+
+/* The active messages of taken slots, in the order of their offsets. */
+static uint32_t collect(const struct view *v, struct stretch *s)
 {
     struct message old;
     uint32_t active = 0;
 
     for (uint32_t slot = 0; slot < v->slots; slot++) {
-        if (!is_taken(v, slot) || message_in(v, slot) == 0)
+        if (!is_taken(v, slot))
             continue;
         read_message(v, message_in(v, slot), &old);
         if (old.active)
-            note(&s[active++], slot, &old);
-        else
-            write_offset(image, v, slot, 0);
+            note(&s[active++], v, slot, &old);
     }
+    if (active > 0)
+        qsort(s, active, sizeof *s, by_start);
     return active;
 }
 
-/* Moves them down in the order of their offsets; answers the end. */
+/* The offsets of taken slots become 0. */
+static void forget_offsets(uint8_t *image, const struct view *v)
+{
+    for (uint32_t slot = 0; slot < v->slots; slot++)
+        if (is_taken(v, slot))
+            write_offset(image, v, slot, 0);
+}
+
+/* Moves them down; answers the end. */
 static uint32_t move_down(uint8_t *image, const struct view *v,
-                          struct stretch *s, uint32_t active)
+                          const struct stretch *s, uint32_t active)
 {
     uint32_t to = v->data;
 
-    if (active > 0)
-        qsort(s, active, sizeof *s, by_start);
     for (uint32_t i = 0; i < active; i++) {
         uint32_t size = s[i].end - s[i].start;
 
@@ -858,18 +921,16 @@ uint32_t plain_compact(uint8_t *image, size_t image_len)
 {
     struct view v;
     struct stretch *s;
-    uint32_t verdict, slot, end;
-    uint32_t answer = plain_check(image, image_len, &verdict, &slot);
+    uint32_t active, end;
+    uint32_t answer = ask_sound(image, image_len);
 
     if (answer != ACCEPTED)
         return answer;
-    if (verdict != 0)
-        return 15;
     open_image(&v, image, image_len);
-    s = malloc(v.slots * sizeof *s);
-    if (s == NULL)
-        abort();
-    end = move_down(image, &v, s, collect(image, &v, s));
+    s = new_stretches(&v);
+    active = collect(&v, s);
+    forget_offsets(image, &v);
+    end = move_down(image, &v, s, active);
     free(s);
     memset(image + end, 0, v.length - end);
     if (end != v.next) {
@@ -877,6 +938,105 @@ uint32_t plain_compact(uint8_t *image, size_t image_len)
         put32(image + AT_LAST_PAGE, last_page(v.data, end));
     }
     return ACCEPTED;
+}
+
+/* ---- the converter ---- */
+
+static uint32_t text_length(const struct view *v, const struct stretch *s)
+{
+    return s->end - s->start - v->header_size;
+}
+
+/* Question 20, of messages that become narrower. */
+static int texts_fit(const struct view *v, const struct stretch *s,
+                     uint32_t count)
+{
+    for (uint32_t i = 0; i < count; i++)
+        if (text_length(v, &s[i]) > MESSAGE_MAX)
+            return 0;
+    return 1;
+}
+
+/* Question 13: the table and the messages with their other headers. */
+static int target_fits(const struct view *v, const struct stretch *s,
+                       uint32_t count, uint32_t header_size, size_t target_len)
+{
+    uint64_t needed = v->data;
+
+    for (uint32_t i = 0; i < count; i++)
+        needed += header_size + (uint64_t)text_length(v, &s[i]);
+    return needed <= target_len;
+}
+
+/* The header but for X and M, the scramble, and the keys of taken slots. */
+static void carry_table(uint8_t *target, const struct view *v, int narrows)
+{
+    size_t numbers = v->last - v->first + 1;
+
+    memcpy(target, v->image, AT_NEXT);
+    memcpy(target + AT_VERSION, narrows ? version_1 : version_2, VERSION_SIZE);
+    memcpy(target + SCRAMBLE, v->image + SCRAMBLE, 4 * numbers);
+    for (uint32_t i = 0; i < v->slots; i++)
+        if (is_taken(v, i))
+            write_slot(target, v, i, key_in(v, i), 0);
+}
+
+/* The messages one behind the other; answers the end. */
+static uint32_t carry_messages(uint8_t *target, const struct view *v,
+                               const struct stretch *s, uint32_t count,
+                               uint32_t header_size)
+{
+    uint32_t at = v->data;
+
+    for (uint32_t i = 0; i < count; i++) {
+        const uint8_t *text = v->image + s[i].start + v->header_size;
+        uint32_t length = text_length(v, &s[i]);
+
+        write_active(target + at, header_size, length);
+        memcpy(target + at + header_size, text, length);
+        write_offset(target, v, s[i].slot, at);
+        at += header_size + length;
+    }
+    return at;
+}
+
+/* Questions 20 and 13; then the target. */
+static uint32_t carry(const struct view *v, struct stretch *s, uint8_t *target,
+                      size_t target_len)
+{
+    int narrows = is_version_2(v->image);
+    uint32_t header_size = narrows ? MESSAGE_HEADER : LONG_MESSAGE_HEADER;
+    uint32_t count = collect(v, s), end;
+
+    if (narrows && !texts_fit(v, s, count))
+        return 20;
+    if (!target_fits(v, s, count, header_size, target_len))
+        return 13;
+    memset(target, 0, target_len);
+    carry_table(target, v, narrows);
+    end = carry_messages(target, v, s, count, header_size);
+    put32(target + AT_NEXT, end);
+    put32(target + AT_LAST_PAGE, last_page(v->data, end));
+    return ACCEPTED;
+}
+
+uint32_t plain_convert(const uint8_t *source, size_t source_len,
+                       uint8_t *target, size_t target_len)
+{
+    struct view v;
+    struct stretch *s;
+    uint32_t answer;
+
+    if (!length_fits(source_len) || !length_fits(target_len))
+        return 1;
+    answer = ask_sound(source, source_len);
+    if (answer != ACCEPTED)
+        return answer;
+    open_image(&v, source, source_len);
+    s = new_stretches(&v);
+    answer = carry(&v, s, target, target_len);
+    free(s);
+    return answer;
 }
 
 /* ---- readings by column ---- */
@@ -915,7 +1075,7 @@ static void to_records(uint8_t *records, const uint8_t *stored, size_t size,
             records[i * width + c] = stored[column_place(c, i, count)];
 }
 
-/* What is too long to be placed is refused before a byte of it is read. */
+/* What is longer than the image is refused before a byte of it is read. */
 uint32_t plain_store_columns(uint8_t *image, size_t image_len,
                              const uint8_t *key, size_t key_len,
                              const uint8_t *records, size_t records_len,
@@ -931,7 +1091,7 @@ uint32_t plain_store_columns(uint8_t *image, size_t image_len,
         return answer;
     if (!columns_fit(width, records_len))
         return 19;
-    if (records_len <= MESSAGE_MAX) {
+    if (records_len < image_len) {
         stored = malloc(1 + records_len);
         if (stored == NULL)
             abort();
@@ -1076,7 +1236,7 @@ uint32_t plain_at_epoch(const uint8_t *image, size_t image_len,
         return 11;
     *shown = epoch_in(&v, chosen);
     if (m.active)
-        *offset = m.offset + MESSAGE_HEADER, *length = m.length;
+        *offset = m.offset + v.header_size, *length = m.length;
     return ACCEPTED;
 }
 

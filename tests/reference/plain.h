@@ -51,6 +51,14 @@ uint32_t plain_check(const uint8_t *image, size_t image_len,
  * image is not sound. */
 uint32_t plain_compact(uint8_t *image, size_t image_len);
 
+/* Carries a sound image into a second slice, which does not overlap it, as the
+ * other version: 2.0.0 from 1.0.0 to 1.0.2, 1.0.2 from 2.0.0. Compacted; bytes
+ * that are no point's, no message's and not the header's are zero. 1 for either
+ * slice, then 5, 6 and 15 of the source, 20 for an active message that is too
+ * long for 1.0.2, 13 for a target that is too small. */
+uint32_t plain_convert(const uint8_t *source, size_t source_len,
+                       uint8_t *target, size_t target_len);
+
 /* Readings by column: stores, as mode 2 does, one byte W, then the first byte
  * of every record, then the second bytes, and so on. 19, after 7, for a W that
  * is not from 1 to 64 or record bytes that are not a multiple of it. */

@@ -43,6 +43,10 @@ uint32_t tuned_check(const uint8_t *image, size_t image_len,
 
 uint32_t tuned_compact(uint8_t *image, size_t image_len);
 
+/* Into a second slice, as the other version. */
+uint32_t tuned_convert(const uint8_t *source, size_t source_len,
+                       uint8_t *target, size_t target_len);
+
 /* Readings by column. */
 uint32_t tuned_store_columns(uint8_t *image, size_t image_len,
                              const uint8_t *key, size_t key_len,

@@ -41,6 +41,8 @@ pub const UNRECOVERABLE: u32 = 18;
 
 pub const BAD_RECORDS: u32 = 19;
 
+pub const TOO_LONG_FOR_1: u32 = 20;
+
 pub const BAD_RANGES: u32 = 22;
 
 pub const NO_EPOCHS: u32 = 23;

@@ -87,3 +87,13 @@ pub const PAIRS_START: usize = 4;
 pub const LENGTHS_START: usize = 8;
 
 pub const PAIR_SIZE: usize = 8;
+
+// The same in version 2.0, and that version's first byte.
+pub const WIDE_HEAD: usize = 5;
+
+pub const MOST_WIDE: usize = 1073741823;
+
+pub const WIDE_MAJOR: u8 = 2;
+
+// The version 2, 0, 0 with its letter.
+pub const WIDE_VERSION: u32 = 0x76020000;

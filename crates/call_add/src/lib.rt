@@ -5,6 +5,7 @@ use bytes_words::limits::MAJOR;
 use bytes_words::limits::MINOR;
 use bytes_words::limits::PATCH;
 use bytes_words::limits::VERSION_FIELD;
+use bytes_words::limits::WIDE_MAJOR;
 use call_add_absent::add_absent;
 use call_add_present::add_present;
 use header_layout::shape::Shape;
@@ -38,12 +39,15 @@ fn write_version(part: &mut [u8])
     part[2] = PATCH;
 }
 
-// An empty message, that is no bytes in mode 1 or 2, makes the file's version 1.0.2.
+// An empty message, that is no bytes in mode 1 or 2, makes the file's version 1.0.2, where it is not 2.0.
 fn note_version(image: &mut [u8], bytes: &[u8], mode: u32)
     requires { ⌜ versionField + 3 ≤ length (now image) ⌝ }
     ensures { λ _. ⌜ now (image .exit) ≡ noted (now (bytes .entry)) mode (now (image .entry)) ⌝ }
 {
-    if (bytes.len() == 0) & ((mode == NEW) | (mode == REPLACE)) {
+    if (bytes.len() == 0)
+        & ((mode == NEW) | (mode == REPLACE))
+        & (image[VERSION_FIELD] != WIDE_MAJOR)
+    {
         write_version(&mut image[VERSION_FIELD..VERSION_FIELD + 3]);
     }
 }

@@ -22,7 +22,7 @@ use Rattle.law_file.proofs.Effects.{area-above, message-end, message-fits, acti
 use Rattle.bytes_words.proofs.Numbers.{part-zero}
 use Rattle.header_layout.specs.Shapes.{Open}
 use Rattle.header_layout.specs.declared.shape.Shape.{Shape}
-use Rattle.header_layout.proofs.Shaped.{shape-head, head-width}
+use Rattle.header_layout.proofs.Shaped.{shape-head, head-range}
 use Rattle.message_read.proofs.Sound.{length-shown-yes, length-shown-no}
 
 module _ {img : Bytes} {s : Shape} (open₀ : Open img s) (o : ℕ) where
@@ -44,7 +44,7 @@ module _ {img : Bytes} {s : Shape} (open₀ : Open img s) (o : ℕ) where
     pub head-end : o + s .head ≤ field img freeField
     head-end =
         by-eq o 0
-        (λ e. omega (arith, head-width open₀, area-above img f, f .free-low))
+        (λ e. omega (arith, head-range open₀, area-above img f, f .free-low))
         (λ n. omega (arith, shape-head open₀, message-end img f o m n))
 
     pub shown-end : o + s .head + shownLength (layoutOf img) img o ≤ field img freeField

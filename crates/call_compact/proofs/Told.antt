@@ -1,5 +1,6 @@
 -- What the call answers and leaves, by the check's verdict.
 --     told-refused, told-sound, told-slot, told-count      number and image for each verdict
+--     check-refused, check-unsound      the header, for each verdict
 --     compact-leaves, compact-small      a refused call leaves the image; an accepted one's is below 2^32
 -- Assumes nothing.
 use mathlib.Core.Path.{_≡_, refl, sym, ap, ap₂, _∙_}
@@ -58,29 +59,41 @@ number-opened : (img : Bytes) → openNumber img ≡ 0 → compactNumber img ≡
 unfolding compactNumber
 number-opened img z = firstNo-opened img (ask 15 (isSound (check img)) ∷ []) z
 
-sound-yes : isSound sound ≡ true
+pub sound-yes : isSound sound ≡ true
 unfolding isSound
 sound-yes = refl
 
-slot-no : (i : ℕ) → isSound (Verdict.slotBad i) ≡ false
+pub slot-no : (i : ℕ) → isSound (Verdict.slotBad i) ≡ false
 unfolding isSound
 slot-no i = refl
 
-count-no : isSound Verdict.countBad ≡ false
+pub count-no : isSound Verdict.countBad ≡ false
 unfolding isSound
 count-no = refl
 
-pub told-refused : (img : Bytes) (n : ℕ) → Verdict.refused n ≡ check img
-    → (n ≡ compact img .answer .number) × (img ≡ compact img .after)
-told-refused img n e =
+-- the check refuses with the opening's number; any other verdict is one of an opened image
+pub check-refused : (img : Bytes) (n : ℕ) → Verdict.refused n ≡ check img
+    → (n ≡ openNumber img) × (openNumber img ≡ 0 → ⊥)
+check-refused img n e =
     by-eq (openNumber img) 0
     (λ z. absurd (table-opens (countSound (layoutOf img) img)
     (lowest (slotFails (layoutOf img) img) (layoutOf img .N) 0) n (e ∙ check-opened img z)))
     (λ z.
     let f : Verdict.refused n ≡ Verdict.refused (openNumber img) = e ∙ check-closed img z in
     let q : n ≡ openNumber img = cc in
-    let is : compactNumber img ≡ n = number-closed img z ∙ sym q in
-    (sym (number-is img n is), sym (unchanged img n is (λ y. z (sym q ∙ y)))))
+    (q, z))
+
+pub check-unsound : (img : Bytes) (v : Verdict) → v ≡ check img → ((n : ℕ) → v ≡ Verdict.refused n → ⊥)
+    → openNumber img ≡ 0
+check-unsound img v e open′ =
+    by-eq (openNumber img) 0 (λ y. y) (λ y. absurd (open′ (openNumber img) (e ∙ check-closed img y)))
+
+pub told-refused : (img : Bytes) (n : ℕ) → Verdict.refused n ≡ check img
+    → (n ≡ compact img .answer .number) × (img ≡ compact img .after)
+told-refused img n e =
+    let w = check-refused img n e in
+    let is : compactNumber img ≡ n = number-closed img (w .1) ∙ sym (w .0) in
+    (sym (number-is img n is), sym (unchanged img n is (λ y. w .1 (sym (w .0) ∙ y))))
 
 pub told-sound : (img : Bytes) → check img ≡ sound
     → (0 ≡ compact img .answer .number) × (compacted (layoutOf img) img ≡ compact img .after)
@@ -96,10 +109,9 @@ pub told-unsound : (img : Bytes) (v : Verdict) → v ≡ check img → isSound v
     → ((n : ℕ) → v ≡ Verdict.refused n → ⊥)
     → (15 ≡ compact img .answer .number) × (img ≡ compact img .after)
 told-unsound img v e no′ open′ =
-    let z : openNumber img ≡ 0 =
-    by-eq (openNumber img) 0 (λ y. y) (λ y. absurd (open′ (openNumber img) (e ∙ check-closed img y))) in
     let is : compactNumber img ≡ 15 =
-    number-opened img z ∙ firstNo-no 15 (isSound (check img)) [] (ap isSound (sym e) ∙ no′) in
+    number-opened img (check-unsound img v e open′)
+    ∙ firstNo-no 15 (isSound (check img)) [] (ap isSound (sym e) ∙ no′) in
     (sym (number-is img 15 is), sym (unchanged img 15 is (λ y. omega (arith, y))))
 
 pub told-slot : (img : Bytes) (i : ℕ) → Verdict.slotBad i ≡ check img

@@ -2,9 +2,12 @@
 use header_layout::places::Slot;
 use header_layout::shape::Shape;
 use header_layout::shape::read_shape;
-use header_open::open_number;
+use header_questions::header_sound;
+use header_questions::version_known;
+use header_sizes::size_allowed;
 use table_search::is_vacant;
 use table_search::key_of;
+ghost use Rattle.spec_file.specs.Questions.{openNumber};
 ghost use mathlib.Core.Path.{_≡_};
 ghost use Prim.Native.Nat.{_<_};
 ghost use Rattle.spec_file.specs.Image.{layoutOf};
@@ -76,4 +79,20 @@ pub fn walk<'a>(image: &'a [u8], from: u32, number: &mut u32, slot: &mut u32) ->
         }
         Stop::End => &image[..0],
     }
+}
+
+// Questions 1, 5 and 6, as `header_open::open_number`: with one caller it is inlined.
+fn open_number(image: &[u8]) -> u32
+    ensures { λ r. ⌜ r ≡ openNumber (now (image .entry)) ⌝ }
+{
+    if !size_allowed(image.len()) {
+        return 1;
+    }
+    if !version_known(image) {
+        return 5;
+    }
+    if !header_sound(image) {
+        return 6;
+    }
+    0
 }

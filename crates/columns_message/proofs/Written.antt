@@ -11,7 +11,7 @@ use mathlib.Core.List.{[], _∷_, _++_}
 use lib.ListN.{length}
 use borrow.Rule.Slice.PartMut.{midOf, putMid}
 use Rattle.spec_file.specs.Bytes.{Bytes, part, store, digits, zeros}
-use Rattle.spec_file.specs.Limits.{active, lengthWidth, freeField}
+use Rattle.spec_file.specs.Limits.{active, freeField}
 use Rattle.spec_file.specs.Image.{field, Layout}
 use Rattle.spec_file.specs.Messages.{headSize, lengthAt, message, setFree, takeSpace, overwrite}
 use Rattle.law_file.proofs.Stores.{store-lent}
@@ -20,18 +20,18 @@ use Rattle.law_columns.proofs.Turned.{length-stored}
 use Rattle.bytes_words.proofs.Numbers.{part-zero}
 use Rattle.message_write.proofs.Placed.{length-written, written-at, overwrite-steps}
 
-pub written-records : (s recs : Bytes) (W head : ℕ) → head ≡ lengthWidth + 1 → wholeRecords W (length recs) ≡ true
+pub written-records : (s recs : Bytes) (W head : ℕ) → 0 < head → wholeRecords W (length recs) ≡ true
     → length s ≡ head + (1 + length recs)
-    → store (store s 0 (active ∷ digits lengthWidth (1 + length recs))) head (columns W recs)
-    ≡ message lengthWidth (columns W recs)
+    → store (store s 0 (active ∷ digits (head - 1) (1 + length recs))) head (columns W recs)
+    ≡ message (head - 1) (columns W recs)
 written-records s recs W head e h l =
     let v : Bytes = columns W recs in
     let k : length v ≡ 1 + length recs = length-stored W recs h in
     let count : 1 + length recs ≡ 0 + length v = omega (arith, k) in
     let from : head ≡ head + 0 = omega arith in
-    ap₂ (λ (n p : ℕ). store (store s 0 (active ∷ digits lengthWidth n)) p v) count from
+    ap₂ (λ (n p : ℕ). store (store s 0 (active ∷ digits (head - 1) n)) p v) count from
     ∙ written-at s v 0 head e (omega (arith, k, l))
-    ∙ ap (λ (t : Bytes). message lengthWidth (t ++ v)) (part-zero s head)
+    ∙ ap (λ (t : Bytes). message (head - 1) (t ++ v)) (part-zero s head)
 
 -- ---- of a text v of k bytes, in the image of layout g; its header has `head` bytes
 module _ (g : Layout) (img v : Bytes) (k head : ℕ) (ek : length v ≡ k) (is-head : head ≡ g .W + 1) (w : Bytes)

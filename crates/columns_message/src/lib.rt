@@ -1,7 +1,6 @@
 // The columns of records as a message, written straight into the image: in place, or in new space at X. What
 // crates/message_write does with bytes that are handed to it.
 use bytes_words::fields::read_u32;
-use bytes_words::fields::write_low_u24;
 use bytes_words::limits::FREE_FIELD;
 use bytes_zero::zero;
 use columns_write::write_columns;
@@ -9,28 +8,27 @@ use header_layout::places::Offset;
 use header_layout::shape::Shape;
 use message_read::length_at;
 use message_write::set_free;
+use message_write::write_head;
 ghost use mathlib.Core.Path.{_≡_};
 ghost use mathlib.Core.Bool.{true};
-ghost use Prim.Native.Nat.{_+_, _≤_, _<_, _^_};
+ghost use Prim.Native.Nat.{_+_, _-_, _≤_, _<_};
 ghost use lib.ListN.{length};
-ghost use Rattle.spec_file.specs.Limits.{lengthWidth};
 ghost use Rattle.spec_file.specs.Image.{layoutOf};
 ghost use Rattle.spec_file.specs.Messages.{held, message, takeSpace, overwrite};
 ghost use Rattle.spec_file.specs.Questions.{messageSound};
 ghost use Rattle.spec_columns.specs.Columns.{wholeRecords, columns};
-ghost use Rattle.header_layout.specs.Shapes.{Open};
+ghost use Rattle.header_layout.specs.Shapes.{Open, Tells};
 ghost use Rattle.message_write.specs.Fits.{Fits};
 
 // Writes an active message: its header, and as its text what is stored of the records.
 fn write_records(space: &mut [u8], head: usize, records: &[u8], width: usize)
-    requires { ⌜ (head ≡ lengthWidth + 1)
+    requires { ⌜ Tells head (1 + length (now records))
         × (length (now space) ≡ head + (1 + length (now records)))
-        × (1 + length (now records) < 256 ^ lengthWidth)
         × (wholeRecords width (length (now records)) ≡ true) ⌝ }
-    ensures { λ _. ⌜ now (space .exit) ≡ message lengthWidth (columns width (now (records .entry))) ⌝ }
+    ensures { λ _. ⌜ now (space .exit) ≡ message (head - 1) (columns width (now (records .entry))) ⌝ }
 {
     let m = 1 + records.len();
-    write_low_u24(space, 0, b'a', m as u32);
+    write_head(space, head, m);
     write_columns(&mut space[head..], records, width);
 }
 

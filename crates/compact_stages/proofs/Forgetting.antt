@@ -19,6 +19,7 @@ use Rattle.spec_file.specs.Image.{field, Layout, layoutOf, slotSize, slotStart,
 use Rattle.spec_file.specs.Messages.{headSize, letterAt, lengthAt, isActive}
 use Rattle.spec_file.specs.Inspect.{taken}
 use Rattle.spec_compaction.specs.Compact.{packedBelow, packed}
+use Rattle.law_file.proofs.Effects.{head-most}
 use Rattle.law_file.proofs.Tests.{by-bool, by-eq, by-le, and-left, and-right, and-true, not-both}
 use Rattle.law_file.proofs.Slots.{Room, length-slot, length-keyOf, length-entry, length-putSlot, slot-putSlot-same, slot-putSlot-other, part-putSlot-outside}
 use Rattle.law_file.proofs.Opened.{Opened, opened-facts}
@@ -72,9 +73,8 @@ module _ (img : Bytes) (s : Shape) (ok : Sound img s) where
       sound-lies g img (startAt g img i)
       (check-messages img (ok .checked) i l (not-true (vacant g (slot g img i)) t)) z
 
-  head-small : headSize g ≡ 4
-  unfolding headSize layoutOf
-  head-small = refl
+  head-small : headSize g ≤ 5
+  head-small = head-most img
 
   -- its header lies in the image
   pub taken-inside : (i : ℕ) → i < g .N → taken g img i ≡ true → startAt g img i + headSize g ≤ length img

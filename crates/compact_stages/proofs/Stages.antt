@@ -22,7 +22,7 @@ use Rattle.law_file.proofs.Tests.{by-bool, by-eq, by-le}
 use Rattle.law_file.proofs.Bytes.{part-part}
 use Rattle.law_file.proofs.Slots.{Room, length-slot, length-keyOf, length-entry, keyOf-entry, offsetOf-entry}
 use Rattle.law_file.proofs.Opened.{Opened, opened-facts, facts-opened}
-use Rattle.law_file.proofs.Kept.{Kept, kept-layout, opened-kept, kept-multiplier, kept-start, kept-first, kept-last, middleSize, restSize}
+use Rattle.law_file.proofs.Kept.{major-same, Kept, kept-layout, opened-kept, kept-multiplier, kept-start, kept-first, kept-last, middleSize, restSize}
 use Rattle.law_file.proofs.Stretch.{span}
 use Rattle.law_compaction.proofs.Packing.{startAt, stopAt, Live, Stretches, packed-below}
 use Rattle.header_layout.specs.Shapes.{shapeOf, Open}
@@ -55,6 +55,7 @@ module _ (img img′ : Bytes) (size : length img′ ≡ length img)
             record {
               size = size;
               magic = front-part 0 5 (omega arith);
+              major = major-same img img′ (front-part versionField 3 (omega arith));
               front = front-part serialField (pointsField - serialField) (omega arith);
               middle = front-part multiplierField middleSize (omega arith);
               rest = front-part headerSize restSize (omega arith);

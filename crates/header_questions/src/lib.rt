@@ -18,6 +18,7 @@ use bytes_words::limits::TABLE_FIELD;
 use bytes_words::limits::TABLE_OFFSET;
 use bytes_words::limits::VERSION;
 use bytes_words::limits::VERSION_WORD;
+use bytes_words::limits::WIDE_VERSION;
 use header_sizes::data_start;
 use header_sizes::key_allowed;
 use header_sizes::table_allowed;
@@ -33,8 +34,14 @@ pub fn version_known(image: &[u8]) -> bool
     requires { ⌜ 8 ≤ length (now image) ⌝ }
     ensures { λ r. ⌜ r ≡ versionKnown (now (image .entry)) ⌝ }
 {
+    if read_u32(image, MAGIC_FIELD) != MAGIC {
+        return false;
+    }
     let version = read_u32(image, VERSION_WORD);
-    (read_u32(image, MAGIC_FIELD) == MAGIC) & ((OLDEST_VERSION <= version) & (version <= VERSION))
+    if (OLDEST_VERSION <= version) & (version <= VERSION) {
+        return true;
+    }
+    version == WIDE_VERSION
 }
 
 // Question 6 up to the offsets: the fields that are compared with each other or with a fixed number.

@@ -13,8 +13,8 @@ use lib.Seq.{drop-append-add, take-at, drop-at}
 use lib.Dec.{eqb}
 use borrow.Author.Tests.{eqb-false}
 use Rattle.spec_file.specs.Bytes.{Bytes, part, number, digits, zeros, same}
-use Rattle.spec_file.specs.Limits.{keyField, slotsField, pointsField, dataField, freeField, headerSize, scrambleStart, scrambleCount}
-use Rattle.spec_file.specs.Image.{field, dataStart, Layout, layoutOf, slotSize, slotStart, slot, blank, vacant}
+use Rattle.spec_file.specs.Limits.{major, keyField, slotsField, pointsField, dataField, freeField, headerSize, scrambleStart, scrambleCount}
+use Rattle.spec_file.specs.Image.{field, dataStart, majorOf, wide, widthOf, mostOf, Layout, layoutOf, slotSize, slotStart, slot, blank, vacant}
 use Rattle.spec_file.specs.Create.{drawnBytes, slotsAsked, freshHeader, freshImage}
 use Rattle.spec_file.specs.Messages.{headSize}
 use Rattle.spec_file.specs.Questions.{versionKnown}
@@ -52,7 +52,7 @@ part-behind a c p m n e h =
     split : length a ≡ n → n ≤ p → p ≡ length a + (p - n)
     split e h = omega arith
 
-part-zeros : (n p m : ℕ) → p + m ≤ n → part (zeros n) p m ≡ zeros m
+pub part-zeros : (n p m : ℕ) → p + m ≤ n → part (zeros n) p m ≡ zeros m
 unfolding part zeros
 part-zeros n p m h =
     ap (λ (x : ℕ). take m (drop p (replicate x 0))) (sum h)
@@ -193,12 +193,16 @@ module _ (L K N seed : ℕ) (ok : Accepted L K N) (pos : 1 ≤ N) where
           (λ i l. weigh-vacant g (λ s. 1) (slot g img i) (fresh-vacant i l))
           ∙ omega (arith, total-const 0 (g .N)))
 
+  fresh-major : majorOf img ≡ major
+  unfolding img majorOf freshImage freshHeader
+  fresh-major = refl
+
   pub fresh-reflects : Reflects (layoutOf (freshImage L K N seed)) (freshImage L K N seed) (newBook (termsOf L K N))
-  unfolding g img newBook termsOf layoutOf headSize
+  unfolding g img newBook termsOf layoutOf headSize widthOf mostOf wide
   fresh-reflects =
       record {
         file = fresh-file;
-        terms = rw (fresh-K, fresh-N, fresh-D, fresh-length) refl;
+        terms = rw (fresh-K, fresh-N, fresh-D, fresh-length, fresh-major) refl;
         used = fresh-X ∙ sym fresh-D ∙ sym (add-zero (field img dataField));
         number = sym fresh-C;
         points = λ name a. pointOf-none g img name (fresh-entry name a) ∙ sym (find-none name);

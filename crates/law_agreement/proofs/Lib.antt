@@ -30,6 +30,11 @@ pub mod Compact  -- a compacted file
 pub mod Reopened  -- the book read off a file
 pub mod Trimmed  -- the book's entries after a compaction
 pub mod Compacting  -- compaction keeps the relation
+pub mod Spaces  -- the space that the book's entries take
+pub mod Named  -- a file's slots and its book, by name
+pub mod Carrying  -- messages carried into the converter's target, one by one
+pub mod Bare  -- the target before the first message is carried
+pub mod Converting  -- the converter keeps the relation
 pub mod Forms  -- each step, in its form, keeps the relation
 pub mod Theorem  -- the theorem
 pub mod Reached  -- files that calls have reached

@@ -20,8 +20,8 @@ use Rattle.spec_changes.specs.Changes.{listAllowed, workAllowed}
 use Rattle.spec_columns.specs.Columns.{columns}
 use Rattle.spec_records.specs.Records.{readable}
 use Rattle.law_records.proofs.Numbers.{records-number}
-use Rattle.spec_book.specs.Steps.{Change, adds, deletes, compacts, Step, calling, compacting, listing, journaling, storing, reading, dating}
-use Rattle.spec_book.specs.Book.{Entry, Book, find, stepOf, roomAsks, addAbsent, replace, append, addPresent, addFound, guarded, bookAdd, deleteFound, bookDelete, lookupFound, bookLookup, bookStore, readFound, bookRead, bookCount, bookCompact, bookCall, latestEntry, datedFound, bookAtEpoch}
+use Rattle.spec_book.specs.Steps.{Change, adds, deletes, compacts, Step, calling, compacting, listing, journaling, storing, reading, converting, dating}
+use Rattle.spec_book.specs.Book.{Entry, Book, find, stepOf, roomAsks, addAbsent, replace, append, addPresent, addFound, guarded, bookAdd, deleteFound, bookDelete, lookupFound, bookLookup, bookStore, readFound, bookRead, bookCount, bookCompact, convertAsks, bookConvert, bookCall, latestEntry, datedFound, bookAtEpoch}
 use Rattle.spec_book.specs.Told.{bookChanged, imageLength, toldNumber, bookStep}
 use Rattle.law_file.proofs.Tests.{by-bool}
 use Rattle.law_file.proofs.Opened.{firstNo-none, firstNo-yes, firstNo-no}
@@ -189,6 +189,13 @@ module _ (P : ℕ → Type 0) where
       unfolding bookRead
       read-of p₁₉ name size = seven name _ (fetched-number p₁₉ size (find name (b .entries)))
 
+      convert-of : P 13 → P 20 → (L : ℕ) → P (bookConvert b L .answer .number)
+      unfolding bookConvert convertAsks
+      convert-of p₁₃ p₂₀ L =
+          step-number b _ _
+          (either 1 _ _ (few 1 (omega arith))
+          (either 20 _ _ p₂₀ (either 13 _ [] p₁₃ (none-asked (few 0 (omega arith))))))
+
       dated-of : P 23 → (name : Bytes) (t : ℕ) → P (bookAtEpoch b name t .answer .number)
       unfolding bookAtEpoch
       dated-of p₂₃ name t =
@@ -197,18 +204,19 @@ module _ (P : ℕ → Type 0) where
           (dated-number (latestEntry (b .terms .K) name t (b .entries)))
 
       -- of any step
-      pub step-of : P 16 → P 17 → P 19 → P 23 → (t : Bool) (c : Step) → P (bookStep t c b .answer .number)
+      pub step-of : P 13 → P 16 → P 17 → P 19 → P 20 → P 23 → (t : Bool) (c : Step) → P (bookStep t c b .answer .number)
       unfolding bookStep
-      step-of p₁₆ p₁₇ p₁₉ p₂₃ t (calling c) = call-of c
-      step-of p₁₆ p₁₇ p₁₉ p₂₃ t compacting = compact-of
-      step-of p₁₆ p₁₇ p₁₉ p₂₃ t (listing c work list) =
+      step-of p₁₃ p₁₆ p₁₇ p₁₉ p₂₀ p₂₃ t (calling c) = call-of c
+      step-of p₁₃ p₁₆ p₁₇ p₁₉ p₂₀ p₂₃ t compacting = compact-of
+      step-of p₁₃ p₁₆ p₁₇ p₁₉ p₂₀ p₂₃ t (listing c work list) =
           sixteen p₁₆ (listAllowed (length list) && workAllowed (imageLength (b .terms)) work) (bookChanged c b)
           (change-of c)
-      step-of p₁₆ p₁₇ p₁₉ p₂₃ t (journaling c work j) =
+      step-of p₁₃ p₁₆ p₁₇ p₁₉ p₂₀ p₂₃ t (journaling c work j) =
           told-of p₁₇ t _ (sixteen p₁₆ (workAllowed (imageLength (b .terms)) work) (bookChanged c b) (change-of c))
-      step-of p₁₆ p₁₇ p₁₉ p₂₃ t (storing name recs W) = store-of p₁₉ name recs W
-      step-of p₁₆ p₁₇ p₁₉ p₂₃ t (reading name size) = read-of p₁₉ name size
-      step-of p₁₆ p₁₇ p₁₉ p₂₃ t (dating name e) = dated-of p₂₃ name e
+      step-of p₁₃ p₁₆ p₁₇ p₁₉ p₂₀ p₂₃ t (storing name recs W) = store-of p₁₉ name recs W
+      step-of p₁₃ p₁₆ p₁₇ p₁₉ p₂₀ p₂₃ t (reading name size) = read-of p₁₉ name size
+      step-of p₁₃ p₁₆ p₁₇ p₁₉ p₂₀ p₂₃ t (converting L) = convert-of p₁₃ p₂₀ L
+      step-of p₁₃ p₁₆ p₁₇ p₁₉ p₂₀ p₂₃ t (dating name e) = dated-of p₂₃ name e
 
 -- ---- 13
 

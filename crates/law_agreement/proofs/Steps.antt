@@ -5,7 +5,7 @@
 --     asPlain                  the plain call of a step in a form
 --     Effect, step-effect      what any step does, in one list of all steps; effect-..: what follows from it
 --     NotAdding, NotDeleting   the steps that do not add, or delete, a point; Keeping: those that give no space back
---     compacted-text           a compaction keeps every text
+--     compacted-text           a compaction keeps every text; converted-text: so does a conversion
 -- Assumes nothing.
 use mathlib.Core.Path.{_≡_, refl, sym, ap, _∙_}
 use Prim.Native.Nat.{ℕ, suc, _≤_}
@@ -22,8 +22,8 @@ use Rattle.spec_file.specs.Questions.{Question, ask, firstNo, nameAllowed}
 use Rattle.spec_file.specs.Calls.{Outcome, plain}
 use Rattle.spec_file.specs.Lists.{adding, deleting, looking, counting}
 use Rattle.spec_columns.specs.Columns.{columns}
-use Rattle.spec_book.specs.Steps.{Change, adds, deletes, compacts, Step, calling, compacting, listing, journaling, storing, reading, dating}
-use Rattle.spec_book.specs.Book.{Entry, Book, find, withEntry, stepOf, guarded, entered, noting, bare, placed, addAbsent, replace, append, withdrawn, addPresent, addFound, bookAdd, deleteFound, bookDelete, lookupFound, bookLookup, bookStore, readFound, bookRead, bookCount, trimmed, compactedBook, bookCompact, bookCall, latestEntry, datedFound, bookAtEpoch}
+use Rattle.spec_book.specs.Steps.{Change, adds, deletes, compacts, Step, calling, compacting, listing, journaling, storing, reading, converting, dating}
+use Rattle.spec_book.specs.Book.{Entry, Book, find, withEntry, stepOf, guarded, entered, noting, bare, placed, addAbsent, replace, append, withdrawn, addPresent, addFound, bookAdd, deleteFound, bookDelete, lookupFound, bookLookup, bookStore, readFound, bookRead, bookCount, trimmed, compactedBook, bookCompact, convertAsks, convertedBook, bookConvert, bookCall, latestEntry, datedFound, bookAtEpoch}
 use Rattle.spec_epoch.specs.Epochs.{keyDated, prismAllowed}
 use Rattle.spec_book.specs.Told.{bookChanged, toldNumber, bookStep}
 use Rattle.spec_book.specs.Demand.{bookText, textOf}
@@ -271,10 +271,11 @@ asPlain (listing c work list) = plainStep c
 asPlain (journaling c work j) = plainStep c
 asPlain (storing name recs W) = calling (adding name (columns W recs) 2)
 asPlain (reading name room) = calling (looking name)
+asPlain (converting L) = converting L
 asPlain (dating name t) = dating name t
 
 -- nothing, or a text is put under the name that it adds, or the entry of the name that it deletes goes, or all entries
--- are trimmed
+-- are trimmed, on the same terms or on a target's
 pub data Effect (b : Book) (c : Step) (b′ : Book) : Type 0 where
   nothing : b′ ≡ b → Effect b c b′
   enters : (name bytes : Bytes) (mode : ℕ) (text : Option Bytes) → asPlain c ≡ calling (adding name bytes mode)
@@ -283,6 +284,7 @@ pub data Effect (b : Book) (c : Step) (b′ : Book) : Type 0 where
   leaves : (name : Bytes) (e : Entry) → asPlain c ≡ calling (deleting name) → find name (b .entries) ≡ some e
       → b′ ≡ removed name b → Effect b c b′
   trims : asPlain c ≡ compacting → b′ ≡ compactedBook b → Effect b c b′
+  converts : (L : ℕ) → asPlain c ≡ converting L → b′ ≡ convertedBook b L → Effect b c b′
 
 module _ {b : Book} {c : Step} where
   -- of a step whose plain call is an add, a delete or a compaction
@@ -301,6 +303,13 @@ module _ {b : Book} {c : Step} where
   change-effect (adds name bytes mode) q = add-effect name bytes mode q
   change-effect (deletes name) q = delete-effect name _ q (book-delete b name)
   change-effect compacts q = trims q refl
+
+  convert-effect : (L : ℕ) → asPlain c ≡ converting L → Effect b c (bookConvert b L .after)
+  unfolding bookConvert stepOf
+  convert-effect L q =
+      by-bool (eqb (firstNo (convertAsks b L)) 0)
+      (λ y. rw y (converts L q refl))
+      (λ n. rw n (nothing refl))
 
   -- a form leaves what its plain call does, or the book
   guarded-effect : (asks : List Question) (o : Outcome Book) → Effect b c (o .after)
@@ -334,6 +343,7 @@ step-effect t (storing name recs W) b =
     (by-put (add-found b name (columns W recs) 2 (find name (b .entries)) refl)
     (λ e. nothing e) (λ text w. enters name (columns W recs) 2 text refl w))
 step-effect t (reading name room) b = nothing (book-read b name room)
+step-effect t (converting L) b = convert-effect L refl
 step-effect t (dating name e) b = nothing (book-dated b name e)
 
 -- the step does not delete, or does not add, a point of that name
@@ -361,11 +371,22 @@ unfolding bookText compactedBook
 compacted-text b key =
     ap textOf (find-trimmed key (b .entries)) ∙ trimmed-text (find key (b .entries))
 
--- an entry of the compacted book
+-- so does a conversion
+pub converted-text : (b : Book) (L : ℕ) (key : Bytes) → bookText (convertedBook b L) key ≡ bookText b key
+unfolding bookText convertedBook
+converted-text b L key =
+    ap textOf (find-trimmed key (b .entries)) ∙ trimmed-text (find key (b .entries))
+
+-- an entry of the compacted book, and of the converted one
 trims-find : (b b′ : Book) (key : Bytes) → b′ ≡ compactedBook b
     → find key (b′ .entries) ≡ trimmedOf (find key (b .entries))
 unfolding compactedBook
 trims-find b b′ key is = ap (λ (x : Book). find key (x .entries)) is ∙ find-trimmed key (b .entries)
+
+converts-find : (b b′ : Book) (L : ℕ) (key : Bytes) → b′ ≡ convertedBook b L
+    → find key (b′ .entries) ≡ trimmedOf (find key (b .entries))
+unfolding convertedBook
+converts-find b b′ L key is = ap (λ (x : Book). find key (x .entries)) is ∙ find-trimmed key (b .entries)
 
 module _ {b : Book} {c : Step} {b′ : Book} (key : Bytes) where
   -- a point that the call neither adds nor deletes keeps its text
@@ -381,6 +402,7 @@ module _ {b : Book} {c : Step} {b′ : Book} (key : Bytes) where
       without-text : (name : Bytes) → (key ≡ name → ⊥) → bookText (removed name b) key ≡ bookText b key
       without-text name n = unfold bookText in ap textOf (find-without-other name key (b .entries) n)
   effect-other (trims q is) na nd = ap (λ (x : Book). bookText x key) is ∙ compacted-text b key
+  effect-other (converts L q is) na nd = ap (λ (x : Book). bookText x key) is ∙ converted-text b L key
 
   -- one that it does not delete stays
   pub effect-has : Effect b c b′ → NotDeleting key c → Has key b → Has key b′
@@ -394,6 +416,7 @@ module _ {b : Book} {c : Step} {b′ : Book} (key : Bytes) where
       find-without-other name key (b .entries) (λ s. nd (q ∙ ap (λ (x : Bytes). calling (deleting x)) (sym s))) in
       (h .0, ap (λ (x : Book). find key (x .entries)) is ∙ other ∙ h .1)
   effect-has (trims q is) nd h = (trimmed (h .0), trims-find b b′ key is ∙ ap trimmedOf (h .1))
+  effect-has (converts L q is) nd h = (trimmed (h .0), converts-find b b′ L key is ∙ ap trimmedOf (h .1))
 
   -- one that it does not add stays absent
   pub effect-lacks : Effect b c b′ → NotAdding key c → Lacks key b → Lacks key b′
@@ -405,13 +428,15 @@ module _ {b : Book} {c : Step} {b′ : Book} (key : Bytes) where
       λ s. Option·none-ne-some e (sym h ∙ ap (λ (x : Bytes). find x (b .entries)) s ∙ f) in
       ap (λ (x : Book). find key (x .entries)) is ∙ find-without-other name key (b .entries) present ∙ h
   effect-lacks (trims q is) na h = trims-find b b′ key is ∙ ap trimmedOf h
+  effect-lacks (converts L q is) na h = converts-find b b′ L key is ∙ ap trimmedOf h
 
--- the step gives no space back: every one except compaction
+-- the step gives no space back: every one except compaction and conversion
 abbrev pub Keeping : Step → Type 0
-Keeping c = asPlain c ≡ compacting → ⊥
+Keeping c = (asPlain c ≡ compacting → ⊥) × ((L : ℕ) → asPlain c ≡ converting L → ⊥)
 
 pub effect-used : {b : Book} {c : Step} {b′ : Book} → Effect b c b′ → Keeping c → b .used ≤ b′ .used
 effect-used (nothing q) k = omega (arith, ap (λ (x : Book). x .used) q)
 effect-used (enters name bytes mode text q w) k = given-used w
 effect-used (leaves name e q f is) k = omega (arith, ap (λ (x : Book). x .used) is)
-effect-used (trims q is) k = absurd (k q)
+effect-used (trims q is) k = absurd (k .0 q)
+effect-used (converts L q is) k = absurd (k .1 L q)

@@ -24,7 +24,7 @@ use Rattle.spec_file.specs.Questions.{nameAllowed, createNumber}
 use Rattle.spec_file.specs.Create.{slotsAsked, freshImage}
 use Rattle.spec_file.specs.Calls.{Answer, Outcome, plain, create, lookup}
 use Rattle.spec_file.specs.Lists.{Call, call, answers, stateAfter}
-use Rattle.spec_book.specs.Steps.{Step, calling, compacting, listing, journaling, storing, reading, performOn, State, alone, aloneAfter, perform, dating}
+use Rattle.spec_book.specs.Steps.{Step, calling, compacting, listing, journaling, storing, reading, converting, performOn, State, alone, aloneAfter, perform, dating}
 use Rattle.spec_book.specs.Book.{Book, newBook, bookCall}
 use Rattle.spec_book.specs.Told.{bookStep, tells, toldBy, bookTold}
 use Rattle.spec_book.specs.Reopened.{termsOf, Starts}
@@ -52,12 +52,14 @@ module _ (c : Step) where
   pub same-answer : (s : State) (b : Book) → Held s b → permits c s ≡ true
       → perform c s .answer ≡ bookStep (tells c s) c b .answer
   unfolding Held perform aloneAfter
-  same-answer (alone img) b (g, r) p = same-step g img b r c .answer
+  same-answer (alone img) b (g, r) p = same-step g img b r c .1 .answer
 
   pub held-step : (s : State) (b : Book) → Held s b → permits c s ≡ true
       → Held (perform c s .after) (bookAt c s b)
   unfolding Held perform aloneAfter
-  held-step (alone img) b (g, r) p = (g, same-step g img b r c .after)
+  held-step (alone img) b (g, r) p =
+      let w = same-step g img b r c in
+      (w .0, w .1 .after)
 
 -- ---- lists of calls
 
@@ -168,6 +170,7 @@ plain-told (listing c work list) p t b = absurd (not-both false p refl)
 plain-told (journaling c work j) p t b = absurd (not-both false p refl)
 plain-told (storing name recs W) p t b = refl
 plain-told (reading name room) p t b = refl
+plain-told (converting L) p t b = refl
 plain-told (dating name e) p t b = refl
 
 plain-answers : (steps : List Step) → AllPlain steps → (s : State) (b : Book)

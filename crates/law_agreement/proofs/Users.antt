@@ -10,11 +10,12 @@
 --     count-added, count-replaced, count-deleted      C grows by 1, stays, falls by 1
 --     stays-found         a point that is found stays so until it is deleted
 --     stays-gone          a point that is not found stays so until it is added; so deleted-stays-gone
---     free-grows          X does not fall over calls other than compaction
+--     free-grows          X does not fall over calls other than compaction and conversion
 --     compact-accepted, no-fifteen     in a list compaction answers 0, and no call 15
 --     compact-texts       compaction changes no text; compact-free: X is then where the texts end; compact-once: doing
 --                         it twice is doing it once
 --     compact-room        where the texts leave room, no add is refused with 13
+--     convert-texts       the converter changes no text; what it leaves, byte by byte: crates/law_conversion
 -- Assumes nothing.
 use mathlib.Core.Path.{_≡_, refl, sym, ap, _∙_, subst}
 use Prim.Native.Nat.{ℕ, suc, _+_, _≤_}
@@ -29,15 +30,18 @@ use Rattle.spec_file.specs.Image.{field, Layout, layoutOf}
 use Rattle.spec_file.specs.Messages.{headSize, bytesOf}
 use Rattle.spec_file.specs.Calls.{Answer, Outcome, plain, add, delete, count}
 use Rattle.spec_compaction.specs.Compact.{compacted, compact}
+use Rattle.spec_conversion.specs.Convert.{convert}
 use Rattle.spec_file.specs.Lists.{adding, deleting, stateAfter, call}
-use Rattle.spec_book.specs.Steps.{Step, calling, compacting, performOn, State, alone, aloneAfter, perform}
+use Rattle.spec_book.specs.Steps.{Step, calling, compacting, converting, performOn, State, alone, aloneAfter, perform}
 use Rattle.spec_book.specs.Book.{Entry, Terms, Book, find, bookDelete, bookCount, spaceForAll, compactedBook, bookCompact, bookCall}
 use Rattle.spec_book.specs.Told.{bookStep, tells, toldBy, bookTold}
 use Rattle.spec_book.specs.Demand.{fileText, stateText, bookText, textOf, permits, Permitted}
 use Rattle.law_agreement.proofs.Entries.{Distinct, find-without-same, length-without}
 use Rattle.law_agreement.proofs.Reflect.{Reflects, Reflected}
 use Rattle.law_agreement.proofs.Simple.{same-count}
-use Rattle.law_agreement.proofs.Forms.{same-step}
+use Rattle.law_agreement.proofs.Add.{same-add}
+use Rattle.law_agreement.proofs.Compacting.{same-compact}
+use Rattle.law_agreement.proofs.Forms.{same-step, same-layout}
 use Rattle.law_agreement.proofs.Theorem.{Held, bookAt, bookAfter, same-answer, held-step, held-after, points-agree, texts-agree}
 use Rattle.law_agreement.proofs.Reached.{Reached, reached-held, reached-reflects, reached-step}
 use Rattle.law_agreement.proofs.Steps.{given-text, given-new, given-old, Added, refused, fresh, bared, replaced, appended, unchanged, withdrew, book-add, by-put, Deleted, gone, book-delete, asPlain, step-effect, NotDeleting, NotAdding, Has, Lacks, Keeping, effect-other, effect-has, effect-lacks, effect-used, compacted-text}
@@ -350,7 +354,10 @@ free-step : (c : Step) (s : State) (b : Book) → Held s b → permits c s ≡ t
     → freeOf s ≤ freeOf (perform c s .after)
 unfolding Held freeOf perform aloneAfter
 free-step c (alone img) b (g, r) p k =
-    omega (arith, r .used, effect-used (step-effect (tells c (alone img)) c b) k, same-step g img b r c .after .used)
+    let w = same-step g img b r c in
+    let same-D : w .0 .D ≡ g .D =
+    ap (λ (l : Layout). l .D) (same-layout g img b r c (λ L q. k .1 L (ap asPlain q ∙ (unfold asPlain in refl)))) in
+    omega (arith, same-D, r .used, effect-used (step-effect (tells c (alone img)) c b) k, w .1 .after .used)
 
 free-keeps : (steps : List Step) (s : State) (b : Book) → Held s b → Permitted steps s → Each Keeping steps
     → freeOf s ≤ freeOf (stateAfter perform steps s)
@@ -390,7 +397,8 @@ module _ (s : State) (b : Book) (r : Reached s b) where
       (book-keeps (NotAdding key) (Lacks key) (λ t c x. effect-lacks key (step-effect t c x)) steps s b n
       (found-no b key (held-text key _ h)))
 
-  -- between compactions space once taken is never handed out again: new space is taken at X, and X does not fall
+  -- between compactions and conversions space once taken is never handed out again: new space is taken at X, and X
+  -- does not fall
   pub free-grows : (steps : List Step) → Permitted steps s → Each Keeping steps
       → freeOf s ≤ freeOf (stateAfter perform steps s)
   free-grows steps p k = free-keeps steps s b (reached-held s b r) p k
@@ -408,7 +416,8 @@ module _ (img : Bytes) (b : Book) (r : Reached (alone img) b) where
   no-fifteen c q =
       step-of (λ (n : ℕ). n ≡ 15 → ⊥) b (λ n l e. omega arith) (λ e. omega arith)
       (λ m. room-number (λ (n : ℕ). n ≡ 15 → ⊥) b m (λ e. omega arith) (λ e. omega arith) (λ e. omega arith))
-      (λ e. omega arith) (λ e. omega arith) (λ e. omega arith) (λ e. omega arith) (tells c (alone img)) c
+      (λ e. omega arith) (λ e. omega arith) (λ e. omega arith) (λ e. omega arith) (λ e. omega arith) (λ e. omega arith)
+      (tells c (alone img)) c
       (ap (λ (x : Answer). x .number) (sym (same-now img b r c)) ∙ q)
 
   -- it changes no point's text, and finds no other points
@@ -424,7 +433,7 @@ module _ (img : Bytes) (b : Book) (r : Reached (alone img) b) where
   compact-free =
       let s = rel img b r .1 in
       let g = rel img b r .0 in
-      same-step g img b s compacting .after .used
+      same-compact g img b s .after .used
       ∙ ap (λ (t : Terms). g .D + spaceForAll (t .head) (b .entries)) (s .terms)
       ∙ ap (λ (l : Layout). l .D + spaceForAll (headSize l) (b .entries)) (sym (s .file .layout))
 
@@ -438,7 +447,6 @@ module _ (img : Bytes) (b : Book) (r : Reached (alone img) b) where
   unfolding performOn call bookStep bookCall bookCompact compactedBook
   compact-room key bytes mode m short long fits q =
       let b′ = compactedBook b in
-      let at-name = calling (adding key bytes mode) in
       add-number (λ (n : ℕ). n ≡ 13 → ⊥) b′ key bytes mode (λ n l e. omega arith) (λ e. omega arith)
       (room-left b′ (length bytes) (omega (arith, left, short)))
       (λ e f n₁ n₂.
@@ -446,7 +454,7 @@ module _ (img : Bytes) (b : Book) (r : Reached (alone img) b) where
       let t = long (e .text) there n₁ n₂ in
       room-left b′ _ (omega (arith, left, t, length-append (bytesOf (e .text)) bytes)))
       (ap (λ (x : Answer). x .number)
-      (sym (same-step (reached .0) (compact img .after) b′ (reached .1) at-name .answer)) ∙ q)
+      (sym (same-add (reached .0) (compact img .after) b′ (reached .1) key bytes mode .answer)) ∙ q)
     where
       reached : Reflected (compact img .after) (compactedBook b)
       reached = unfold performOn bookStep bookCompact in rel-after img b r compacting
@@ -475,6 +483,25 @@ module _ (img : Bytes) (b : Book) (r : Reached (alone img) b) where
       ∙ compact-after g (compacted g img) (file-compact g img f)
       ∙ compact-twice g img f
       ∙ sym first
+
+-- ---- conversion
+
+not-adding : {L : ℕ} {a b : Bytes} {m : ℕ} → converting L ≡ calling (adding a b m) → ⊥
+not-adding q =
+    let y : _≡_ {A = ℕ} 0 1 = cc in
+    omega arith
+
+not-deleting : {L : ℕ} {a : Bytes} → converting L ≡ calling (deleting a) → ⊥
+not-deleting q =
+    let y : _≡_ {A = ℕ} 0 1 = cc in
+    omega arith
+
+-- the list goes on with the same points and texts, in the target or, refused, in the source
+pub convert-texts : (img : Bytes) (b : Book) → Reached (alone img) b → (L : ℕ) (name : Bytes)
+    → fileText (convert img L .after) name ≡ fileText img name
+unfolding performOn asPlain
+convert-texts img b r L name =
+    call-others img b r (converting L) name (λ bytes mode q. not-adding q) (λ q. not-deleting q)
 
 -- a point that was deleted stays so until it is added again
 pub deleted-stays-gone : (img : Bytes) (b : Book) → Reached (alone img) b → (key : Bytes)

@@ -23,6 +23,7 @@ use Rattle.spec_file.specs.Image.{field, Layout, layoutOf, slot, offsetOf, vaca
 use Rattle.spec_file.specs.Messages.{headSize, letterAt, lengthAt, isActive}
 use Rattle.spec_file.specs.Inspect.{taken, meets, someBelow, meetsLower, check, sound}
 use Rattle.spec_compaction.specs.Compact.{beginsAt, blockAt, packedFrom, packedBelow, packedOffset}
+use Rattle.law_file.proofs.Effects.{head-least}
 use Rattle.law_file.proofs.Tests.{by-bool, by-eq, by-le, by-or, by-either, and-left, and-right, and-true, not-both}
 use Rattle.law_file.proofs.Bytes.{Apart, apart-sym, AreBytes, part-length}
 use Rattle.law_file.proofs.Slots.{Room}
@@ -93,9 +94,8 @@ module _ (img : Bytes) (ok : check img ≡ sound) where
   beside i j n a b =
       by-le i j (λ l. apart-sym _ _ _ _ (below-beside j i (omega (arith, n)) b a)) (λ l. below-beside i j l a b)
 
-  head-four : headSize g ≡ 4
-  unfolding headSize layoutOf
-  head-four = refl
+  head-four : 4 ≤ headSize g
+  head-four = head-least img
 
   pub sound-stretches : Stretches g img
   sound-stretches =

@@ -14,7 +14,7 @@ use lib.Dec.{eqb}
 use borrow.Author.Tests.{eq-eqb, not-true}
 use Rattle.spec_file.specs.Bytes.{Bytes, part, store, digits}
 use Rattle.spec_file.specs.Limits.{pageSize, active, inactive, pointsField, freeField, pageField, slotsField, dataField, headerSize, tableStart}
-use Rattle.spec_file.specs.Image.{field, setField, lastPage, Layout, layoutOf, slotSize, slotStart, slot}
+use Rattle.spec_file.specs.Image.{field, setField, lastPage, majorOf, wide, widthOf, Layout, layoutOf, slotSize, slotStart, slot}
 use Rattle.spec_file.specs.Messages.{headSize, isActive, message, setFree, takeSpace, retire}
 use Rattle.spec_file.specs.Questions.{messageSound}
 use Rattle.law_file.proofs.Tests.{by-bool, by-eq, and-left, not-both}
@@ -39,9 +39,17 @@ pub message-end : (img : Bytes) → Opened img → (at : ℕ) → messageSound (
     → at + span (layoutOf img) img at ≤ field img freeField
 message-end img o at s z = sound-lies (layoutOf img) img at s z .end
 
+-- a header has 4 or 5 bytes
+pub head-least : (img : Bytes) → 4 ≤ headSize (layoutOf img)
+unfolding headSize layoutOf widthOf
+head-least img = by-bool (wide (majorOf img)) (λ y. rw y (omega arith)) (λ n. rw n (omega arith))
+
+pub head-most : (img : Bytes) → headSize (layoutOf img) ≤ 5
+unfolding headSize layoutOf widthOf
+head-most img = by-bool (wide (majorOf img)) (λ y. rw y (omega arith)) (λ n. rw n (omega arith))
+
 head-small : (img : Bytes) → headSize (layoutOf img) ≤ pageSize
-unfolding headSize layoutOf
-head-small img = omega arith
+head-small img = omega (arith, head-most img)
 
 pub message-fits : (img : Bytes) → Opened img → (at : ℕ) → messageSound (layoutOf img) img at ≡ true
     → at + headSize (layoutOf img) ≤ length img
@@ -53,7 +61,7 @@ message-fits img o at s =
 -- the header has 4 bytes
 pub message-head : (img : Bytes) → Opened img → (at : ℕ) → messageSound (layoutOf img) img at ≡ true
     → at + 4 ≤ length img
-message-head img o at s = unfold headSize layoutOf in message-fits img o at s
+message-head img o at s = omega (arith, message-fits img o at s, head-least img)
 
 -- the letter is the header's first byte
 letter-first : (img : Bytes) → 1 ≤ headSize (layoutOf img)

@@ -15,7 +15,7 @@ use Rattle.spec_file.specs.Image.{field, Layout, slot, putSlot, keyOf, blank, v
 use Rattle.spec_file.specs.Delete.{moved, closed}
 use Rattle.law_file.proofs.Tests.{by-eq, not-both}
 use Rattle.law_file.proofs.Slots.{Room, length-slot, slot-putSlot-same, slot-putSlot-other, Outside, part-putSlot-outside, length-blank, vacant-blank}
-use Rattle.law_file.proofs.Kept.{Kept, middleSize, restSize}
+use Rattle.law_file.proofs.Kept.{major-same, Kept, middleSize, restSize}
 use Rattle.law_file.proofs.Table.{Taken, keyAt, weigh, weight}
 use Rattle.law_file.proofs.Spread.{over, over-moved, room-half, slot-moved-from, slot-moved-hole, slot-moved-other}
 use Rattle.law_file.proofs.Closing.{Going, hole-other, closed-induct, length-closed}
@@ -49,6 +49,7 @@ module _ (g : Layout) (img : Bytes) (r : Room g (length img)) (i : ℕ) (l : i <
             record {
               size = length-closed g img r i l;
               magic = part-closed 0 5 (inl (omega arith));
+              major = major-same img (closed g img i) (part-closed versionField 3 (inl (omega arith)));
               front = part-closed serialField (pointsField - serialField) (inl (omega arith));
               middle = part-closed multiplierField middleSize (inl (omega arith));
               rest = part-closed headerSize restSize (inl (omega arith));

@@ -10,16 +10,18 @@ use mathlib.Core.Path.{_≡_, refl, sym, ap, ap₂, _∙_, fun-ext}
 use Prim.Native.Nat.{ℕ, _+_, _-_, _*_, _≤_, _<_}
 use native.Mathlib.Omega.{arith}
 use mathlib.Core.Logic.{inl, inr}
-use mathlib.Core.Bool.{true}
+use mathlib.Core.Bool.{true, false, _&&_}
 use mathlib.Core.List.{[], _∷_}
 use lib.ListN.{length, getD, drop}
+use lib.Dec.{eqb, leb}
+use borrow.Author.Tests.{eqb-true}
 use lib.Seq.{getD-take, getD-drop}
 use Rattle.spec_file.specs.Bytes.{Bytes, part, store, number, digits, same}
-use Rattle.spec_file.specs.Limits.{mostCharacter, magic, major, minor, patch, versionField, serialField, keyField, slotsField, pointsField, multiplierField, startField, firstField, lastField, scrambleField, tableField, dataField, freeField, pageField, headerSize, scrambleStart, tableStart}
-use Rattle.spec_file.specs.Image.{field, setField, hash, scramble, layoutOf}
+use Rattle.spec_file.specs.Limits.{mostCharacter, magic, major, minor, patch, wideMajor, wideMinor, widePatch, versionField, serialField, keyField, slotsField, pointsField, multiplierField, startField, firstField, lastField, scrambleField, tableField, dataField, freeField, pageField, headerSize, scrambleStart, tableStart}
+use Rattle.spec_file.specs.Image.{field, setField, hash, scramble, majorOf, wide, layoutOf}
 use Rattle.spec_file.specs.Questions.{versionKnown}
 use Rattle.law_file.proofs.Bytes.{Apart, apart-inside, length-store, part-store-other, part-store-same, part-part, length-digits}
-use Rattle.law_file.proofs.Tests.{and-left}
+use Rattle.law_file.proofs.Tests.{and-left, and-right, by-or, not-both}
 use Rattle.law_file.proofs.Opened.{Opened}
 
 -- the bytes from the multiplier to D, and those from behind M to the table, the scramble among them
@@ -33,6 +35,7 @@ restSize = tableStart - headerSize
 pub record Fixed (img img′ : Bytes) : Type 0 where
   pub size : length img′ ≡ length img
   pub magic : part img′ 0 5 ≡ part img 0 5
+  pub major : majorOf img′ ≡ majorOf img
   pub front : part img′ serialField (pointsField - serialField) ≡ part img serialField (pointsField - serialField)
   pub middle : part img′ multiplierField middleSize ≡ part img multiplierField middleSize
   pub rest : part img′ headerSize restSize ≡ part img headerSize restSize
@@ -41,10 +44,23 @@ pub record Kept (img img′ : Bytes) : Type 0 where
   pub fixed : Fixed img img′
   pub version : part img′ versionField 3 ≡ part img versionField 3
 
+-- a byte of a part
+byte-part : (b : Bytes) (p n i : ℕ) → i < n → getD (part b p n) i 0 ≡ getD b (p + i) 0
+unfolding part
+byte-part b p n i h = getD-take n (drop p b) i 0 h ∙ getD-drop p b i 0
+
+-- the version's first byte, by its three
+pub major-same : (img img′ : Bytes) → part img′ versionField 3 ≡ part img versionField 3 → majorOf img′ ≡ majorOf img
+unfolding majorOf
+major-same img img′ e =
+    sym (byte-part img′ versionField 3 0 (omega arith))
+    ∙ ap (λ (l : Bytes). getD l 0 0) e
+    ∙ byte-part img versionField 3 0 (omega arith)
+
 pub kept-refl : (img : Bytes) → Kept img img
 kept-refl img =
     record {
-      fixed = record { size = refl; magic = refl; front = refl; middle = refl; rest = refl };
+      fixed = record { size = refl; magic = refl; major = refl; front = refl; middle = refl; rest = refl };
       version = refl;
     }
 
@@ -53,6 +69,7 @@ fixed-trans p q =
     record {
       size = q .size ∙ p .size;
       magic = q .magic ∙ p .magic;
+      major = q .major ∙ p .major;
       front = q .front ∙ p .front;
       middle = q .middle ∙ p .middle;
       rest = q .rest ∙ p .rest;
@@ -78,6 +95,7 @@ kept-spared img p v h a =
           record {
             size = length-store img p v h;
             magic = before 0 5 (omega arith);
+            major = major-same img (store img p v) (before versionField 3 (omega arith));
             front = before serialField (pointsField - serialField) (omega arith);
             middle = part-store-other img p v multiplierField middleSize h (a .middle);
             rest = part-store-other img p v headerSize restSize h (a .rest);
@@ -122,11 +140,6 @@ inside a b p n q m e lo hi =
     ∙ ap (λ (l : Bytes). part l (q - p) m) e
     ∙ part-part b p n (q - p) m (omega (arith, lo, hi))
     ∙ ap (λ (x : ℕ). part b x m) (sym at)
-
--- a byte of a part
-byte-part : (b : Bytes) (p n i : ℕ) → i < n → getD (part b p n) i 0 ≡ getD b (p + i) 0
-unfolding part
-byte-part b p n i h = getD-take n (drop p b) i 0 h ∙ getD-drop p b i 0
 
 module _ {img img′ : Bytes} (k : Fixed img img′) where
   front-field : (at : ℕ) → serialField ≤ at → at + 4 ≤ pointsField → field img′ at ≡ field img at
@@ -181,7 +194,7 @@ module _ {img img′ : Bytes} (k : Fixed img img′) where
 
   pub kept-layout : field img lastField ≤ mostCharacter → layoutOf img′ ≡ layoutOf img
   unfolding layoutOf
-  kept-layout h = rw (kept-key, kept-slots, kept-data, kept-hash h) refl
+  kept-layout h = rw (kept-key, kept-slots, kept-data, k .major, kept-hash h) refl
 
   -- questions 1, 5 and 6 again, given the version, C and X
   pub opened-known : Opened img → versionKnown img′ ≡ true → field img′ pointsField ≤ field img slotsField
@@ -233,6 +246,17 @@ module _ {img img′ : Bytes} (k : Kept img img′) where
 
 -- ---- the version written
 
+-- the major version is 1, of an image whose header is accepted and which is not wide
+pub major-narrow : (img : Bytes) → versionKnown img ≡ true → wide (majorOf img) ≡ false → majorOf img ≡ major
+unfolding versionKnown wide majorOf
+major-narrow img v n =
+    by-or (eqb (getD img 5 0) major && eqb (getD img 6 0) minor && leb (getD img 7 0) patch) _
+    (and-right (same (part img 0 5) magic) _ v)
+    (λ one. eqb-true (getD img 5 0) major (and-left _ _ (and-left _ _ one)))
+    (λ no′ two.
+    let other = and-left (eqb (getD img 5 0) wideMajor && eqb (getD img 6 0) wideMinor) _ two in
+    absurd (not-both _ (and-left _ _ other) n))
+
 module _ (img : Bytes) (o : Opened img) where
   abbrev versioned : Bytes
   versioned = store img versionField (major ∷ minor ∷ patch ∷ [])
@@ -243,29 +267,34 @@ module _ (img : Bytes) (o : Opened img) where
   pub version-elsewhere : (p n : ℕ) → Apart p n versionField 3 → part versioned p n ≡ part img p n
   version-elsewhere p n a = part-store-other img versionField (major ∷ minor ∷ patch ∷ []) p n inside-image a
 
-  pub version-fixed : Fixed img versioned
-  version-fixed =
-      record {
-        size = length-store img versionField (major ∷ minor ∷ patch ∷ []) inside-image;
-        magic = version-elsewhere 0 5 (inl (omega arith));
-        front = version-elsewhere serialField (pointsField - serialField) (inr (omega arith));
-        middle = version-elsewhere multiplierField middleSize (inr (omega arith));
-        rest = version-elsewhere headerSize restSize (inr (omega arith));
-      }
-
   version-at : (i : ℕ) → i < 3 → getD versioned (versionField + i) 0 ≡ getD (major ∷ minor ∷ patch ∷ []) i 0
   version-at i h =
       sym (byte-part versioned versionField 3 i h)
       ∙ ap (λ (l : Bytes). getD l i 0)
       (part-store-same img versionField (major ∷ minor ∷ patch ∷ []) (omega (arith, inside-image)))
 
+  version-major : majorOf versioned ≡ major
+  unfolding majorOf
+  version-major = version-at 0 (omega arith)
+
+  pub version-fixed : wide (majorOf img) ≡ false → Fixed img versioned
+  version-fixed n =
+      record {
+        size = length-store img versionField (major ∷ minor ∷ patch ∷ []) inside-image;
+        magic = version-elsewhere 0 5 (inl (omega arith));
+        major = version-major ∙ sym (major-narrow img (o .version) n);
+        front = version-elsewhere serialField (pointsField - serialField) (inr (omega arith));
+        middle = version-elsewhere multiplierField middleSize (inr (omega arith));
+        rest = version-elsewhere headerSize restSize (inr (omega arith));
+      }
+
   -- "question 5 accepts up to 2"
   pub version-known : versionKnown versioned ≡ true
   unfolding versionKnown
   version-known =
-      let m : same (part img 0 5) magic ≡ true = and-left _ _ (and-left _ _ (and-left _ _ (o .version))) in
+      let m : same (part img 0 5) magic ≡ true = and-left _ _ (o .version) in
       rw (
-        version-fixed .magic,
+        version-elsewhere 0 5 (inl (omega arith)),
         m,
         version-at 0 (omega arith),
         version-at 1 (omega arith),

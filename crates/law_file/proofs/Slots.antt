@@ -11,8 +11,8 @@ use lib.ListN.{length, take, drop, replicate, length-append, length-replicate, r
 use lib.Seq.{take-at, drop-at, take-take, length-take-le}
 use Rattle.spec_file.specs.Bytes.{Bytes, part, store, number, digits, zeros, allZero}
 use Rattle.spec_file.specs.Limits.{word, tableStart}
-use Rattle.spec_file.specs.Image.{field, setField, Layout, layoutOf, slotSize, slotStart, slot, putSlot, keyOf, offsetOf, slotBytes, blank, vacant}
-use Rattle.law_file.proofs.Tests.{by-le, by-eq}
+use Rattle.spec_file.specs.Image.{field, setField, majorOf, wide, mostOf, widthOf, Layout, layoutOf, slotSize, slotStart, slot, putSlot, keyOf, offsetOf, slotBytes, blank, vacant}
+use Rattle.law_file.proofs.Tests.{by-bool, by-le, by-eq}
 use Rattle.law_file.proofs.Bytes.{part-length, length-store, part-store-same, part-store-other, Apart, length-digits, number-digits-fits, length-zeros, allZero-zeros}
 
 -- ---- fields
@@ -54,8 +54,8 @@ pub record Room (g : Layout) (len : ℕ) : Type 0 where
 
 -- question 12's bound can be written in the W bytes of a message's length
 pub layout-most : (img : Bytes) → layoutOf img .most < 256 ^ layoutOf img .W
-unfolding layoutOf
-layout-most img = omega arith
+unfolding layoutOf mostOf widthOf
+layout-most img = by-bool (wide (majorOf img)) (λ y. rw y (omega arith)) (λ n. rw n (omega arith))
 
 -- a slot ends at or below the data offset
 pub slot-end : (g : Layout) {len : ℕ} → Room g len → (i : ℕ) → i < g .N → slotStart g i + slotSize g ≤ g .D

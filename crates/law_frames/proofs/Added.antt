@@ -19,7 +19,7 @@ use lib.Dec.{eqb, leb, ltb}
 use borrow.Author.Tests.{leb-true, eqb-true, ne-eqb}
 use Rattle.spec_file.specs.Bytes.{Bytes, part, store, digits, zeros, allZero}
 use Rattle.spec_file.specs.Limits.{inactive, major, minor, patch, versionField, pointsField, freeField, pageField, headerSize, tableStart}
-use Rattle.spec_file.specs.Image.{field, setField, lastPage, Layout, layoutOf, slotSize, slotStart, slot, putSlot, offsetOf, slotBytes}
+use Rattle.spec_file.specs.Image.{field, setField, lastPage, majorOf, wide, Layout, layoutOf, slotSize, slotStart, slot, putSlot, offsetOf, slotBytes}
 use Rattle.spec_file.specs.Search.{met, empty, exhausted, search, isMet}
 use Rattle.spec_file.specs.Messages.{headSize, lengthAt, textAt, isActive, shown, bytesOf, shownLength, held, message, setFree, takeSpace, retire, overwrite, freshText, renewedText, enter, inserted, relocated, renewed, renewedAt, addedAt, noted, added}
 use Rattle.spec_file.specs.Questions.{nameAllowed, modeKnown, messageSound, lengthAllowed, spaceLeft, openNumber, addNumber, placeNumber}
@@ -225,7 +225,7 @@ noted-keeps : (p n : ℕ) (bytes : Bytes) (mode : ℕ) (b : Bytes) → headerSiz
     → part (noted bytes mode b) p n ≡ part b p n
 unfolding noted
 noted-keeps p n bytes mode b h =
-    by-bool (eqb (length bytes) 0 && (eqb mode 1 || eqb mode 2))
+    by-bool (eqb (length bytes) 0 && (eqb mode 1 || eqb mode 2) && not (wide (majorOf b)))
     (λ y. rw y (part-store-behind b versionField (major ∷ minor ∷ patch ∷ []) p n (omega arith)))
     (λ no′. rw no′ refl)
 

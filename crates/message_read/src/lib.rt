@@ -1,9 +1,10 @@
 // A message is read: whether it is sound, whether it is active, how long it is, and its text.
-use bytes_words::fields::read_low_u24;
 use bytes_words::fields::read_u32;
 use bytes_words::limits::FREE_FIELD;
+use bytes_words::limits::HEAD;
 use header_layout::places::Offset;
 use header_layout::shape::Shape;
+use header_layout::shape::length_mask;
 ghost use mathlib.Core.Path.{_≡_};
 ghost use mathlib.Core.Bool.{not, _&&_};
 ghost use lib.Dec.{eqb, leb};
@@ -19,7 +20,7 @@ pub fn length_at(image: &[u8], shape: Shape, o: Offset) -> usize
     requires { ⌜ Open (now image) shape × (o .0 + shape .head ≤ length (now image)) ⌝ }
     ensures { λ r. ⌜ r ≡ lengthAt (layoutOf (now (image .entry))) (now (image .entry)) (o .0) ⌝ }
 {
-    read_low_u24(image, o.at()) as usize
+    (read_u32(image, o.at() + (shape.head - HEAD)) & length_mask(shape.head)) as usize
 }
 
 // Question 11 of an offset. The header is read only once its end is known to lie below X.

@@ -4,6 +4,7 @@ use bytes_words::answers::TOO_LONG;
 use bytes_words::fields::read_u32;
 use bytes_words::limits::FREE_FIELD;
 use header_layout::shape::Shape;
+use header_layout::shape::most_length;
 ghost use mathlib.Core.Path.{_≡_};
 ghost use mathlib.Core.Option.{some};
 ghost use lib.ListN.{length};
@@ -18,7 +19,7 @@ pub fn room_number(image: &[u8], shape: Shape, m: usize) -> u32
     ensures { λ r. ⌜ ((t : Bytes) → length t ≡ m
         → r ≡ placeNumber (layoutOf (now (image .entry))) (now (image .entry)) (some t)) ⌝ }
 {
-    if shape.most < m {
+    if most_length(shape.head) < m {
         return TOO_LONG;
     }
     let free = read_u32(image, FREE_FIELD) as usize;

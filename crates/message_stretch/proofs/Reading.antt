@@ -20,7 +20,7 @@ use Rattle.law_file.proofs.Tests.{by-bool, by-eq}
 use Rattle.law_file.proofs.Opened.{opened-facts}
 use Rattle.law_file.proofs.Effects.{message-low, message-end}
 use Rattle.header_layout.specs.declared.shape.Shape.{Shape}
-use Rattle.header_layout.proofs.Shaped.{shape-head, head-width}
+use Rattle.header_layout.proofs.Shaped.{shape-head, head-range}
 use Rattle.table_search.specs.Slots.{vacantIn, offsetIn}
 use Rattle.message_stretch.specs.Checked.{startIn, endIn, Readable, Checked}
 
@@ -94,7 +94,7 @@ stretched img s i r z =
     record {
       low = omega (arith, t .1, message-low img o (offsetIn img i) m n);
       order = omega (arith, e);
-      some = omega (arith, head-width (r .opened), shape-head (r .opened));
+      some = omega (arith, head-range (r .opened), shape-head (r .opened));
       high = omega (arith, e, l, t .1, message-end img o (offsetIn img i) m n);
       inside = omega (arith, e, l, t .1, message-end img o (offsetIn img i) m n, o .free-high);
       small = omega (arith, e, l, t .1, message-end img o (offsetIn img i) m n, o .free-high, o .size-high);

@@ -13,7 +13,7 @@ use lib.ListN.{length, take, drop, set, length-append}
 use lib.Seq.{take-append-add}
 use borrow.Rule.Slice.PartMut.{midOf, putMid, mid-len}
 use Rattle.spec_file.specs.Bytes.{Bytes, part, store, digits, zeros}
-use Rattle.spec_file.specs.Limits.{active, inactive, lengthWidth, freeField}
+use Rattle.spec_file.specs.Limits.{active, inactive, freeField}
 use Rattle.spec_file.specs.Image.{field, Layout}
 use Rattle.spec_file.specs.Messages.{headSize, lengthAt, isActive, message, held, setFree, takeSpace, retire, overwrite}
 use Rattle.law_file.proofs.Bytes.{part-length, length-part-append, part-part, part-store-same, length-store, length-digits, length-zeros}
@@ -63,14 +63,21 @@ written-steps W s v n h =
     ∙ append-assoc top old v
     ∙ ap (λ (k : ℕ). header W k ++ (old ++ v)) (sym long)
 
--- the same where the header's size is known by its width
-pub written-at : (s v : Bytes) (n head : ℕ) → head ≡ lengthWidth + 1 → length s ≡ head + n + length v
-    → store (store s 0 (active ∷ digits lengthWidth (n + length v))) (head + n) v
-    ≡ message lengthWidth (part s head n ++ v)
-written-at s v n head e =
-    subst (λ (h : ℕ). length s ≡ h + n + length v
-    → store (store s 0 (active ∷ digits lengthWidth (n + length v))) (h + n) v
-    ≡ message lengthWidth (part s h n ++ v)) (sym e) (written-steps lengthWidth s v n)
+-- a letter and the number behind it are one store
+pub head-wide : (s : Bytes) (m : ℕ) → 5 ≤ length s
+    → store (set s 0 active) 1 (digits 4 m) ≡ store s 0 (active ∷ digits 4 m)
+head-wide s m h =
+    ap (λ (b : Bytes). store b 1 (digits 4 m)) (set-store s 0 active (omega arith))
+    ∙ store-append s 0 (active ∷ []) (digits 4 m) (omega (arith, length-digits 4 m))
+
+-- the same by the header's size
+pub written-at : (s v : Bytes) (n head : ℕ) → 0 < head → length s ≡ head + n + length v
+    → store (store s 0 (active ∷ digits (head - 1) (n + length v))) (head + n) v
+    ≡ message (head - 1) (part s head n ++ v)
+written-at s v n head z l =
+    let W = head - 1 in
+    subst (λ (h : ℕ). store (store s 0 (active ∷ digits W (n + length v))) (h + n) v
+    ≡ message W (part s h n ++ v)) (omega arith) (written-steps W s v n (omega arith))
 
 -- ---- a message written over an old one, in the image of layout g; its header has `head` bytes
 module _ (g : Layout) (img v : Bytes) (o m head : ℕ) (is-head : head ≡ g .W + 1) (some′ : 0 < o)

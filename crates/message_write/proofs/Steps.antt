@@ -22,7 +22,7 @@ use Rattle.law_file.proofs.Opened.{firstNo-head, firstNo-tail, opened-facts}
 use Rattle.law_file.proofs.Effects.{retire-kept, retire-opened, retire-field, retire-slot, retire-behind, spaced, space-kept, space-opened}
 use Rattle.header_layout.specs.Shapes.{Open}
 use Rattle.header_layout.specs.declared.shape.Shape.{Shape}
-use Rattle.header_layout.proofs.Shaped.{shape-head, shape-most, head-width}
+use Rattle.header_layout.proofs.Shaped.{shape-head, shape-most, head-range}
 use Rattle.table_search.specs.Slots.{keyIn, withOffset}
 use Rattle.table_search.proofs.Headers.{layout-slots}
 use Rattle.table_search.proofs.Heads.{SameHead, same-open, head-trans, head-opened}
@@ -84,7 +84,7 @@ module _ {img : Bytes} {s : Shape} (open₀ : Open img s) (img₁ : Bytes) (o : 
   retired-text : (from n : ℕ) → from ≡ o + s .head → part img₁ from n ≡ part img (o + s .head) n
   retired-text from n e =
       ap₂ (λ (b : Bytes) (p : ℕ). part b p n) e₁ e
-      ∙ retire-behind img (opened-facts img (open₀ .accepted)) o m (o + s .head) n (omega (arith, head-width open₀))
+      ∙ retire-behind img (opened-facts img (open₀ .accepted)) o m (o + s .head) n (omega (arith, head-range open₀))
 
   module _ (img₂ bytes : Bytes) (from n : ℕ) (ef : from ≡ o + s .head) (below : o + s .head + n ≤ field img freeField)
       (fits : Fits img s (n + length bytes))

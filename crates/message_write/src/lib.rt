@@ -5,6 +5,7 @@ use bytes_words::fields::read_u32;
 use bytes_words::fields::write_low_u24;
 use bytes_words::fields::write_u32;
 use bytes_words::limits::FREE_FIELD;
+use bytes_words::limits::HEAD;
 use bytes_words::limits::PAGE;
 use bytes_words::limits::PAGE_FIELD;
 use bytes_zero::zero;
@@ -14,15 +15,15 @@ use message_read::is_active;
 use message_read::length_at;
 ghost use mathlib.Core.Path.{_≡_};
 ghost use mathlib.Core.Bool.{true};
-ghost use mathlib.Core.List.{_++_};
-ghost use Prim.Native.Nat.{_+_, _≤_, _<_, _^_};
+ghost use mathlib.Core.List.{_∷_, _++_};
+ghost use Prim.Native.Nat.{_+_, _-_, _≤_, _<_, _^_};
 ghost use lib.ListN.{length};
-ghost use Rattle.spec_file.specs.Limits.{freeField, headerSize, lengthWidth};
-ghost use Rattle.spec_file.specs.Bytes.{part};
+ghost use Rattle.spec_file.specs.Limits.{active, freeField, headerSize};
+ghost use Rattle.spec_file.specs.Bytes.{part, store, digits};
 ghost use Rattle.spec_file.specs.Image.{field, lastPage, layoutOf};
 ghost use Rattle.spec_file.specs.Messages.{held, message, setFree, takeSpace, retire, overwrite};
 ghost use Rattle.spec_file.specs.Questions.{messageSound};
-ghost use Rattle.header_layout.specs.Shapes.{Open};
+ghost use Rattle.header_layout.specs.Shapes.{Open, Tells};
 ghost use Rattle.message_write.specs.Fits.{Fits};
 
 // Makes an active message inactive.
@@ -36,16 +37,28 @@ pub fn retire(image: &mut [u8], o: Offset)
     }
 }
 
+// Writes the header of an active message of m bytes.
+pub fn write_head(space: &mut [u8], head: usize, m: usize)
+    requires { ⌜ Tells head m × (head ≤ length (now space)) ⌝ }
+    ensures { λ _. ⌜ now (space .exit) ≡ store (now (space .entry)) 0 (active ∷ digits (head - 1) m) ⌝ }
+{
+    if head == HEAD {
+        write_low_u24(space, 0, b'a', m as u32);
+        return;
+    }
+    space[0] = b'a';
+    write_u32(space, 1, m as u32);
+}
+
 // Writes an active message: its header, and the bytes behind the text's first `before` bytes, which stand there.
 pub fn write_message(space: &mut [u8], head: usize, before: usize, bytes: &[u8])
-    requires { ⌜ (head ≡ lengthWidth + 1)
-        × (length (now space) ≡ head + before + length (now bytes))
-        × (before + length (now bytes) < 256 ^ lengthWidth) ⌝ }
+    requires { ⌜ Tells head (before + length (now bytes))
+        × (length (now space) ≡ head + before + length (now bytes)) ⌝ }
     ensures { λ _. ⌜ now (space .exit)
-        ≡ message lengthWidth (part (now (space .entry)) head before ++ now (bytes .entry)) ⌝ }
+        ≡ message (head - 1) (part (now (space .entry)) head before ++ now (bytes .entry)) ⌝ }
 {
     let m = before + bytes.len();
-    write_low_u24(space, 0, b'a', m as u32);
+    write_head(space, head, m);
     let from = head + before;
     copy(&mut space[from..], bytes);
 }

@@ -1,16 +1,19 @@
--- Document 01, "The plain control book", as document 02 changes it (Job 4), with its step for compaction (Job 2) and
--- its choice by epoch (Job 14): entries with distinct names, which its steps keep so, and the space used. It knows
--- nothing of slots or bytes of an image: "Each step is fed its call's arguments and nothing from the file."
+-- Document 01, "The plain control book", as document 02 changes it (Job 4), with its steps for compaction (Job 2) and
+-- for the converter (Job 11), and its choice by epoch (Job 14): entries with distinct names, which its steps keep so,
+-- and the space used. It knows nothing of slots or bytes of an image: "Each step is fed its call's arguments and
+-- nothing from the file."
 -- Assumes nothing.
-use Prim.Native.Nat.{ℕ, _+_}
+use Prim.Native.Nat.{ℕ, _+_, _-_}
 use mathlib.Core.Bool.{Bool, true, false, cond, _&&_}
 use mathlib.Core.List.{List, [], _∷_, _++_}
 use mathlib.Core.Option.{Option, none, some}
 use lib.ListN.{length}
 use lib.Dec.{leb, ltb, eqb}
 use Rattle.spec_file.specs.Bytes.{Bytes, same}
+use Rattle.spec_file.specs.Limits.{lengthWidth, mostLength, wideWidth, mostWide}
+use Rattle.spec_file.specs.Image.{dataStart}
 use Rattle.spec_file.specs.Messages.{bytesOf, isText}
-use Rattle.spec_file.specs.Questions.{Question, ask, firstNo, nameAllowed, named}
+use Rattle.spec_file.specs.Questions.{Question, ask, firstNo, sizeAllowed, nameAllowed, named}
 use Rattle.spec_file.specs.Calls.{Answer, Outcome, plain}
 use Rattle.spec_file.specs.Lists.{Call, adding, deleting, looking, counting}
 use Rattle.spec_columns.specs.Columns.{wholeRecords, columns}
@@ -60,7 +63,8 @@ withEntry e es = e ∷ without (e .name) es
 unfoldable pub stepOf : Book → List Question → Book → Outcome Book
 stepOf b asks next = record { after = cond (eqb (firstNo asks) 0) next b; answer = plain (firstNo asks) }
 
--- "12 if m is above 16,777,215 and 13 if U + 4 + m exceeds R"
+-- "12 if m is above 16,777,215 and 13 if U + 4 + m exceeds R". Job 11, here and below: "On a 2.0 image the book adds 5
+-- where it added 4, and question 12's bound is 1,073,741,823"
 unfoldable pub roomAsks : Book → ℕ → List Question
 roomAsks b m = ask 12 (leb m (b .terms .most)) ∷ ask 13 (leb (b .used + b .terms .head + m) (b .terms .R)) ∷ []
 
@@ -225,6 +229,48 @@ compactedBook b =
 -- it answers 0: a file in such a list is sound
 unfoldable pub bookCompact : Book → Outcome Book
 bookCompact b = record { after = compactedBook b; answer = plain 0 }
+
+-- Document 02, Job 11, of the converter: "the book takes its compaction step with the other header size and the
+-- target's R". Of 2.0: "On a 2.0 image the book adds 5 where it added 4, and question 12's bound is 1,073,741,823."
+unfoldable pub otherTerms : Terms → ℕ → Terms
+otherTerms t L =
+    let narrow : Bool = eqb (t .head) (wideWidth + 1) in
+    record {
+      K = t .K;
+      N = t .N;
+      R = L - dataStart (t .K) (t .N);
+      head = cond narrow (lengthWidth + 1) (wideWidth + 1);
+      most = cond narrow mostLength mostWide;
+    }
+
+unfoldable pub convertedBook : Book → ℕ → Book
+convertedBook b L =
+    record {
+      terms = otherTerms (b .terms) L;
+      entries = trimmedAll (b .entries);
+      used = spaceForAll (otherTerms (b .terms) L .head) (b .entries);
+    }
+
+-- "20 on narrowing an active message above 16,777,215 bytes": whether each text is at most so long
+unfoldable pub textFits : ℕ → Option Bytes → Bool
+textFits most none = true
+textFits most (some t) = leb (length t) most
+
+unfoldable pub textsFit : ℕ → List Entry → Bool
+textsFit most [] = true
+textsFit most (e ∷ es) = textFits most (e .text) && textsFit most es
+
+-- "and puts the target's 1, 20 and 13 as the file does": D + U ≤ L and not U ≤ L − D, for L may be below D
+unfoldable pub convertAsks : Book → ℕ → List Question
+convertAsks b L =
+    let t : Terms = otherTerms (b .terms) L in
+    ask 1 (sizeAllowed L)
+    ∷ ask 20 (textsFit (t .most) (b .entries))
+    ∷ ask 13 (leb (dataStart (t .K) (t .N) + spaceForAll (t .head) (b .entries)) L)
+    ∷ []
+
+unfoldable pub bookConvert : Book → ℕ → Outcome Book
+bookConvert b L = stepOf b (convertAsks b L) (convertedBook b L)
 
 unfoldable pub bookCall : Call → Book → Outcome Book
 bookCall (adding name data′ mode) b = bookAdd b name data′ mode

@@ -18,7 +18,7 @@ use Rattle.spec_file.specs.Search.{search, isMet}
 use Rattle.spec_file.specs.Questions.{nameAllowed}
 use Rattle.spec_file.specs.Calls.{create, lookup}
 use Rattle.spec_file.specs.Lists.{Call, call, answers, stateAfter}
-use Rattle.spec_book.specs.Steps.{Step, calling, compacting, listing, journaling, storing, reading, performOn, State, alone, perform, dating}
+use Rattle.spec_book.specs.Steps.{Step, calling, compacting, listing, journaling, storing, reading, converting, performOn, State, alone, perform, dating}
 use Rattle.spec_book.specs.Book.{Book, Entry, newBook, find, bookCall}
 use Rattle.spec_book.specs.Told.{bookStep, toldBy, bookTold}
 use Rattle.spec_book.specs.Reopened.{termsOf, Starts}
@@ -79,6 +79,7 @@ isPlain (listing c work list) = false
 isPlain (journaling c work j) = false
 isPlain (storing name recs W) = true
 isPlain (reading name room) = true
+isPlain (converting L) = true
 isPlain (dating name t) = true
 
 unfoldable pub AllPlain : List Step → Type 0
@@ -86,7 +87,7 @@ AllPlain [] = Unit {0}
 AllPlain (c ∷ cs) = (isPlain c ≡ true) × AllPlain cs
 
 -- Job 3: "Every list of calls on such an image then agrees with it", and on a new one, with Job 2's compaction, Job
--- 10's records and Job 14's choice by epoch
+-- 10's records, Job 11's converter and Job 14's choice by epoch
 unfoldable pub AgreementFrom : Type 0
 AgreementFrom =
     (img : Bytes) (b : Book) → Starts (alone img) b → (steps : List Step) → AllPlain steps

@@ -9,6 +9,7 @@ use Rattle.spec_file.specs.Bytes.{Bytes}
 use Rattle.spec_file.specs.Calls.{Outcome, plain, add, delete}
 use Rattle.spec_file.specs.Lists.{Call, call}
 use Rattle.spec_compaction.specs.Compact.{compact}
+use Rattle.spec_conversion.specs.Convert.{convert}
 use Rattle.spec_changes.specs.Changes.{Listed, listed}
 use Rattle.spec_changes.specs.Journal.{Journaled, journaled}
 use Rattle.spec_records.specs.Records.{storeRecords, readRecords}
@@ -28,8 +29,9 @@ changed compacts img = compact img
 -- Document 01's calls. Job 2, of compaction: "Lists of calls may now contain it". Job 8: "with a working slice that
 -- also fills a lent list": the working slice's length, for its bytes do not matter, and the list. Job 9: "with Job 8's
 -- working slice but no list", and a journal. Job 10: records and their width; the length of the slice that is lent for
--- them, for its bytes do not matter. Job 14: "After every list of calls this is the book's own choice": of a prism's
--- name, of any length, and an epoch, any number.
+-- them, for its bytes do not matter. Job 11, of the converter: "Lists of calls may contain it and go on in the target":
+-- the target's length, for its bytes do not matter. Job 14: "After every list of calls this is the book's own choice":
+-- of a prism's name, of any length, and an epoch, any number.
 pub data Step : Type 0 where
   calling : Call → Step
   compacting : Step
@@ -37,6 +39,7 @@ pub data Step : Type 0 where
   journaling : Change → ℕ → Bytes → Step
   storing : Bytes → Bytes → ℕ → Step
   reading : Bytes → ℕ → Step
+  converting : ℕ → Step
   dating : Bytes → ℕ → Step
 
 -- ---- one image
@@ -61,6 +64,7 @@ performOn (listing c work list) img = listedOutcome (listed (changed c) img work
 performOn (journaling c work j) img = journaledOutcome (journaled (changed c) img work j)
 performOn (storing key recs W) img = storeRecords img key recs W
 performOn (reading key room) img = readRecords img key room
+performOn (converting L) img = convert img L
 performOn (dating name t) img = datedOutcome img (atEpoch img name t)
 
 -- ---- the state

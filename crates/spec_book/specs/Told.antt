@@ -14,8 +14,8 @@ use Rattle.spec_file.specs.Image.{dataStart}
 use Rattle.spec_file.specs.Questions.{ask}
 use Rattle.spec_file.specs.Calls.{Outcome}
 use Rattle.spec_changes.specs.Changes.{listAllowed, workAllowed}
-use Rattle.spec_book.specs.Steps.{Change, adds, deletes, compacts, Step, calling, compacting, listing, journaling, storing, reading, State, perform, dating}
-use Rattle.spec_book.specs.Book.{Terms, Book, stepOf, guarded, bookAdd, bookDelete, bookStore, bookRead, bookCompact, bookCall, bookAtEpoch}
+use Rattle.spec_book.specs.Steps.{Change, adds, deletes, compacts, Step, calling, compacting, listing, journaling, storing, reading, converting, State, perform, dating}
+use Rattle.spec_book.specs.Book.{Terms, Book, stepOf, guarded, bookAdd, bookDelete, bookStore, bookRead, bookCompact, bookConvert, bookCall, bookAtEpoch}
 
 unfoldable pub bookChanged : Change → Book → Outcome Book
 bookChanged (adds name data′ mode) b = bookAdd b name data′ mode
@@ -40,6 +40,7 @@ bookStep seventeen (journaling c work j) b =
     (guarded b (ask 16 (workAllowed (imageLength (b .terms)) work) ∷ []) (bookChanged c b))
 bookStep seventeen (storing name recs W) b = bookStore b name recs W
 bookStep seventeen (reading name room) b = bookRead b name room
+bookStep seventeen (converting L) b = bookConvert b L
 bookStep seventeen (dating name t) b = bookAtEpoch b name t
 
 -- ---- what the book is told

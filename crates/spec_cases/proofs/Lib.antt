@@ -7,3 +7,4 @@ pub mod CasesInspected
 pub mod CasesRead
 pub mod CasesLists
 pub mod CasesMore
+pub mod CasesWider

@@ -28,9 +28,10 @@ use Rattle.spec_changes.specs.Changes.{listed}
 use Rattle.spec_changes.specs.Journal.{journaledNumber, journaled}
 use Rattle.spec_columns.specs.Columns.{columns}
 use Rattle.spec_records.specs.Records.{storeAsks, storeNumber, storeRecords, storedBytes, readable, readAsks, readNumber, recordsAnswer, readRecords}
-use Rattle.spec_book.specs.Steps.{Change, adds, deletes, compacts, changed, Step, calling, compacting, listing, journaling, storing, reading, listedOutcome, journaledOutcome, performOn, dating, datedOutcome}
+use Rattle.spec_book.specs.Steps.{Change, adds, deletes, compacts, changed, Step, calling, compacting, listing, journaling, storing, reading, converting, listedOutcome, journaledOutcome, performOn, dating, datedOutcome}
 use Rattle.spec_epoch.specs.Epochs.{chosen, atEpochAsks, atEpochNumber, shownAt, refusedDated, atEpoch}
 use Rattle.spec_compaction.specs.Compact.{compacted, isSound, compactNumber, compact}
+use Rattle.spec_conversion.specs.Convert.{converted, lengthsTold, targetHolds, convertNumber, convert}
 use Rattle.spec_file.specs.Inspect.{Stop, stopAt, nextTaken, keyWalk, Verdict, tableVerdict, check}
 
 -- ---- questions 1, 3 and 6 as they were
@@ -190,6 +191,18 @@ oldRead img key room =
     readBy img
     (firstNo (oldOpened img (lookupAsks g img (search g img key) key ++ (ask 19 (readable stored room) ∷ [])))) stored
 
+-- the converter, by its source's answers to 1 and 6 and by its verdict; the target is another slice, of today's limits
+convertBy : Bytes → ℕ → Bool → Bool → Verdict → Outcome Bytes
+convertBy img L size header verdict =
+    let n : ℕ =
+    firstNo
+    (ask 1 size ∷ ask 1 (sizeAllowed L) ∷ ask 5 (versionKnown img) ∷ ask 6 header ∷ ask 15 (isSound verdict)
+    ∷ ask 20 (lengthsTold img) ∷ ask 13 (targetHolds img L) ∷ []) in
+    record { after = settled n img (converted img L); answer = plain n }
+
+pub oldConvert : Bytes → ℕ → Outcome Bytes
+oldConvert img L = convertBy img L (oldSize (length img)) (oldHeader img) (oldCheck img)
+
 pub oldPerform : Step → Bytes → Outcome Bytes
 oldPerform (calling c) img = oldCall c img
 oldPerform compacting img = oldCompact img
@@ -197,6 +210,7 @@ oldPerform (listing c work list) img = listedOutcome (listed (oldChanged c) img 
 oldPerform (journaling c work j) img = journaledOutcome (journaled (oldChanged c) img work j)
 oldPerform (storing key recs W) img = oldStore img key recs W
 oldPerform (reading key room) img = oldRead img key room
+oldPerform (converting L) img = oldConvert img L
 oldPerform (dating name t) img =
     atEpochBy img name t (firstNo (oldOpened img (atEpochAsks (layoutOf img) img name t)))
 
@@ -261,6 +275,13 @@ read-as-before img key room w =
     ap (λ (qs : List Question). readBy img (firstNo qs) (storedBytes img key)) (opened-as-before img _ w)
     ∙ ap (λ (t : Bytes). readBy img (firstNo (oldOpened img (by t))) t) same′
 
+convert-as-before : (img : Bytes) (L : ℕ) → Within img → convert img L ≡ oldConvert img L
+unfolding convert oldConvert convertNumber convertBy
+convert-as-before img L w =
+    ap₂ (λ (a b : Bool). convertBy img L a b (check img)) (size-as-before (length img) (w .size))
+    (header-as-before img (w .slots))
+    ∙ ap (convertBy img L (oldSize (length img)) (oldHeader img)) (check-as-before img w)
+
 call-as-before : (c : Call) (img : Bytes) → Within img → call c img ≡ oldCall c img
 unfolding call
 call-as-before (adding key data′ mode) img w = add-as-before img key data′ mode w
@@ -301,6 +322,7 @@ perform-as-before (journaling c work j) img w =
     ap journaledOutcome (journaled-by (changed c) (oldChanged c) img work j (changed-as-before c img w))
 perform-as-before (storing key recs W) img w = store-as-before img key recs W w
 perform-as-before (reading key room) img w = read-as-before img key room w
+perform-as-before (converting L) img w = convert-as-before img L w
 perform-as-before (dating name t) img w = at-epoch-as-before img name t w
 
 pub create-as-before : (img : Bytes) (K N seed : ℕ) → length img ≤ oldImage → slotsAsked N ≤ oldSlots

@@ -16,7 +16,7 @@ use mathlib.Core.List.{List, [], _∷_, _++_}
 use mathlib.Core.Option.{none, some}
 use Rattle.spec_file.specs.Limits.{tableStart, dataField, freeField}
 use Rattle.spec_file.specs.Bytes.{Bytes, part, store, number, digits, zeros, allZero, same}
-use Rattle.spec_file.specs.Image.{field, setField, roundUp, dataStart, lastPage, hashStep, hashFrom, scramble, hash, layoutOf, home, slotSize, slotStart, slot, putSlot, keyOf, offsetOf, slotBytes, blank, vacant}
+use Rattle.spec_file.specs.Image.{field, setField, roundUp, dataStart, lastPage, hashStep, hashFrom, scramble, hash, majorOf, wide, widthOf, mostOf, layoutOf, home, slotSize, slotStart, slot, putSlot, keyOf, offsetOf, slotBytes, blank, vacant}
 use Rattle.spec_file.specs.Create.{step, state, drawn, drawnBytes, slotsAsked, freshHeader, freshImage}
 use Rattle.spec_file.specs.Search.{next, dist, probe, search, readFrom, slotsRead, isMet, isEmpty, slotOf}
 use Rattle.spec_file.specs.Messages.{headSize, letterAt, lengthAt, textAt, isActive, shown, bytesOf, isText, shownLength, held, message, setFree, takeSpace, retire, overwrite, freshText, renewedText, placedText, enter, inserted, relocated, renewed, renewedAt, addedAt, noted, added}
@@ -29,7 +29,8 @@ use Rattle.spec_file.specs.Inspect.{lowest, taken, takenFrom, nextTaken,
 -- file by file of `specs`, in its order
 unfoldable pub definitions : ℕ
 unfolding part store number digits zeros allZero same
-    field setField roundUp dataStart lastPage hashStep hashFrom scramble hash layoutOf home slotSize slotStart slot
+    field setField roundUp dataStart lastPage hashStep hashFrom scramble hash majorOf wide widthOf mostOf layoutOf home
+    slotSize slotStart slot
     putSlot keyOf offsetOf slotBytes blank vacant
     step state drawn drawnBytes slotsAsked freshHeader freshImage
     next dist probe search readFrom slotsRead isMet isEmpty slotOf

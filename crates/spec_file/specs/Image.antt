@@ -8,11 +8,11 @@
 use Prim.Native.Nat.{ℕ, _+_, _-_, _*_, _/_, _%_}
 use mathlib.Core.Bool.{Bool, cond, _&&_}
 use mathlib.Core.List.{[], _∷_, _++_}
-use lib.ListN.{take, drop}
+use lib.ListN.{take, drop, getD}
 use lib.Dec.{leb, eqb}
 use lib.Bits.{bitXor}
 use Rattle.spec_file.specs.Bytes.{Bytes, part, store, number, digits, zeros, allZero}
-use Rattle.spec_file.specs.Limits.{pageSize, lengthWidth, mostLength, word, minusOne, keyField, slotsField, multiplierField, startField, firstField, lastField, dataField, scrambleStart, tableStart}
+use Rattle.spec_file.specs.Limits.{pageSize, lengthWidth, mostLength, wideWidth, mostWide, wideMajor, versionField, word, minusOne, keyField, slotsField, multiplierField, startField, firstField, lastField, dataField, scrambleStart, tableStart}
 
 unfoldable pub field : Bytes → ℕ → ℕ
 field img at = number (part img at 4)
@@ -58,6 +58,20 @@ hash img key =
 
 -- ---- The layout
 
+-- the version's first byte, by which a message's header goes; "its version bytes never change" of 2.0, and of 1.x only
+-- the last one does
+unfoldable pub majorOf : Bytes → ℕ
+majorOf img = getD img versionField 0
+
+unfoldable pub wide : ℕ → Bool
+wide v = eqb v wideMajor
+
+unfoldable pub widthOf : ℕ → ℕ
+widthOf v = cond (wide v) wideWidth lengthWidth
+
+unfoldable pub mostOf : ℕ → ℕ
+mostOf v = cond (wide v) mostWide mostLength
+
 -- W is the number of bytes of a message's length, most the largest length.
 pub record Layout : Type 0 where
   pub K : ℕ
@@ -73,8 +87,8 @@ layoutOf img =
       K = field img keyField;
       N = field img slotsField;
       D = field img dataField;
-      W = lengthWidth;
-      most = mostLength;
+      W = widthOf (majorOf img);
+      most = mostOf (majorOf img);
       hashed = hash img;
     }
 

@@ -22,12 +22,19 @@ mostSlots = 1048576
 abbrev pub mostCharacter : ℕ
 mostCharacter = 255
 
--- ---- messages: bytes of a length, the largest length
+-- ---- messages: bytes of a length, the largest length, in version 1
 abbrev pub lengthWidth : ℕ
 lengthWidth = 3
 
 abbrev pub mostLength : ℕ
 mostLength = 16777215
+
+-- 02, Job 11: "Version 2.0.0 has message headers of a letter and 4 bytes", "question 12's bound is 1,073,741,823"
+abbrev pub wideWidth : ℕ
+wideWidth = 4
+
+abbrev pub mostWide : ℕ
+mostWide = 1073741823
 
 -- "a" (active) and "d" (inactive)
 abbrev pub active : ℕ
@@ -48,6 +55,16 @@ minor = 0
 
 abbrev pub patch : ℕ
 patch = 2
+
+-- 02: "Question 5 takes 2, 0, 0 too"
+abbrev pub wideMajor : ℕ
+wideMajor = 2
+
+abbrev pub wideMinor : ℕ
+wideMinor = 0
+
+abbrev pub widePatch : ℕ
+widePatch = 0
 
 -- where the version bytes and each header number stand
 abbrev pub versionField : ℕ

@@ -13,7 +13,7 @@ use lib.ListN.{length}
 use lib.Dec.{leb, eqb}
 use Rattle.spec_file.specs.Bytes.{Bytes, part, store, number, digits, zeros}
 use Rattle.spec_file.specs.Limits.{active, inactive, major, minor, patch, versionField, pointsField, freeField, pageField}
-use Rattle.spec_file.specs.Image.{field, setField, lastPage, Layout, slot, putSlot, offsetOf, slotBytes}
+use Rattle.spec_file.specs.Image.{field, setField, lastPage, majorOf, wide, Layout, slot, putSlot, offsetOf, slotBytes}
 use Rattle.spec_file.specs.Search.{Probe, met, empty, exhausted, search}
 
 -- ---- a message in the image: a letter, W bytes of length, the text
@@ -65,7 +65,7 @@ message W t = (active ∷ digits W (length t)) ++ t
 unfoldable pub setFree : ℕ → Bytes → ℕ → Bytes
 setFree D img x = setField (setField img freeField x) pageField (lastPage D x)
 
--- "New space for m bytes is taken at X, and X grows by 4 + m."
+-- "New space for m bytes is taken at X, and X grows by 4 + m." Job 11: by 5 + m where headers have 5 bytes
 unfoldable pub takeSpace : Layout → Bytes → Bytes → Bytes
 takeSpace g img t =
     let x : ℕ = field img freeField in
@@ -126,10 +126,11 @@ addedAt g img (empty i) key data′ mode = inserted g img i key (freshText data�
 addedAt g img exhausted key data′ mode = img
 
 -- 02: "Version bytes become 1, 0, 2 at create and at the first empty message stored": where an accepted add stores an
--- empty message, with empty data in mode 1 or 2
+-- empty message, with empty data in mode 1 or 2. Job 11, of 2.0: "its version bytes never change"
 unfoldable pub noted : Bytes → ℕ → Bytes → Bytes
 noted data′ mode img =
-    cond (eqb (length data′) 0 && (eqb mode 1 || eqb mode 2)) (store img versionField (major ∷ minor ∷ patch ∷ [])) img
+    cond (eqb (length data′) 0 && (eqb mode 1 || eqb mode 2) && not (wide (majorOf img)))
+    (store img versionField (major ∷ minor ∷ patch ∷ [])) img
 
 unfoldable pub added : Layout → Bytes → Bytes → Bytes → ℕ → Bytes
 added g img key data′ mode = noted data′ mode (addedAt g img (search g img key) key data′ mode)

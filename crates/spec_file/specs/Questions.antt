@@ -9,7 +9,7 @@ use mathlib.Core.Option.{Option, none, some}
 use lib.ListN.{length, getD}
 use lib.Dec.{leb, ltb, eqb}
 use Rattle.spec_file.specs.Bytes.{Bytes, part, same, allZero}
-use Rattle.spec_file.specs.Limits.{pageSize, mostImage, mostKey, mostSlots, mostCharacter, magic, major, minor, patch, active, inactive, keyField, slotsField, pointsField, firstField, lastField, scrambleField, tableField, dataField, freeField, scrambleStart, tableStart}
+use Rattle.spec_file.specs.Limits.{pageSize, mostImage, mostKey, mostSlots, mostCharacter, magic, major, minor, patch, wideMajor, wideMinor, widePatch, active, inactive, keyField, slotsField, pointsField, firstField, lastField, scrambleField, tableField, dataField, freeField, scrambleStart, tableStart}
 use Rattle.spec_file.specs.Image.{field, dataStart, Layout, layoutOf, slot, offsetOf}
 use Rattle.spec_file.specs.Search.{Probe, met, empty, exhausted, search, isMet, isEmpty}
 use Rattle.spec_file.specs.Messages.{headSize, letterAt, lengthAt, placedText}
@@ -43,10 +43,13 @@ slotsAllowed N = leb N mostSlots
 unfoldable pub tableFits : ℕ → ℕ → ℕ → Bool
 tableFits L K N = leb (dataStart K N) L
 
--- "5. Are the first 5 bytes "BHTFv", the next two 1 and 0, the next at most 1?" 02: "question 5 accepts up to 2"
+-- "5. Are the first 5 bytes "BHTFv", the next two 1 and 0, the next at most 1?" 02: "question 5 accepts up to 2";
+-- Job 11: "Question 5 takes 2, 0, 0 too"
 unfoldable pub versionKnown : Bytes → Bool
 versionKnown img =
-    same (part img 0 5) magic && eqb (getD img 5 0) major && eqb (getD img 6 0) minor && leb (getD img 7 0) patch
+    same (part img 0 5) magic
+    && ((eqb (getD img 5 0) major && eqb (getD img 6 0) minor && leb (getD img 7 0) patch)
+    || (eqb (getD img 5 0) wideMajor && eqb (getD img 6 0) wideMinor && eqb (getD img 7 0) widePatch))
 
 -- "6. Is K from 1 to 32, N from 1 to 65,536, C at most N, F ≤ E ≤ 255, are the scramble and table offsets as above, is
 -- D by its formula, and D ≤ X ≤ L?" 02: "N up to 1,048,576". After question 1 no field within these bounds has its top
@@ -100,7 +103,8 @@ metMessageSound g img exhausted = true
 unfoldable pub somePoint : Bytes → Bool
 somePoint img = leb 1 (field img pointsField)
 
--- "12. Is the message to be placed in new space at most 16,777,215 bytes?"
+-- "12. Is the message to be placed in new space at most 16,777,215 bytes?" 02, Job 11: on a 2.0 image
+-- "question 12's bound is 1,073,741,823"
 unfoldable pub lengthAllowed : Layout → Option Bytes → Bool
 lengthAllowed g none = true
 lengthAllowed g (some t) = leb (length t) (g .most)

@@ -18,6 +18,7 @@ ghost use Rattle.call_walk.specs.Stops.{stopSlot};
 ghost use Rattle.station.specs.Codes.{verdictCode, verdictSlot};
 ghost use Rattle.spec_file.specs.Calls.{create, add, delete, lookup, lookupStart, lookupLength, count, addRead, deleteRead, lookupRead};
 ghost use Rattle.spec_compaction.specs.Compact.{compact};
+ghost use Rattle.spec_conversion.specs.Convert.{convertNumber, convertInto};
 ghost use Rattle.spec_range.specs.Ranges.{select};
 ghost use Rattle.spec_epoch.specs.Epochs.{atEpoch};
 ghost use Rattle.spec_changes.specs.Journal.{Disk, recoverNumber, recovered};
@@ -61,6 +62,17 @@ pub extern "C" fn bhtf_compact(image: &mut [u8]) -> u32
         × (now (image .exit) ≡ compact (now (image .entry)) .after) ⌝ }
 {
     call_compact::compact(image)
+}
+
+// Carries a sound image into the target as the other version, compacted; the target's own bytes do not matter. Refused
+// with 1 of either slice, 5, 6, 15, 20 and 13; then the target stays as it was.
+#[no_mangle]
+pub extern "C" fn bhtf_convert(source: &[u8], target: &mut [u8]) -> u32
+    ensures { λ r. ⌜ (r ≡ convertNumber (now (source .entry)) (length (now (target .entry))))
+        × (now (target .exit) ≡ convertInto (now (source .entry)) (now (target .entry)))
+        × (now (source .exit) ≡ now (source .entry)) ⌝ }
+{
+    call_convert::convert(source, target)
 }
 
 // Where the key's message stands: its text's offset and its length, both 0 with no active message or when refused.

@@ -5,13 +5,13 @@
 --     head-putSlot, head-moved       a write to a slot, and a move, keep them
 --     kept-shape             the shape is among what no call changes
 -- Assumes nothing.
-use mathlib.Core.Path.{_≡_, refl, sym, _∙_}
-use Prim.Native.Nat.{ℕ, _<_}
+use mathlib.Core.Path.{_≡_, refl, sym, ap, _∙_}
+use Prim.Native.Nat.{ℕ, _+_, _<_}
 use native.Mathlib.Omega.{arith}
 use lib.ListN.{length}
 use Rattle.spec_file.specs.Bytes.{Bytes}
 use Rattle.spec_file.specs.Limits.{pointsField, freeField}
-use Rattle.spec_file.specs.Image.{field, Layout, layoutOf, slotSize, slotStart, slot, putSlot, blank}
+use Rattle.spec_file.specs.Image.{field, widthOf, Layout, layoutOf, slotSize, slotStart, slot, putSlot, blank}
 use Rattle.spec_file.specs.Messages.{headSize}
 use Rattle.spec_file.specs.Delete.{moved}
 use Rattle.spec_file.specs.Questions.{openNumber}
@@ -23,10 +23,23 @@ use Rattle.header_layout.specs.Shapes.{shapeOf, Open}
 use Rattle.header_layout.specs.declared.shape.Shape.{Shape}
 
 -- ---- the shape
+kept-head : {img img′ : Bytes} → Fixed img img′ → headSize (layoutOf img′) ≡ headSize (layoutOf img)
+unfolding headSize layoutOf
+kept-head k = ap (λ (v : ℕ). widthOf v + 1) (k .major)
+
 pub kept-shape : {img img′ : Bytes} → Fixed img img′ → shapeOf img′ ≡ shapeOf img
-unfolding shapeOf layoutOf headSize
+unfolding shapeOf layoutOf
 kept-shape k =
-    rw (kept-key k, kept-slots k, kept-data k, kept-multiplier k, kept-start k, kept-first k, kept-last k) refl
+    rw (
+      kept-head k,
+      kept-key k,
+      kept-slots k,
+      kept-data k,
+      kept-multiplier k,
+      kept-start k,
+      kept-first k,
+      kept-last k,
+    ) refl
 
 -- ---- what stays where C and X stay too
 pub record SameHead (img img′ : Bytes) : Type 0 where

@@ -4,9 +4,12 @@ use bytes_words::answers::BAD_MODE;
 use header_layout::shape::Shape;
 use header_layout::shape::read_shape;
 use header_open::name_allowed;
-use header_open::open_number;
+use header_questions::header_sound;
+use header_questions::version_known;
+use header_sizes::size_allowed;
 use table_search::Found;
 use table_search::search;
+ghost use Rattle.spec_file.specs.Questions.{openNumber};
 ghost use mathlib.Core.Path.{_≡_};
 ghost use Rattle.table_seek.specs.Seeks.{SoughtIs, readOf};
 
@@ -51,4 +54,20 @@ pub fn slots_read(sought: Sought) -> usize
         Sought::Refused(_) => 0,
         Sought::At(_, _, read) => read,
     }
+}
+
+// Questions 1, 5 and 6, as `header_open::open_number`: with one caller it is inlined.
+fn open_number(image: &[u8]) -> u32
+    ensures { λ r. ⌜ r ≡ openNumber (now (image .entry)) ⌝ }
+{
+    if !size_allowed(image.len()) {
+        return 1;
+    }
+    if !version_known(image) {
+        return 5;
+    }
+    if !header_sound(image) {
+        return 6;
+    }
+    0
 }

@@ -14,7 +14,7 @@ use Rattle.spec_file.specs.Calls.{settled}
 use Rattle.law_file.proofs.Tests.{was-no, was-yes}
 use Rattle.law_file.proofs.Outcomes.{settled-no, point-9, point-11, point-renewed}
 use Rattle.law_file.proofs.Texts.{mode-three, withdrawn-none, withdrawn-retired}
-use Rattle.header_layout.proofs.Shaped.{head-width}
+use Rattle.header_layout.proofs.Shaped.{head-range}
 use Rattle.table_search.specs.Slots.{keyIn}
 use Rattle.message_room.proofs.Rooms.{place-nothing}
 use Rattle.call_add_present.proofs.Shown.{head-fits}
@@ -144,7 +144,7 @@ retire-requires c κs =
     let E = else2-at-then4 (c .before) in
     let S = start-at-else2 E in
     let o = E .before .before .before .offset-of .result .0 in
-    omega (arith, head-width (S .pre .0), head-fits (S .pre .0) o (sound E))
+    omega (arith, head-range (S .pre .0), head-fits (S .pre .0) o (sound E))
 
 same-length-3 : tie.Need-same-length-3
 same-length-3 c = search needs

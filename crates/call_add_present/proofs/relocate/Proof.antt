@@ -3,7 +3,7 @@ use native.Mathlib.Omega.{arith}
 use mathlib.Core.Path.{_∙_}
 use borrow.Author.Needs.{needs}
 use Rattle.law_file.proofs.Opened.{opened-facts}
-use Rattle.header_layout.proofs.Shaped.{head-width}
+use Rattle.header_layout.proofs.Shaped.{head-range}
 use Rattle.table_search.proofs.Headers.{placed-opened}
 use Rattle.table_search.proofs.Heads.{same-open}
 use Rattle.message_write.proofs.Steps.{head-retire, retired-free, head-relocated, relocated-steps}
@@ -29,7 +29,7 @@ start-at-retire-arg c = c .before .before .before .before .before .before
 retire-requires : tie.Need-retire-requires
 retire-requires c κs =
     let S = start-at-retire-arg c in
-    omega (arith, head-width (S .pre .0), head-fits (S .pre .0) (S .args .o .0) (S .pre .2))
+    omega (arith, head-range (S .pre .0), head-fits (S .pre .0) (S .args .o .0) (S .pre .2))
 
 text-start-requires : tie.Need-text-start-requires
 text-start-requires c κs = search needs

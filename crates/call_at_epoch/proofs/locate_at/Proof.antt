@@ -43,7 +43,7 @@ returns c =
     (T .if1 .taken) (c .refused .ensures)
 
 read-shape-requires : tie.Need-read-shape-requires
-read-shape-requires c κs = omega (arith, opened-facts _ (is-open c) .size-low)
+read-shape-requires c κs = is-open c
 
 refused-requires-2 : tie.Need-refused-requires-2
 refused-requires-2 c κs = search needs

@@ -23,7 +23,7 @@ opened : (c : tie.Else1) → openNumber (c .before .before .before .args .image 
 opened c = sym (c .before .open-number .ensures) ∙ c .if1 .left
 
 read-shape-requires : tie.Need-read-shape-requires
-read-shape-requires c κs = omega (arith, opened-facts _ (opened c) .size-low)
+read-shape-requires c κs = opened c
 
 check-table-requires : tie.Need-check-table-requires
 check-table-requires c κs = record { accepted = opened (c .before); shape = c .read-shape .ensures }

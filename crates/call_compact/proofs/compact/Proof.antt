@@ -26,7 +26,7 @@ read-shape-requires c κs =
     let F = T .before .before in
     let img = F .before .before .before .args .image .now in
     let ok = sym (F .check .ensures) ∙ ap verdictIn (T .enum-told .given .1) in
-    omega (arith, opened-facts img (check-open img ok) .size-low)
+    check-open img ok
 
 pack-requires : tie.Need-pack-requires
 unfolding verdictIn

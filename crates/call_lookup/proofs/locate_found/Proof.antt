@@ -14,7 +14,7 @@ use Rattle.law_file.proofs.Tests.{was-no, was-yes}
 use Rattle.law_file.proofs.Opened.{opened-facts}
 use Rattle.law_file.proofs.Effects.{message-fits}
 use Rattle.law_file.proofs.Outcomes.{shown-14, shown-11}
-use Rattle.header_layout.proofs.Shaped.{shape-head, head-width}
+use Rattle.header_layout.proofs.Shaped.{shape-head, head-range}
 use Rattle.table_search.proofs.Taken.{other-met, met-is, met-within}
 use Rattle.call_lookup.specs.Shown.{Shows}
 use Rattle.call_lookup.proofs.Answers.{shows-refused, shows-inactive, shows-active}
@@ -110,7 +110,7 @@ returns-2 c =
     (λ z. omega (arith, r .0)) (r .1) (r .2))
 
 is-active-requires : tie.Need-is-active-requires
-is-active-requires c κs = omega (arith, head-in c, head-width ((start-at-else1 c) .pre .0))
+is-active-requires c κs = omega (arith, head-in c, head-range ((start-at-else1 c) .pre .0))
 
 nothing-requires-3 : tie.Need-nothing-requires-3
 nothing-requires-3 c κs = search needs
@@ -144,7 +144,7 @@ start-at-else2 c = (match-keys1-at-else2 c) .before .before
 text-start-requires : tie.Need-text-start-requires
 text-start-requires c κs =
     let f = opened-facts _ ((start-at-else2 c) .pre .0 .accepted) in
-    (omega (arith, head-in (c .before .before), f .size-high), omega (arith, head-width ((start-at-else2 c) .pre .0)))
+    (omega (arith, head-in (c .before .before), f .size-high), omega (arith, head-range ((start-at-else2 c) .pre .0)))
 
 abbrev found-at-text-start : tie.After-text-start → tie.After-found
 found-at-text-start c = c .before .before .before .before .before .before .before

@@ -55,7 +55,7 @@ asked-positions-requires c κs =
     (f .lowest-length ∙ sym (f .highest-length), λ p l. f .ordered p (omega (arith, f .lowest-length)))
 
 read-shape-requires : tie.Need-read-shape-requires
-read-shape-requires c κs = omega (arith, opened-facts _ (granted (c .before) .accepted) .size-low)
+read-shape-requires c κs = granted (c .before) .accepted
 
 fill-list-requires : tie.Need-fill-list-requires
 fill-list-requires c κs =

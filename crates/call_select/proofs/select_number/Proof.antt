@@ -52,7 +52,7 @@ returns c =
 
 read-shape-requires : tie.Need-read-shape-requires
 read-shape-requires c κs =
-    omega (arith, opened-facts _ (sym (c .before .open-number .ensures) ∙ c .if1 .left) .size-low)
+    sym (c .before .open-number .ensures) ∙ c .if1 .left
 
 ranges-allowed-requires : tie.Need-ranges-allowed-requires
 ranges-allowed-requires c κs = search needs

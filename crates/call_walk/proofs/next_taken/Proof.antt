@@ -21,7 +21,7 @@ returns c =
 
 read-shape-requires : tie.Need-read-shape-requires
 read-shape-requires c κs =
-    omega (arith, opened-facts _ (sym (c .before .open-number .ensures) ∙ c .if1 .left) .size-low)
+    sym (c .before .open-number .ensures) ∙ c .if1 .left
 
 lowest-taken-requires : tie.Need-lowest-taken-requires
 lowest-taken-requires c κs =

@@ -55,7 +55,7 @@ read-shape-requires c κs =
     let P = c .before .before in
     let A = start-at-stop2 P .args in
     let w = stops P in
-    omega (arith, opened-facts (A .image .now) (stopped-open (A .image .now) (A .from) _ w) .size-low)
+    stopped-open (A .image .now) (A .from) _ w
 
 key-of-requires : tie.Need-key-of-requires
 key-of-requires c κs =

@@ -3,12 +3,11 @@ use native.Mathlib.Omega.{arith}
 use Prim.Native.Nat.{_+_, _≤_, _<_, _^_}
 use mathlib.Core.Path.{_∙_}
 use lib.ListN.{length}
-use Rattle.spec_file.specs.Limits.{lengthWidth}
 use Rattle.spec_file.specs.Image.{layoutOf}
 use Rattle.spec_file.specs.Messages.{lengthAt, shownLength}
 use Rattle.law_file.proofs.Opened.{opened-facts}
 use Rattle.law_file.proofs.Effects.{message-fits}
-use Rattle.header_layout.proofs.Shaped.{shape-head, head-width}
+use Rattle.header_layout.proofs.Shaped.{shape-head, head-range}
 use Rattle.table_search.proofs.Headers.{header, spot}
 use Rattle.message_read.proofs.Sound.{length-bound}
 use Rattle.changes_extent.proofs.Places.{message-small, shown-few, of-entry}
@@ -28,15 +27,15 @@ fits S =
 abbrev start : tie.After-length-at → tie.Start
 start c = c .before .before .before .before .before
 
--- three bytes tell the length
+-- four bytes tell the length
 bound : (c : tie.After-length-at)
     → lengthAt (layoutOf (start c .args .image .now)) (start c .args .image .now) (start c .args .o .0)
-    < 256 ^ lengthWidth
+    < 4294967296
 bound c =
     let S = start c in
     length-bound (S .args .image .now) (S .args .o .0)
     (λ i. omega (arith, c .before .before .before .before .shared-slice-known .given i))
-    (omega (arith, fits S, head-width (S .pre .0)))
+    (omega (arith, fits S, shape-head (S .pre .0)))
 
 start-requires : tie.Need-start-requires
 start-requires c κs =
@@ -61,7 +60,7 @@ length-at-requires c κs =
 
 add-of-message : tie.Need-add-of-message
 add-of-message c =
-    omega (arith, c .length-at .ensures, bound c, head-width (start c .pre .0))
+    omega (arith, c .length-at .ensures, bound c, head-range (start c .pre .0))
 
 of-message-requires : tie.Need-of-message-requires
 of-message-requires c κs =
@@ -82,7 +81,7 @@ add-space-end c =
       c .shown-length .ensures,
       shown-few (S .args .image .now) (S .args .o .0),
       bound (c .before .before),
-      head-width (S .pre .0),
+      head-range (S .pre .0),
     )
 
 space-end-requires : tie.Need-space-end-requires

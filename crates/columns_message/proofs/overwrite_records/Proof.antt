@@ -1,21 +1,21 @@
 -- The message, and zeros after it up to the old end. Assumes nothing.
 use Prim.Native.Nat.{ℕ, _+_, _≤_, _<_}
 use native.Mathlib.Omega.{arith}
-use mathlib.Core.Path.{_≡_, _∙_}
+use mathlib.Core.Path.{_≡_, ap, _∙_}
 use lib.ListN.{length}
 use borrow.Author.Needs.{needs}
 use borrow.Rule.Slice.PartMut.{mid-len}
 use Rattle.spec_file.specs.Bytes.{Bytes}
-use Rattle.spec_file.specs.Limits.{mostImage, lengthWidth}
+use Rattle.spec_file.specs.Limits.{mostImage}
 use Rattle.spec_file.specs.Image.{layoutOf}
-use Rattle.spec_file.specs.Messages.{lengthAt}
+use Rattle.spec_file.specs.Messages.{lengthAt, message}
 use Rattle.law_file.proofs.Opened.{opened-facts}
 use Rattle.law_file.proofs.Effects.{message-end}
 use Rattle.law_file.proofs.Stretch.{held-some}
 use Rattle.spec_columns.specs.Columns.{columns}
 use Rattle.law_columns.proofs.Turned.{length-stored}
-use Rattle.header_layout.proofs.Shaped.{shape-head, head-width}
-use Rattle.message_read.proofs.Sound.{length-bound}
+use Rattle.header_layout.proofs.Shaped.{shape-head, head-width, head-range, width-is}
+use Rattle.message_read.proofs.Sound.{length-tells}
 use Rattle.columns_message.proofs.Written.{overwrite-known}
 use Rattle.columns_message.proofs.overwrite_records.Statement.{statement}
 use Rattle.columns_message.proofs.overwrite_records.Tie as tie
@@ -26,7 +26,8 @@ record Inside (img : Bytes) (o m head k : ℕ) : Type 0 where
   pub short : k ≤ m
   pub size : length img ≤ mostImage
   pub some′ : 0 < o
-  pub is-head : head ≡ lengthWidth + 1
+  pub low : 4 ≤ head
+  pub high : head ≤ 5
 
 inside : (c : tie.Start)
     → let A = c .args in
@@ -42,7 +43,8 @@ inside c =
       short = omega (arith, c .pre .3, held-some (layoutOf img) img o (λ e. omega arith));
       size = f .size-high;
       some′ = some₁;
-      is-head = head-width (c .pre .0);
+      low = head-range (c .pre .0) .0;
+      high = head-range (c .pre .0) .1;
     }
 
 at-requires : tie.Need-at-requires
@@ -76,7 +78,8 @@ ends c =
       short = omega (arith, m, i .short);
       size = i .size;
       some′ = omega (arith, at, i .some′);
-      is-head = i .is-head;
+      low = i .low;
+      high = i .high;
     }
 
 add-old-2 : tie.Need-add-old-2
@@ -113,13 +116,13 @@ write-records-requires c κs =
     let A = S .args in
     let at = c .before .before .before .at .result in
     let i = inside S in
-    let small =
-    length-bound (A .image .now) (A .o .0)
-    (λ k. omega (arith, slice-known-at-write-records-arg c .slice-known .given k)) (omega (arith, i .end, i .is-head))
+    let tells =
+    length-tells (A .image .now) (A .shape) (S .pre .0) (A .o .0) (1 + length (A .records .now))
+    (λ k. omega (arith, slice-known-at-write-records-arg c .slice-known .given k)) (omega (arith, i .end))
+    (omega (arith, i .short))
     in (
-      e .is-head,
+      tells,
       mid-len at (at + A .shape .head + (1 + length (A .records .now))) (A .image .now) (omega arith) ∙ omega arith,
-      omega (arith, small, i .short),
       S .pre .4,
     )
 
@@ -148,7 +151,6 @@ abbrev length-at-at-write-records : tie.After-write-records → tie.After-length
 length-at-at-write-records c = c .before .before
 
 returns : tie.Need-returns
-unfolding layoutOf
 returns c =
     let z = c .before .before .zero in
     let P = write-records-at-slice-known3 c in
@@ -160,7 +162,8 @@ returns c =
     let recs = A .records .now in
     let i = inside S in
     overwrite-known (layoutOf img) img (columns (A .width) recs) (1 + length recs) (A .shape .head)
-    (length-stored (A .width) recs (S .pre .4)) (i .is-head) (P .write-records .last .0) (P .write-records .ensures)
+    (length-stored (A .width) recs (S .pre .4)) (head-width (S .pre .0)) (P .write-records .last .0)
+    (P .write-records .ensures ∙ ap (λ (w : ℕ). message w (columns (A .width) recs)) (width-is (S .pre .0)))
     (A .o .0) (L .length-at .result) (S .pre .2) (L .length-at .ensures) (ends L .short)
     (omega (arith, L .length-at .ensures, i .end))
     (z .last .0) (at .result) (at .ensures) (z .ensures)

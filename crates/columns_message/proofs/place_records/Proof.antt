@@ -1,18 +1,19 @@
 -- The message is written at X, and X and M after it. Assumes nothing.
-use Prim.Native.Nat.{ℕ, _+_, _-_, _≤_, _<_, _^_}
+use Prim.Native.Nat.{ℕ, _+_, _-_, _≤_, _<_}
 use native.Mathlib.Omega.{arith}
 use mathlib.Core.Path.{_≡_, ap, _∙_}
 use lib.ListN.{length}
 use borrow.Author.Needs.{needs}
 use borrow.Rule.Slice.PartMut.{mid-len, same-len-mid}
 use Rattle.spec_file.specs.Bytes.{Bytes}
-use Rattle.spec_file.specs.Limits.{lengthWidth, freeField}
+use Rattle.spec_file.specs.Limits.{freeField}
 use Rattle.spec_file.specs.Image.{field, layoutOf}
-use Rattle.spec_file.specs.Messages.{setFree}
+use Rattle.spec_file.specs.Messages.{message, setFree}
 use Rattle.law_file.proofs.Opened.{Opened, opened-facts}
 use Rattle.spec_columns.specs.Columns.{columns}
 use Rattle.law_columns.proofs.Turned.{length-stored}
-use Rattle.header_layout.proofs.Shaped.{shape-area, area-field, head-width, most-width}
+use Rattle.header_layout.specs.Shapes.{Tells}
+use Rattle.header_layout.proofs.Shaped.{shape-area, area-field, head-width, width-is, most-tells}
 use Rattle.columns_message.proofs.Written.{place-known}
 use Rattle.columns_message.proofs.place_records.Statement.{statement}
 use Rattle.columns_message.proofs.place_records.Tie as tie
@@ -20,8 +21,8 @@ use Rattle.columns_message.proofs.place_records.Tie as tie
 -- what the caller knows, by numbers
 record Known (img : Bytes) (head k : ℕ) : Type 0 where
   pub opened : Opened img
-  pub small : k < 256 ^ lengthWidth
-  pub is-head : head ≡ lengthWidth + 1
+  pub small : Tells head k
+  pub is-head : head ≡ layoutOf img .W + 1
   pub room : field img freeField + head + k ≤ length img
 
 known : (c : tie.Start)
@@ -29,7 +30,7 @@ known : (c : tie.Start)
 known c =
     record {
       opened = opened-facts _ (c .pre .0 .accepted);
-      small = omega (arith, most-width (c .pre .0), c .pre .1 .small);
+      small = most-tells (c .pre .0) _ (c .pre .1 .small);
       is-head = head-width (c .pre .0);
       room = c .pre .1 .room;
     }
@@ -71,9 +72,8 @@ write-records-requires c κs =
     let k = known S in
     let x = c .before .read-u32 in
     let end = x .result + A .shape .head + (1 + length (A .records .now)) in (
-      k .is-head,
-      mid-len (x .result) end (A .image .now) (omega (arith, x .ensures, k .room)) ∙ omega arith,
       k .small,
+      mid-len (x .result) end (A .image .now) (omega (arith, x .ensures, k .room)) ∙ omega arith,
       S .pre .2,
     )
 
@@ -110,7 +110,6 @@ abbrev new-at-slice-known3 : tie.After-slice-known3 → tie.After-new
 new-at-slice-known3 c = c .before .before .before
 
 returns : tie.Need-returns
-unfolding layoutOf
 returns c =
     let N = new-at-slice-known3 c in
     let P = write-records-at-new N in
@@ -123,7 +122,7 @@ returns c =
     ∙ ap (setFree (A .shape .area .0) _) (N .new .ensures)
     ∙ place-known (layoutOf img) img (columns (A .width) recs) (1 + length recs) (A .shape .head)
     (length-stored (A .width) recs (S .pre .2)) (known S .is-head) (P .write-records .last .0)
-    (P .write-records .ensures)
+    (P .write-records .ensures ∙ ap (λ (w : ℕ). message w (columns (A .width) recs)) (width-is (S .pre .0)))
     (R .read-u32 .result) (A .shape .area .0) (R .read-u32 .ensures) (shape-area (S .pre .0))
 
 pub place-records-spec : {M : Type 1} → statement M

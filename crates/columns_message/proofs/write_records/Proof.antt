@@ -13,11 +13,10 @@ use Rattle.columns_message.proofs.write_records.Tie as tie
 add-m : tie.Need-add-m
 add-m c = search needs
 
-cast-write-low-u24 : tie.Need-cast-write-low-u24
-cast-write-low-u24 c = search needs
-
-write-low-u24-requires : tie.Need-write-low-u24-requires
-write-low-u24-requires c κs = search needs
+write-head-requires : tie.Need-write-head-requires
+write-head-requires c κs =
+    let S = c .before .before .before in
+    (S .pre .0, omega (arith, S .pre .1))
 
 sub-write-columns : tie.Need-sub-write-columns
 sub-write-columns c = search needs
@@ -34,10 +33,10 @@ write-columns-requires c κs = search needs
 same-length : tie.Need-same-length
 same-length c = search needs
 
-abbrev header-at-end : tie.After-slice-known3 → tie.After-write-low-u24
+abbrev header-at-end : tie.After-slice-known3 → tie.After-write-head
 header-at-end c = c .before .before .before .before .before .before
 
-abbrev start-at-header : tie.After-write-low-u24 → tie.Start
+abbrev start-at-header : tie.After-write-head → tie.Start
 start-at-header c = c .before .before .before .before
 
 returns : tie.Need-returns
@@ -46,21 +45,20 @@ returns c =
     let S = start-at-header H in
     let A = S .args in
     let recs = A .records .now in
-    let t = H .write-low-u24 .last .0 in
+    let t = H .write-head .last .0 in
     let v = c .before .before .write-columns in
-    let long = length-stored (A .width) recs (S .pre .3) in
+    let long = length-stored (A .width) recs (S .pre .2) in
     store-lent t (A .head) (length t) (v .last .0)
-    (ap length (v .ensures) ∙ omega (arith, long, H .write-low-u24 .kept .0, S .pre .1))
-    ∙ ap₂ (λ (b y : Bytes). store b (A .head) y) (H .write-low-u24 .ensures) (v .ensures)
-    ∙ written-records (A .space .now) recs (A .width) (A .head) (S .pre .0) (S .pre .3) (S .pre .1)
+    (ap length (v .ensures) ∙ omega (arith, long, H .write-head .kept .0, S .pre .1))
+    ∙ ap₂ (λ (b y : Bytes). store b (A .head) y) (H .write-head .ensures) (v .ensures)
+    ∙ written-records (A .space .now) recs (A .width) (A .head) (omega (arith, S .pre .0 .low)) (S .pre .2) (S .pre .1)
 
 pub write-records-spec : {M : Type 1} → statement M
 write-records-spec =
     tie.close
     (tie.spec
     add-m
-    cast-write-low-u24
-    write-low-u24-requires
+    write-head-requires
     sub-write-columns
     part-write-columns-start
     part-write-columns-end

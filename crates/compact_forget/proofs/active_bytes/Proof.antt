@@ -8,7 +8,7 @@ use Rattle.spec_file.specs.Bytes.{Bytes}
 use Rattle.spec_file.specs.Image.{layoutOf, slot, vacant}
 use Rattle.spec_file.specs.Messages.{lengthAt, isActive}
 use Rattle.law_file.proofs.Tests.{was-no, was-yes}
-use Rattle.header_layout.proofs.Shaped.{shape-head, head-width}
+use Rattle.header_layout.proofs.Shaped.{shape-head, head-range}
 use Rattle.compact_stages.specs.Stages.{offsetIn, activeIn}
 use Rattle.compact_stages.proofs.Entries.{vacant-taken, active-vacant, active-quiet, active-is}
 use Rattle.compact_forget.proofs.active_bytes.Statement.{statement}
@@ -33,7 +33,7 @@ is-active-requires c κs =
     omega (
       arith,
       c .offset-of .ensures,
-      head-width (S .pre .0),
+      head-range (S .pre .0),
       S .pre .2 (vacant-taken img (S .args .i .0) (sym (E .before .is-vacant .ensures) ∙ E .if1 .left)),
     )
 

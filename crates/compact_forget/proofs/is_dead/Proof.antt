@@ -4,7 +4,7 @@ use mathlib.Core.Path.{sym, ap, _∙_}
 use mathlib.Core.Bool.{not}
 use borrow.Author.Needs.{needs}
 use Rattle.spec_file.specs.Messages.{isActive}
-use Rattle.header_layout.proofs.Shaped.{head-width}
+use Rattle.header_layout.proofs.Shaped.{head-range}
 use Rattle.compact_stages.proofs.Entries.{dead-none, dead-vacant, dead-is, vacant-taken}
 use Rattle.compact_forget.proofs.is_dead.Statement.{statement}
 use Rattle.compact_forget.proofs.is_dead.Tie as tie
@@ -38,7 +38,7 @@ is-active-requires c κs =
     omega (
       arith,
       O .offset-of .ensures,
-      head-width (S .pre .0),
+      head-range (S .pre .0),
       S .pre .2 (vacant-taken img (S .args .i .0) (sym (c .before .is-vacant .ensures) ∙ c .if2 .left)),
     )
 

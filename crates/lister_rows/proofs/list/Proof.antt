@@ -57,7 +57,7 @@ read-shape-requires c κs =
     let S = O .before .before .before in
     let img = S .args .image .now in
     let open₀ = sym (O .open-number .ensures) ∙ I .if1 .left in
-    omega (arith, opened-facts img open₀ .size-low)
+    open₀
 
 put-lines-requires : tie.Need-put-lines-requires
 put-lines-requires c κs =

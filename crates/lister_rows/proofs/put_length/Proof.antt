@@ -6,9 +6,9 @@ use borrow.Author.Needs.{needs}
 use Rattle.spec_file.specs.Bytes.{Bytes}
 use Rattle.spec_file.specs.Image.{layoutOf}
 use Rattle.law_file.proofs.Tests.{was-no, was-yes}
-use Rattle.law_file.proofs.Effects.{message-head}
+use Rattle.law_file.proofs.Effects.{message-fits}
 use Rattle.law_file.proofs.Opened.{opened-facts}
-use Rattle.header_layout.proofs.Shaped.{head-width}
+use Rattle.header_layout.proofs.Shaped.{shape-head}
 use Rattle.table_search.specs.Slots.{offsetIn}
 use Rattle.lister_text.specs.Text.{decimal}
 use Rattle.lister_text.proofs.Putting.{put-same}
@@ -62,8 +62,8 @@ shown-length-requires c κs =
     let S = start M in
     let o = M .before .offset-of .result .0 in
     let s = was-yes (M .message-sound .ensures) (c .before .if1 .left) in
-    let head = message-head (S .args .image .now) (opened-facts _ (S .pre .0 .accepted)) o s in
-    (S .pre .0, omega (arith, head, head-width (S .pre .0)))
+    let head = message-fits (S .args .image .now) (opened-facts _ (S .pre .0 .accepted)) o s in
+    (S .pre .0, omega (arith, head, shape-head (S .pre .0)))
 
 shown-text : (c : tie.After-shown-length) → told (c .before .before .before) ≡ decimal (c .shown-length .result)
 shown-text c =

@@ -1,5 +1,5 @@
 -- Question 11, test by test: the header is read only where it ends below X. Assumes nothing.
-use Prim.Native.Nat.{_+_, _≤_, _<_, _^_}
+use Prim.Native.Nat.{_+_, _≤_, _<_}
 use native.Mathlib.Omega.{arith}
 use mathlib.Core.Path.{_≡_, sym, _∙_}
 use lib.ListN.{length}
@@ -8,8 +8,8 @@ use Rattle.spec_file.specs.Bytes.{Bytes}
 use Rattle.spec_file.specs.Image.{field, layoutOf}
 use Rattle.law_file.proofs.Opened.{opened-facts}
 use Rattle.law_file.proofs.Effects.{area-above}
-use Rattle.spec_file.specs.Limits.{mostImage, lengthWidth, freeField}
-use Rattle.header_layout.proofs.Shaped.{shape-area, shape-head, head-width}
+use Rattle.spec_file.specs.Limits.{mostImage, freeField}
+use Rattle.header_layout.proofs.Shaped.{shape-area, shape-head, head-range}
 use Rattle.message_read.proofs.Sound.{length-bound}
 use Rattle.message_read.proofs.Sound.{sound-none, sound-low, sound-high, sound-tests}
 use Rattle.message_read.proofs.message_sound.Statement.{statement}
@@ -52,7 +52,7 @@ sub-if3 : tie.Need-sub-if3
 sub-if3 c =
     let S = start-at-else1 (c .before .before .before .before .before) in
     let f = opened-facts _ (S .pre .accepted) in
-    omega (arith, head-width (S .pre), c .before .read-u32 .ensures, area-above _ f, f .free-low)
+    omega (arith, head-range (S .pre), c .before .read-u32 .ensures, area-above _ f, f .free-low)
 
 -- ---- the third test, and what is known behind it
 abbrev else1-at-else3 : tie.Else3 → tie.Else1
@@ -76,11 +76,11 @@ returns-3 c =
 header-in : (c : tie.Else3)
     → let img : Bytes = start c .args .image .now in
     (start c .args .o .0 + start c .args .shape .head ≤ field img freeField) × (field img freeField ≤ length img)
-    × (length img ≤ mostImage) × (start c .args .shape .head ≡ lengthWidth + 1)
+    × (length img ≤ mostImage) × ((4 ≤ start c .args .shape .head) × (start c .args .shape .head ≤ 5))
 header-in c =
     let S = start c in
     let f = opened-facts _ (S .pre .accepted) in
-    let w = head-width (S .pre) in (
+    let w = head-range (S .pre) in (
       omega (arith, at-is c, c .before .before .read-u32 .ensures, c .if3 .left, w, area-above _ f, f .free-low),
       f .free-high,
       f .size-high,
@@ -94,7 +94,7 @@ shared-slice-read-letter : tie.Need-shared-slice-read-letter
 shared-slice-read-letter c = omega (arith, at-is (c .before .before), header-in (c .before .before))
 
 -- ---- the tests of the header
-small : (c : tie.After-struct-known2) → c .before .before .length-at .result < 256 ^ lengthWidth
+small : (c : tie.After-struct-known2) → c .before .before .length-at .result < 4294967296
 small c =
     let E = c .before .before .before in
     let A = start E .args in
@@ -102,7 +102,7 @@ small c =
       arith,
       c .before .before .length-at .ensures,
       length-bound (A .image .now) (A .o .0) (λ i. omega (arith, c .before .shared-slice-known2 .given i))
-          (omega (arith, header-in E)),
+          (omega (arith, header-in E, shape-head (start E .pre))),
     )
 
 add-result : tie.Need-add-result

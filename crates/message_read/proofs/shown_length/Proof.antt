@@ -3,13 +3,13 @@ use native.Mathlib.Omega.{arith}
 use mathlib.Core.Path.{sym, _∙_}
 use borrow.Author.Needs.{needs}
 use Rattle.spec_file.specs.Image.{layoutOf}
-use Rattle.header_layout.proofs.Shaped.{head-width}
+use Rattle.header_layout.proofs.Shaped.{head-range}
 use Rattle.message_read.proofs.Sound.{length-shown-yes, length-shown-no}
 use Rattle.message_read.proofs.shown_length.Statement.{statement}
 use Rattle.message_read.proofs.shown_length.Tie as tie
 
 is-active-requires : tie.Need-is-active-requires
-is-active-requires c κs = omega (arith, head-width (c .before .pre .0), c .before .pre .1)
+is-active-requires c κs = omega (arith, head-range (c .before .pre .0), c .before .pre .1)
 
 length-at-requires : tie.Need-length-at-requires
 length-at-requires c κs = search needs

@@ -3,7 +3,7 @@ use native.Mathlib.Omega.{arith}
 use mathlib.Core.Path.{_≡_, sym, _∙_}
 use borrow.Author.Needs.{needs}
 use Prim.Native.Nat.{_+_}
-use Rattle.header_layout.proofs.Shaped.{shape-head, head-width}
+use Rattle.header_layout.proofs.Shaped.{shape-head, head-range}
 use Rattle.message_stretch.specs.Checked.{startIn, endIn}
 use Rattle.message_stretch.proofs.Reading.{start-taken, Stretched, stretched, end-read}
 use Rattle.message_stretch.proofs.end_of.Statement.{statement}
@@ -30,7 +30,7 @@ text-start-requires : tie.Need-text-start-requires
 text-start-requires c κs =
     let w = start-read c in (
       omega (arith, w .0, w .1 .order, w .1 .small),
-      omega (arith, head-width (c .before .before .pre .0 .opened)),
+      omega (arith, head-range (c .before .before .pre .0 .opened)),
     )
 
 at-requires : tie.Need-at-requires

@@ -1,21 +1,21 @@
 -- The message, and zeros behind it up to the old end. Assumes nothing.
 use Prim.Native.Nat.{ℕ, _+_, _≤_, _<_, _^_}
 use native.Mathlib.Omega.{arith}
-use mathlib.Core.Path.{_≡_, ap, _∙_}
+use mathlib.Core.Path.{_≡_, ap₂, _∙_}
 use mathlib.Core.List.{_++_}
 use lib.ListN.{length}
 use borrow.Author.Needs.{needs}
 use borrow.Rule.Slice.PartMut.{mid-len}
 use Rattle.spec_file.specs.Bytes.{Bytes}
-use Rattle.spec_file.specs.Limits.{mostImage, lengthWidth}
+use Rattle.spec_file.specs.Limits.{mostImage}
 use Rattle.spec_file.specs.Image.{layoutOf}
 use Rattle.spec_file.specs.Messages.{headSize, lengthAt, message}
 use Rattle.law_file.proofs.Opened.{opened-facts}
 use Rattle.law_file.proofs.Effects.{message-end}
 use Rattle.law_file.proofs.Stretch.{held-some}
 use Rattle.bytes_words.proofs.Numbers.{part-zero}
-use Rattle.header_layout.proofs.Shaped.{shape-head, head-width}
-use Rattle.message_read.proofs.Sound.{length-bound}
+use Rattle.header_layout.proofs.Shaped.{shape-head, head-width, head-range, width-is}
+use Rattle.message_read.proofs.Sound.{length-tells}
 use Rattle.message_write.proofs.Placed.{overwrite-steps}
 use Rattle.message_write.proofs.overwrite.Statement.{statement}
 use Rattle.message_write.proofs.overwrite.Tie as tie
@@ -27,7 +27,7 @@ inside : (c : tie.Start)
     let m : ℕ = lengthAt (layoutOf img) img o in
     (o + c .args .shape .head + m ≤ length img) × (length (c .args .bytes .now) ≤ m) × (length img ≤ mostImage)
     × (0 < o)
-    × (c .args .shape .head ≡ lengthWidth + 1)
+    × ((4 ≤ c .args .shape .head) × (c .args .shape .head ≤ 5))
 inside c =
     let img = c .args .image .now in
     let o = c .args .o .0 in
@@ -37,7 +37,7 @@ inside c =
       omega (arith, c .pre .3, held-some (layoutOf img) img o (λ e. omega arith)),
       f .size-high,
       some′,
-      head-width (c .pre .0),
+      head-range (c .pre .0),
     )
 
 at-requires : tie.Need-at-requires
@@ -61,7 +61,7 @@ ends : (c : tie.After-length-at)
     let at : ℕ = c .before .before .at .result in
     let m : ℕ = c .length-at .result in
     (at + S .args .shape .head + m ≤ length (S .args .image .now)) × (length (S .args .bytes .now) ≤ m)
-    × (length (S .args .image .now) ≤ mostImage) × (S .args .shape .head ≡ lengthWidth + 1)
+    × (length (S .args .image .now) ≤ mostImage) × ((4 ≤ S .args .shape .head) × (S .args .shape .head ≤ 5))
 ends c =
     let i = inside (start-at-length-at c) in (
       omega (arith, c .length-at .ensures, c .before .before .at .ensures, i .0),
@@ -101,12 +101,12 @@ write-message-requires c κs =
     let at = c .before .before .before .at .result in
     let head = A .shape .head in
     let i = inside (start-at-write-message-arg c) in
-    let small =
-    length-bound (A .image .now) (A .o .0)
-    (λ k. omega (arith, (slice-known-at-write-message-arg c) .slice-known .given k)) (omega (arith, i .0, i .4)) in (
-      e .3,
+    let tells =
+    length-tells (A .image .now) (A .shape) (start-at-write-message-arg c .pre .0) (A .o .0)
+    (0 + length (A .bytes .now)) (λ k. omega (arith, (slice-known-at-write-message-arg c) .slice-known .given k))
+    (omega (arith, i .0)) (omega (arith, i .1)) in (
+      tells,
       mid-len at (at + head + length (A .bytes .now)) (A .image .now) (omega arith) ∙ omega arith,
-      omega (arith, small, i .1),
     )
 
 abbrev length-at-at-slice-known2 : tie.After-slice-known2 → tie.After-length-at
@@ -143,7 +143,6 @@ abbrev start-at-slice-known3 : tie.After-slice-known3 → tie.Start
 start-at-slice-known3 c = start-at-write-message-arg (write-message-arg-at-slice-known3 c)
 
 returns : tie.Need-returns
-unfolding layoutOf
 returns c =
     let z = c .before .before .zero in
     let w = (write-message-at-slice-known3 c) .write-message in
@@ -153,10 +152,12 @@ returns c =
     let S = (start-at-slice-known3 c) in
     let img = S .args .image .now in
     let v = S .args .bytes .now in
-    overwrite-steps (layoutOf img) img v (S .args .o .0) (m .result) (S .args .shape .head) (inside S .4) (S .pre .2)
+    overwrite-steps (layoutOf img) img v (S .args .o .0) (m .result) (S .args .shape .head)
+    (head-width (S .pre .0)) (S .pre .2)
     (m .ensures) (ends L .1) (omega (arith, m .ensures, inside S .0))
     (w .last .0) (z .last .0) (at .result) (at .ensures)
-    (w .ensures ∙ ap (λ (t : Bytes). message lengthWidth (t ++ v)) (part-zero _ (S .args .shape .head)))
+    (w .ensures
+    ∙ ap₂ (λ (k : ℕ) (t : Bytes). message k (t ++ v)) (width-is (S .pre .0)) (part-zero _ (S .args .shape .head)))
     (z .ensures)
 
 pub overwrite-spec : {M : Type 1} → statement M

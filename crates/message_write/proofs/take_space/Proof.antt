@@ -1,16 +1,18 @@
 -- The old text is copied, the message written around it at X, and X and M behind it. Assumes nothing.
-use Prim.Native.Nat.{ℕ, _+_, _-_, _≤_, _<_, _^_}
+use Prim.Native.Nat.{ℕ, _+_, _-_, _≤_, _<_}
 use native.Mathlib.Omega.{arith}
 use mathlib.Core.Path.{_≡_, ap, ap₂, _∙_}
+use mathlib.Core.List.{_++_}
 use lib.ListN.{length}
 use borrow.Author.Needs.{needs}
-use borrow.Rule.Slice.PartMut.{mid-len, same-len-mid}
+use borrow.Rule.Slice.PartMut.{midOf, mid-len, same-len-mid}
 use Rattle.spec_file.specs.Bytes.{Bytes, part, store}
-use Rattle.spec_file.specs.Limits.{mostImage, lengthWidth, freeField}
+use Rattle.spec_file.specs.Limits.{mostImage, freeField}
 use Rattle.spec_file.specs.Image.{field, layoutOf}
-use Rattle.spec_file.specs.Messages.{setFree}
+use Rattle.spec_file.specs.Messages.{message, setFree}
 use Rattle.law_file.proofs.Opened.{Opened, opened-facts}
-use Rattle.header_layout.proofs.Shaped.{shape-area, area-field, head-width, most-width}
+use Rattle.header_layout.specs.Shapes.{Tells}
+use Rattle.header_layout.proofs.Shaped.{shape-area, area-field, head-width, width-is, most-tells}
 use Rattle.message_write.proofs.Placed.{place-steps, takeSpace-set}
 use Rattle.message_write.proofs.take_space.Statement.{statement}
 use Rattle.message_write.proofs.take_space.Tie as tie
@@ -19,11 +21,11 @@ use Rattle.message_write.proofs.take_space.Tie as tie
 facts : (c : tie.Start)
     → let img : Bytes = c .args .image .now in
     let m : ℕ = c .args .before + length (c .args .bytes .now) in
-    Opened img × (m < 256 ^ lengthWidth) × (c .args .shape .head ≡ lengthWidth + 1)
+    Opened img × Tells (c .args .shape .head) m × (c .args .shape .head ≡ layoutOf img .W + 1)
     × (field img freeField + c .args .shape .head + m ≤ length img)
 facts c = (
   opened-facts _ (c .pre .0 .accepted),
-  omega (arith, most-width (c .pre .0), c .pre .2 .small),
+  most-tells (c .pre .0) _ (c .pre .2 .small),
   head-width (c .pre .0),
   c .pre .2 .room,
 )
@@ -80,9 +82,8 @@ write-message-requires c κs =
     let u = c .before .before .before .copy-up in
     let A = (start-at-write-message-arg c) .args in
     let end = x .result + A .shape .head + (A .before + length (A .bytes .now)) in (
-      k .2,
-      mid-len (x .result) end (u .last .0) (omega (arith, u .kept .0, x .ensures, k .3)) ∙ omega arith,
       k .1,
+      mid-len (x .result) end (u .last .0) (omega (arith, u .kept .0, x .ensures, k .3)) ∙ omega arith,
     )
 
 new-requires : tie.Need-new-requires
@@ -161,7 +162,6 @@ abbrev at-at-slice-known4 : tie.After-slice-known4 → tie.After-at
 at-at-slice-known4 c = at-at-write-message (write-message-at-slice-known4 c)
 
 returns : tie.Need-returns
-unfolding layoutOf
 returns c =
     let w = (write-message-at-slice-known4 c) .write-message in
     let u = (copy-up-at-slice-known4 c) .copy-up in
@@ -181,7 +181,10 @@ returns c =
     c .before .before .set-free .ensures
     ∙ ap₂ (setFree (A .shape .area .0))
     (place-steps (layoutOf img) img v (x .result) from n head (k .2) below room (u .last .0) (w .last .0) copied
-    (w .ensures))
+    (w .ensures
+    ∙ ap (λ (k : ℕ). message k
+    (part (midOf (x .result) (x .result + head + (n + length v) - x .result) (u .last .0)) head n ++ v))
+    (width-is (S .pre .0))))
     (c .before .before .before .new .ensures)
     ∙ takeSpace-set (layoutOf img) img v (x .result) from n head (k .2) below room (A .shape .area .0)
     (shape-area (S .pre .0)) (x .ensures)

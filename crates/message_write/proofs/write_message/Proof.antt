@@ -14,24 +14,21 @@ use Rattle.message_write.proofs.write_message.Tie as tie
 add-m : tie.Need-add-m
 add-m c = search needs
 
-cast-write-low-u24 : tie.Need-cast-write-low-u24
-cast-write-low-u24 c = search needs
+write-head-requires : tie.Need-write-head-requires
+write-head-requires c κs = (c .before .before .before .pre .0, omega (arith, c .before .before .before .pre .1))
 
-write-low-u24-requires : tie.Need-write-low-u24-requires
-write-low-u24-requires c κs = (omega arith, omega arith)
-
-abbrev start-at-write-low-u24 : tie.After-write-low-u24 → tie.Start
-start-at-write-low-u24 c = c .before .before .before .before
+abbrev start-at-write-head : tie.After-write-head → tie.Start
+start-at-write-head c = c .before .before .before .before
 
 -- with the header written, the space is as long as before
-kept : (c : tie.After-write-low-u24)
-    → length (c .write-low-u24 .last .0) ≡ length ((start-at-write-low-u24 c) .args .space .now)
-kept c = c .write-low-u24 .kept .0
+kept : (c : tie.After-write-head)
+    → length (c .write-head .last .0) ≡ length ((start-at-write-head c) .args .space .now)
+kept c = c .write-head .kept .0
 
-long : (c : tie.After-write-low-u24)
-    → let S : tie.Start = start-at-write-low-u24 c in
-    length (c .write-low-u24 .last .0) ≡ S .args .head + S .args .before + length (S .args .bytes .now)
-long c = kept c ∙ (start-at-write-low-u24 c) .pre .1
+long : (c : tie.After-write-head)
+    → let S : tie.Start = start-at-write-head c in
+    length (c .write-head .last .0) ≡ S .args .head + S .args .before + length (S .args .bytes .now)
+long c = kept c ∙ (start-at-write-head c) .pre .1
 
 add-from : tie.Need-add-from
 add-from c = search needs
@@ -52,45 +49,44 @@ copy-requires : tie.Need-copy-requires
 copy-requires c κs =
     let W = (c .before .before .before) in
     let A = (start-at-copy-arg c) .args in
-    let t = W .write-low-u24 .last .0 in
+    let t = W .write-head .last .0 in
     mid-len (A .head + A .before) (length t) t (omega arith) ∙ omega (arith, long W)
 
-abbrev write-low-u24-at-slice-known3 : tie.After-slice-known3 → tie.After-write-low-u24
-write-low-u24-at-slice-known3 c = c .before .before .before .before .before .before
+abbrev write-head-at-slice-known3 : tie.After-slice-known3 → tie.After-write-head
+write-head-at-slice-known3 c = c .before .before .before .before .before .before
 
-abbrev write-low-u24-arg-at-slice-known3 : tie.After-slice-known3 → tie.After-write-low-u24-arg
-write-low-u24-arg-at-slice-known3 c = c .before .before .before .before .before .before .before
+abbrev write-head-arg-at-slice-known3 : tie.After-slice-known3 → tie.After-write-head-arg
+write-head-arg-at-slice-known3 c = c .before .before .before .before .before .before .before
 
 abbrev start-at-slice-known3 : tie.After-slice-known3 → tie.Start
-start-at-slice-known3 c = (write-low-u24-arg-at-slice-known3 c) .before .before .before
+start-at-slice-known3 c = (write-head-arg-at-slice-known3 c) .before .before .before
 
 same-length : tie.Need-same-length
 same-length c =
     let v = c .before .before .copy in
-    let W = (write-low-u24-at-slice-known3 c) in
+    let W = (write-head-at-slice-known3 c) in
     let A = (start-at-slice-known3 c) .args in
-    let t = W .write-low-u24 .last .0 in
+    let t = W .write-head .last .0 in
     same-len-mid (A .head + A .before) (length t - (A .head + A .before)) t (v .last .0) (v .kept .0) ∙ kept W
 
 returns : tie.Need-returns
 returns c =
     let v = c .before .before .copy in
-    let W = (write-low-u24-at-slice-known3 c) in
+    let W = (write-head-at-slice-known3 c) in
     let S = (start-at-slice-known3 c) in
     let n = S .args .before in
     let head = S .args .head in
-    let t = W .write-low-u24 .last .0 in
+    let t = W .write-head .last .0 in
     store-lent t (head + n) (length t) (v .last .0) (ap length (v .ensures) ∙ omega (arith, long W))
-    ∙ ap₂ (λ (b y : Bytes). store b (head + n) y) (W .write-low-u24 .ensures) (v .ensures)
-    ∙ written-at (S .args .space .now) (S .args .bytes .now) n head (S .pre .0) (S .pre .1)
+    ∙ ap₂ (λ (b y : Bytes). store b (head + n) y) (W .write-head .ensures) (v .ensures)
+    ∙ written-at (S .args .space .now) (S .args .bytes .now) n head (omega (arith, S .pre .0 .low)) (S .pre .1)
 
 pub write-message-spec : {M : Type 1} → statement M
 write-message-spec =
     tie.close
     (tie.spec
     add-m
-    cast-write-low-u24
-    write-low-u24-requires
+    write-head-requires
     add-from
     sub-copy
     part-copy-start

@@ -47,7 +47,7 @@ returns c =
     (e ∙ sym (seek-closed (A .image .now) (A .key .now) (A .known) (λ z. n (e ∙ z))), n)
 
 read-shape-requires : tie.Need-read-shape-requires
-read-shape-requires c κs = omega (arith, opened-facts _ (opened c) .size-low)
+read-shape-requires c κs = opened c
 
 name-allowed-requires : tie.Need-name-allowed-requires
 name-allowed-requires c κs = search needs

@@ -1,0 +1,2 @@
+-- The converter's number, by the check's verdict.
+pub mod Told

@@ -1,0 +1,2 @@
+-- A target in the middle of a conversion.
+pub mod Stages
