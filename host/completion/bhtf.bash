@@ -1,7 +1,7 @@
 # Completion of the command bhtf for bash. Commands and options are those that
 # bhtf itself names; names of points are those of the file.
 
-_bhtf_commands() { "$1" --help 2>/dev/null | sed -n 's/^  bhtf \([a-z]*\) .*/\1/p'; }
+_bhtf_commands() { "$1" --help 2>/dev/null | sed -n 's/^  bhtf \([a-z-]*\) .*/\1/p'; }
 
 _bhtf_options() {
   "$1" help "$2" 2>/dev/null | sed -n 's/^  *\(-[A-Za-z], \)\{0,1\}\(--[a-z-]*\).*/\2/p'

@@ -16,8 +16,9 @@ bhtf add finish 'CP-1' x
 bhtf add finish 'CP 2' x
 bhtf add finish 'RP-3' x
 same "bash: commands" $'check\ncompact\nconvert\ncopy\ncount\ncreate' "$(completed 'bhtf c')"
-same "bash: every command" "$( (bhtf --help | sed -n 's/^  bhtf \([a-z]*\) .*/\1/p'; echo help) | LC_ALL=C sort)" \
+same "bash: every command" "$( (bhtf --help | sed -n 's/^  bhtf \([a-z-]*\) .*/\1/p'; echo help) | LC_ALL=C sort)" \
   "$(completed 'bhtf ' | grep -v '^-')"
+same "bash: a command with a hyphen" store-records "$(completed 'bhtf sto')"
 same "bash: help" $'dump' "$(completed 'bhtf help du')"
 same "bash: options" $'--decimal\n--delimiter\n--delta\n--drop\n--dry-run' "$(completed 'bhtf import finish --d')"
 none "bash: letters are no names of options" "$(completed 'bhtf count finish --long')"
