@@ -20,7 +20,7 @@ pub const EPOCH_SIZE: usize = 4;
 
 // What the call answers, as numbers: the epoch of the entry that is shown, 0 when refused, and what lookup answers of
 // it.
-#[derive(Drop)]
+#[derive(Clone, Copy)]
 pub struct Dated {
     pub epoch: u32,
     pub located: Located,

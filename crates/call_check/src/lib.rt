@@ -15,7 +15,7 @@ use header_layout::shape::{Shape, read_shape};
 use header_open::open_number;
 
 // What the check says: refused with a number, sound, the lowest slot that fails, or that C alone fails.
-#[derive(Drop)]
+#[derive(Clone, Copy)]
 pub enum Verdict {
     Refused(u32),
     Sound,

@@ -14,7 +14,7 @@ use growth_open::pair_number;
 use header_layout::shape::read_shape;
 
 // Whether the new image has the entry, and what the call answers there, as numbers; in the old one where it has not.
-#[derive(Drop)]
+#[derive(Clone, Copy)]
 pub struct PairDated {
     pub in_new: bool,
     pub dated: Dated,

@@ -19,7 +19,7 @@ use header_open::name_allowed;
 use table_search::{Found, search};
 
 // Whether the new image holds the point, and what lookup answers there, as numbers; in the old one where it does not.
-#[derive(Drop)]
+#[derive(Clone, Copy)]
 pub struct PairLocated {
     pub in_new: bool,
     pub located: Located,

@@ -22,14 +22,14 @@ use table_search::{Found, offset_of};
 use table_seek::{Sought, seek};
 
 // What count answers: the number of the first question answered no, 0 where there is none; and the points held.
-#[derive(Drop)]
+#[derive(Clone, Copy)]
 pub struct Counted {
     pub number: u32,
     pub points: u32,
 }
 
 // What lookup answers, as numbers: where the message's text begins and how long it is, both 0 with no active message.
-#[derive(Drop)]
+#[derive(Clone, Copy)]
 pub struct Located {
     pub number: u32,
     pub start: Offset,
@@ -37,7 +37,7 @@ pub struct Located {
 }
 
 // The same, and how many slots the search read, 0 where a question before it was answered no.
-#[derive(Drop)]
+#[derive(Clone, Copy)]
 pub struct Looked {
     pub located: Located,
     pub read: usize,

@@ -13,7 +13,7 @@ use header_sizes::size_allowed;
 use table_search::{is_vacant, key_of};
 
 // How the walk ended: refused with a number, at a taken slot, or past the last one.
-#[derive(Drop)]
+#[derive(Clone, Copy)]
 pub enum Stop {
     Refused(u32),
     At(Slot),

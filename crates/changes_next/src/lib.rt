@@ -9,7 +9,7 @@ use changes_scan::{next_change, run_end};
 use changes_windows::whole;
 
 // A run: where it begins, and how many bytes it has.
-#[derive(Drop)]
+#[derive(Clone, Copy)]
 pub struct Run {
     pub at: usize,
     pub size: usize,

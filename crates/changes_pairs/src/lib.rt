@@ -12,7 +12,7 @@ use changes_scan::{next_change, run_end};
 use changes_windows::Windows;
 
 // How many runs there are, and how many bytes they have together.
-#[derive(Drop)]
+#[derive(Clone, Copy)]
 pub struct Tally {
     pub pairs: usize,
     pub bytes: usize,

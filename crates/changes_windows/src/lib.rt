@@ -5,7 +5,7 @@ ghost use Rattle.spec_changes.specs.Changes.{list_allowed, work_allowed};
 ghost use Rattle.changes_windows.specs.Windows.{Sorted, Ahead};
 
 // Four windows, in their order: from 0 up to end1, from from2 up to end2, and so on. They may touch, and be empty.
-#[derive(Drop)]
+#[derive(Clone, Copy)]
 pub struct Windows {
     pub end1: usize,
     pub from2: usize,
@@ -17,7 +17,7 @@ pub struct Windows {
 }
 
 // A window, or what is left of it.
-#[derive(Drop)]
+#[derive(Clone, Copy)]
 pub struct Window {
     pub from: usize,
     pub end: usize,

@@ -56,7 +56,7 @@ fn entry_sound(image: &[u8], shape: Shape, i: Slot) -> bool
 }
 
 // The lowest taken slot whose entry fails so, or the number of slots; and how many slots below it are taken.
-#[derive(Drop)]
+#[derive(Clone, Copy)]
 pub struct Entries {
     pub bound: usize,
     pub count: usize,

@@ -75,7 +75,7 @@ fn pass_window(
 
 // How far it is: what starts below `lo` is in order and ends at `next`, which is 0 where it is not in order. The next
 // window is to have `width` places.
-#[derive(Drop)]
+#[derive(Clone, Copy)]
 struct Front {
     lo: usize,
     next: usize,

@@ -14,7 +14,7 @@ use table_search::offset_of;
 
 // best: the lowest slot known to meet a lower-numbered one, or the bound. carried: the slot below it whose stretch goes
 // on across the window's end, or a number that is not below it.
-#[derive(Drop)]
+#[derive(Clone, Copy)]
 pub struct Front {
     pub best: usize,
     pub carried: usize,

@@ -10,7 +10,7 @@ use columns_width::whole_columns;
 
 // What a reading answers: the number of the first question answered no, 0 where there is none; and how many bytes of
 // the lent slice it filled, 0 beside such a number.
-#[derive(Drop)]
+#[derive(Clone, Copy)]
 pub struct Fetched {
     pub number: u32,
     pub bytes: usize,

@@ -12,7 +12,7 @@ use message_read::{is_active, length_at};
 use table_search::{is_vacant, offset_of};
 
 // How many bytes the target needs, and whether its headers can tell each length.
-#[derive(Drop)]
+#[derive(Clone, Copy)]
 pub struct Needed {
     pub bytes: usize,
     pub told: bool,

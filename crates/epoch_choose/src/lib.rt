@@ -15,14 +15,14 @@ use header_layout::shape::Shape;
 use table_search::{Found, key_of};
 
 // Four bytes of a prism's name by which other prisms are told, and where they end; 0 bytes of a name below four.
-#[derive(Drop)]
+#[derive(Clone, Copy)]
 pub struct Mark {
     pub end: usize,
     pub block: u32,
 }
 
 // The slot that is chosen, as a search ends, and its epoch, 0 where there is none.
-#[derive(Drop)]
+#[derive(Clone, Copy)]
 pub struct Chosen {
     pub found: Found,
     pub epoch: u32,

@@ -6,11 +6,11 @@ ghost use Rattle.spec_file.specs.Limits.{most_key, most_slots, table_start};
 use bytes_words::limits::TABLE_START;
 
 // A slot of the table.
-#[derive(Drop)]
+#[derive(Clone, Copy)]
 pub struct Slot(usize);
 
 // An absolute offset in the image.
-#[derive(Drop)]
+#[derive(Clone, Copy)]
 pub struct Offset(usize);
 
 impl Slot {

@@ -14,7 +14,7 @@ use bytes_words::limits::{
 
 // K, N and D; the size of a message's header; the hash's numbers (its basis is 01's
 // start value).
-#[derive(Drop)]
+#[derive(Clone, Copy)]
 pub struct Shape {
     pub keylen: usize,
     pub slots: usize,

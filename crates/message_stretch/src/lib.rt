@@ -11,7 +11,7 @@ use table_search::{is_vacant, offset_of};
 
 // What a window shows of a slot's stretch: where it starts there, and where it ends, maybe past the window. Both are
 // the window's end where it shows nothing.
-#[derive(Drop)]
+#[derive(Clone, Copy)]
 pub struct Shown {
     pub from: usize,
     pub end: usize,

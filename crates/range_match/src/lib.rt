@@ -24,7 +24,7 @@ pub fn ranges_allowed(size: usize, lowest: &[u8], highest: &[u8]) -> bool
 }
 
 // The positions that are asked, from `first` up to `end`: all others are free.
-#[derive(Drop)]
+#[derive(Clone, Copy)]
 pub struct Asked {
     pub first: usize,
     pub end: usize,

@@ -16,7 +16,7 @@ use header_layout::shape::Shape;
 use table_hash::hash;
 
 // How a search ended: the key was met, an empty slot was met, or all slots were read.
-#[derive(Drop)]
+#[derive(Clone, Copy)]
 pub enum Found {
     Met(Slot),
     Empty(Slot),
@@ -24,7 +24,7 @@ pub enum Found {
 }
 
 // What a search answers: how it ended, and how many slots it read.
-#[derive(Drop)]
+#[derive(Clone, Copy)]
 pub struct Probed {
     pub found: Found,
     pub read: usize,
@@ -80,7 +80,7 @@ pub fn is_vacant(image: &[u8], shape: Shape, i: Slot) -> bool
 }
 
 // Where a search stands: the slot to read next, and how many are left.
-#[derive(Drop)]
+#[derive(Clone, Copy)]
 pub struct Turn {
     pub slot: Slot,
     pub left: usize,

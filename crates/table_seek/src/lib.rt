@@ -11,7 +11,7 @@ use header_sizes::size_allowed;
 use table_search::{Found, search};
 
 // Refused with the number of the first no; or the image's shape, how the search ended, and how many slots it read.
-#[derive(Drop)]
+#[derive(Clone, Copy)]
 pub enum Sought {
     Refused(u32),
     At(Shape, Found, usize),
@@ -19,7 +19,7 @@ pub enum Sought {
 
 // What a call on a name answers: the number of the first no, 0 where there is none; and how many slots its search read,
 // 0 where a question before it was answered no.
-#[derive(Drop)]
+#[derive(Clone, Copy)]
 pub struct Told {
     pub number: u32,
     pub read: usize,
