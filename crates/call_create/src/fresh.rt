@@ -19,8 +19,8 @@ fn write_header(image: &mut [u8], size: u32, slots: u32, start: u32)
     ensures { image.new ≡ store image.old 0 (fresh_header size slots) }
 {
     let numbers = [
-        MAGIC, VERSION, 0, size, slots, 0, 0x01000193, 0x811_c9_d_c5, 32, 126, 512, 2048, start,
-        start, 0x_f_f_f_f_f_f_f_f,
+        MAGIC, VERSION, 0, size, slots, 0, 0x01000193, 0x811C9DC5, 32, 126, 512, 2048, start,
+        start, 0xFFFFFFFF,
     ];
     write_numbers(image, 0, &numbers);
 }

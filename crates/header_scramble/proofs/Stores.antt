@@ -105,8 +105,8 @@ number-stored b at xs i p h =
 -- the header, with "BHTF", v and the version bytes as two numbers
 pub header-digits : (K N D : ℕ) → D ≡ data_start K N
     → all_digits
-    (0x42485446 ∷ 0x76010002 ∷ 0 ∷ K ∷ N ∷ 0 ∷ 0x01000193 ∷ 0x811_c9_d_c5
-    ∷ 32 ∷ 126 ∷ 512 ∷ 2048 ∷ D ∷ D ∷ 0x_f_f_f_f_f_f_f_f ∷ [])
+    (0x42485446 ∷ 0x76010002 ∷ 0 ∷ K ∷ N ∷ 0 ∷ 0x01000193 ∷ 0x811C9DC5
+    ∷ 32 ∷ 126 ∷ 512 ∷ 2048 ∷ D ∷ D ∷ 0xFFFFFFFF ∷ [])
     ≡ fresh_header K N
 unfolding all_digits digits fresh_header
 header-digits K N D e = rw e

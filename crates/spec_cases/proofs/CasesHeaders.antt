@@ -51,8 +51,8 @@ create-4 = (refl, refl)
 -- ---- the hash
 
 -- "if F ≤ c ≤ E": bytes 32 and 126 are scrambled, 31 and 127 are not.
-pub hash-edges : (hash (fresh 4096 4) (126 ∷ []) ≡ 0x_c99_b685_a) × (hash (fresh 4096 4) (127 ∷ []) ≡ 0x050_c5_d1_f)
-    × (hash (fresh 4096 4) (31 ∷ []) ≡ 0x050_c5_d1_f)
+pub hash-edges : (hash (fresh 4096 4) (126 ∷ []) ≡ 0xC99B685A) × (hash (fresh 4096 4) (127 ∷ []) ≡ 0x050C5D1F)
+    × (hash (fresh 4096 4) (31 ∷ []) ≡ 0x050C5D1F)
 unfolding fresh
 hash-edges = (refl, refl, refl)
 
@@ -60,9 +60,9 @@ hash-edges = (refl, refl, refl)
 abbrev pub HashWith : ℕ → ℕ → ℕ → ℕ → Type 0
 HashWith at n c h = hash (set_field (fresh 4096 4) at n) (c ∷ []) ≡ h
 
-pub hash-fields : HashWith multiplier_field 1 1 0x811_c9_d_c5 × HashWith start_field 0 32 0x3_c6_e_f35_f
-    × HashWith first_field 33 33 0x3962_a_e40 × HashWith first_field 33 32 0x050_c5_d1_f
-    × HashWith last_field 125 126 0x050_c5_d1_f
+pub hash-fields : HashWith multiplier_field 1 1 0x811C9DC5 × HashWith start_field 0 32 0x3C6EF35F
+    × HashWith first_field 33 33 0x3962AE40 × HashWith first_field 33 32 0x050C5D1F
+    × HashWith last_field 125 126 0x050C5D1F
 unfolding fresh
 hash-fields = (refl, refl, refl, refl, refl)
 
@@ -91,8 +91,8 @@ fields-6 = (refl, refl, refl, refl, refl, refl, refl, refl, refl, refl, refl, re
 
 -- K = 32, N = 1, C = N, F = E, E = 255; "serial, multiplier and start value may be any number"
 pub fields-taken : WithField key_field 32 0 × WithField slots_field 1 0 × WithField points_field 4 0
-    × WithField first_field 126 0 × WithField last_field 255 0 × WithField serial_field 0x_f_f_f_f_f_f_f_f 0
-    × WithField multiplier_field 0x_f_f_f_f_f_f_f_f 0 × WithField start_field 0x_f_f_f_f_f_f_f_f 0
+    × WithField first_field 126 0 × WithField last_field 255 0 × WithField serial_field 0xFFFFFFFF 0
+    × WithField multiplier_field 0xFFFFFFFF 0 × WithField start_field 0xFFFFFFFF 0
 unfolding headed
 fields-taken = (refl, refl, refl, refl, refl, refl, refl, refl)
 

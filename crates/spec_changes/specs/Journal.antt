@@ -30,7 +30,7 @@ unfoldable pub mark : Bytes → ℕ
 mark j = get_or j (mark_place j) 0
 
 abbrev pub marked : ℕ
-marked = 0x_a5
+marked = 0xA5
 
 -- "A journal too short for content and mark, or with a mark other than 0, is answered 17"
 unfoldable pub journal_allowed : Bytes → Bytes → Bytes → Bool

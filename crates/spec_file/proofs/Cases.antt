@@ -41,11 +41,11 @@ unfolding last_page
 page-4097 = refl
 
 -- "Seed 0, K = 1: the hash of byte 32 is 0x3962AE40, of byte 1 is 0x050C5D1F."
-pub hash-32 : hash (fresh 4096 4) (32 ∷ []) ≡ 0x3962_a_e40
+pub hash-32 : hash (fresh 4096 4) (32 ∷ []) ≡ 0x3962AE40
 unfolding fresh
 hash-32 = refl
 
-pub hash-1 : hash (fresh 4096 4) (1 ∷ []) ≡ 0x050_c5_d1_f
+pub hash-1 : hash (fresh 4096 4) (1 ∷ []) ≡ 0x050C5D1F
 unfolding fresh
 hash-1 = refl
 

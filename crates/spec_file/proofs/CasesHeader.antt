@@ -61,7 +61,7 @@ create-edges = (refl, refl, refl, refl, refl, refl, refl, refl)
 -- ---- the hash
 
 -- "For each key byte c": of two bytes, in their order
-pub hash-two : (hash (fresh 4096 4) (65 ∷ 66 ∷ []) ≡ 0x79254_b_b_e) × (hash (fresh 4096 4) (66 ∷ 65 ∷ []) ≡ 0x_d_f_c_f_a770)
+pub hash-two : (hash (fresh 4096 4) (65 ∷ 66 ∷ []) ≡ 0x79254BBE) × (hash (fresh 4096 4) (66 ∷ 65 ∷ []) ≡ 0xDFCFA770)
 unfolding fresh
 hash-two = (refl, refl)
 

@@ -138,7 +138,7 @@ abbrev pub default_multiplier : ℕ
 default_multiplier = 0x01000193
 
 abbrev pub default_start : ℕ
-default_start = 0x811_c9_d_c5
+default_start = 0x811C9DC5
 
 -- numbers of 32 bits stand below this
 abbrev pub word : ℕ
