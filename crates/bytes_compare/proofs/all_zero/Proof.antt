@@ -9,56 +9,56 @@ use Rattle.bytes_compare.proofs.Compare.{all_zero-block, all_zero-differ, all_ze
 use Rattle.bytes_compare.proofs.all_zero.Statement.{statement}
 use Rattle.bytes_compare.proofs.all_zero.Tie as tie
 
-abbrev invariant-loop : tie.invariant-loop
+abbrev invariant-loop : tie.invariant-loop-i
 invariant-loop s n last i₀ i = (i ≤ length s) × (all_zero s ≡ all_zero (drop i s))
 
-abbrev decreases-loop : tie.decreases-loop
+abbrev decreases-loop : tie.decreases-loop-i
 decreases-loop s n last i₀ i = length s - i
 
-zero-short-requires : tie.Need-zero-short-requires invariant-loop decreases-loop
-zero-short-requires c κs = c.if1.true
+zero-short-requires : tie.Need-zero_short-requires invariant-loop decreases-loop
+zero-short-requires c κs = c.if-n-lt8.true
 
-returns : tie.Need-returns invariant-loop decreases-loop
-returns c = c.zero-short.ensures
+returns : tie.Need-returns-then-n-lt8 invariant-loop decreases-loop
+returns c = c.zero_short.ensures
 
-loop-holds : tie.Need-loop-init invariant-loop decreases-loop
+loop-holds : tie.Need-loop-i-init invariant-loop decreases-loop
 loop-holds c = (omega arith, refl)
 
 eight-requires : tie.Need-eight-requires invariant-loop decreases-loop
 eight-requires c κs = omega arith
 
-returns-2 : tie.Need-returns-2 invariant-loop decreases-loop
+returns-2 : tie.Need-returns-then-eight-ne0 invariant-loop decreases-loop
 returns-2 c =
-    let L = c.before.before.before in
-    let s = L.before.before.before.args.s.now in
-    sym (all_zero-differ s L.loop.i 8 (λ e. c.if2.true (c.before.eight.ensures ∙ e)))
+    let L = c in
+    let s = L.args.s.now in
+    sym (all_zero-differ s L.loop-i.i 8 (λ e. c.if-eight-ne0.true (c.eight.ensures ∙ e)))
 
-add-i : tie.Need-overflow-add-i invariant-loop decreases-loop
+add-i : tie.Need-overflow_add-i invariant-loop decreases-loop
 add-i c = omega arith
 
-loop-less : tie.Need-loop-smaller invariant-loop decreases-loop
+loop-less : tie.Need-loop-i-smaller invariant-loop decreases-loop
 loop-less c = omega arith
 
-loop-again : tie.Need-loop-preserved invariant-loop decreases-loop
+loop-again : tie.Need-loop-i-preserved invariant-loop decreases-loop
 loop-again c =
-    let L = c.before.before.before in
-    let s = L.before.before.before.args.s.now in (
+    let L = c in
+    let s = L.args.s.now in (
       omega arith,
-      L.loop.invariant.1 ∙ all_zero-block s L.loop.i 8 (sym c.before.eight.ensures ∙ c.if2.false),
+      L.loop-i.invariant.1 ∙ all_zero-block s L.loop-i.i 8 (sym c.eight.ensures ∙ c.if-eight-ne0.false),
     )
 
 eight-requires-2 : tie.Need-eight-requires-2 invariant-loop decreases-loop
 eight-requires-2 c κs = omega arith
 
-returns-3 : tie.Need-returns-3 invariant-loop decreases-loop
+returns-3 : tie.Need-returns invariant-loop decreases-loop
 returns-3 c =
-    let L = c.before.before in
-    let s = L.before.before.before.args.s.now in
-    ap (λ (x : ℕ). eqb x 0) c.eight2.ensures
-    ∙ all_zero-last s (length s - 8) L.loop.i 8 (omega arith) (omega arith) L.loop.invariant.1
+    let L = c in
+    let s = L.args.s.now in
+    ap (λ (x : ℕ). eqb x 0) c.eight-2.ensures
+    ∙ all_zero-last s (length s - 8) L.loop-i.i 8 (omega arith) (omega arith) L.loop-i.invariant.1
 
-pub all-zero-spec : {M : Type 1} → statement M
-all-zero-spec =
+pub all_zero_spec : {M : Type 1} → statement M
+all_zero_spec =
     tie.close
     (tie.spec
     invariant-loop

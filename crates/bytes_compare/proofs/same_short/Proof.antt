@@ -12,10 +12,10 @@ use borrow.Author.Rules.{rules}
 use Rattle.bytes_compare.proofs.same_short.Statement.{statement}
 use Rattle.bytes_compare.proofs.same_short.Tie as tie
 
-same-few-requires : tie.Need-same-few-requires
+same-few-requires : tie.Need-same_few-requires
 same-few-requires c κs = search rules
 
-returns : tie.Need-returns
+returns : tie.Need-returns-then-n-lt4
 returns c = search rules
 
 four-requires : tie.Need-four-requires
@@ -24,39 +24,39 @@ four-requires c κs = search rules
 four-requires-2 : tie.Need-four-requires-2
 four-requires-2 c κs = search rules
 
-returns-2 : tie.Need-returns-2
+returns-2 : tie.Need-returns-then-four
 returns-2 c =
-    let A = c.before.before.before.before.before.before.args in
+    let A = c.args in
     sym
     (block-differ A.a.now A.b.now 0 4
-    (λ e. c.if2.true (c.before.before.four.ensures ∙ e ∙ sym c.before.four2.ensures)))
+    (λ e. c.if-four.true (c.four.ensures ∙ e ∙ sym c.four-2.ensures)))
 
 four-requires-3 : tie.Need-four-requires-3
 four-requires-3 c κs = search rules
 
-sub-four : tie.Need-overflow-sub-four
+sub-four : tie.Need-overflow_sub-m
 sub-four c = search rules
 
 four-requires-4 : tie.Need-four-requires-4
 four-requires-4 c κs = search rules
 
-returns-3 : tie.Need-returns-3
+returns-3 : tie.Need-returns
 returns-3 c =
-    let E = c.before.before in
-    let A = E.before.before.before.before.before.before.args in
+    let E = c in
+    let A = E.args in
     let ba : AreBytes A.a.now =
-    λ k. omega (arith, E.before.before.before.before.before.shared-slice-known.given k) in
+    λ k. omega (arith, E.shared_slice_known-1.given k) in
     let bb : AreBytes A.b.now =
-    λ k. omega (arith, E.before.before.before.before.shared-slice-known2.given k) in
-    let l = E.before.before.before.before.before.before.requires.0 in
-    ap₂ eqb c.before.four3.ensures
-    (c.four4.ensures ∙ ap (λ (n : ℕ). little (part A.b.now (n - 4) 4)) (sym l))
+    λ k. omega (arith, E.shared_slice_known-2-1.given k) in
+    let l = E.requires.0 in
+    ap₂ eqb c.four-3.ensures
+    (c.four-4.ensures ∙ ap (λ (n : ℕ). little (part A.b.now (n - 4) 4)) (sym l))
     ∙ same-last A.a.now A.b.now ba bb l (length A.a.now - 4) 4 4 (omega arith) (omega arith)
     (same_block A.a.now A.b.now ba bb l 0 4 (omega arith)
-    (sym E.before.before.four.ensures ∙ E.if2.false ∙ E.before.four2.ensures))
+    (sym E.four.ensures ∙ E.if-four.false ∙ E.four-2.ensures))
 
-pub same-short-spec : {M : Type 1} → statement M
-same-short-spec =
+pub same_short_spec : {M : Type 1} → statement M
+same_short_spec =
     tie.close
     (tie.spec
     same-few-requires

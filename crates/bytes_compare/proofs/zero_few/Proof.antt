@@ -10,41 +10,41 @@ use Rattle.bytes_compare.proofs.Compare.{all_zero-step, all_zero-other, all_zero
 use Rattle.bytes_compare.proofs.zero_few.Statement.{statement}
 use Rattle.bytes_compare.proofs.zero_few.Tie as tie
 
-abbrev invariant-loop : tie.invariant-loop
+abbrev invariant-loop : tie.invariant-loop-i
 invariant-loop s i₀ i = (i ≤ length s) × (all_zero s ≡ all_zero (drop i s))
 
-abbrev decreases-loop : tie.decreases-loop
+abbrev decreases-loop : tie.decreases-loop-i
 decreases-loop s i₀ i = length s - i
 
-loop-holds : tie.Need-loop-init invariant-loop decreases-loop
+loop-holds : tie.Need-loop-i-init invariant-loop decreases-loop
 loop-holds c = (search rules, refl)
 
-shared-slice-read-if1 : tie.Need-shared-slice-read-if1 invariant-loop decreases-loop
+shared-slice-read-if1 : tie.Need-bounds-s-i invariant-loop decreases-loop
 shared-slice-read-if1 c = search rules
 
-returns : tie.Need-returns invariant-loop decreases-loop
+returns : tie.Need-returns-then-s-i-ne0 invariant-loop decreases-loop
 returns c =
-    let L = c.before.before.before in
-    sym (L.loop.invariant.1 ∙ all_zero-other L.before.args.s.now L.loop.i (omega arith) c.if1.true)
+    let L = c in
+    sym (L.loop-i.invariant.1 ∙ all_zero-other L.args.s.now L.loop-i.i (omega arith) c.if-s-i-ne0.true)
 
-add-i : tie.Need-overflow-add-i invariant-loop decreases-loop
+add-i : tie.Need-overflow_add-i invariant-loop decreases-loop
 add-i c = search rules
 
-loop-less : tie.Need-loop-smaller invariant-loop decreases-loop
+loop-less : tie.Need-loop-i-smaller invariant-loop decreases-loop
 loop-less c = search rules
 
-loop-again : tie.Need-loop-preserved invariant-loop decreases-loop
+loop-again : tie.Need-loop-i-preserved invariant-loop decreases-loop
 loop-again c =
-    let L = c.before.before.before in
-    (omega arith, L.loop.invariant.1 ∙ all_zero-step L.before.args.s.now L.loop.i (omega arith) c.if1.false)
+    let L = c in
+    (omega arith, L.loop-i.invariant.1 ∙ all_zero-step L.args.s.now L.loop-i.i (omega arith) c.if-s-i-ne0.false)
 
-returns-2 : tie.Need-returns-2 invariant-loop decreases-loop
+returns-2 : tie.Need-returns invariant-loop decreases-loop
 returns-2 c =
-    let L = c.before in
-    sym (L.loop.invariant.1 ∙ all_zero-end L.before.args.s.now L.loop.i (omega arith))
+    let L = c in
+    sym (L.loop-i.invariant.1 ∙ all_zero-end L.args.s.now L.loop-i.i (omega arith))
 
-pub zero-few-spec : {M : Type 1} → statement M
-zero-few-spec =
+pub zero_few_spec : {M : Type 1} → statement M
+zero_few_spec =
     tie.close
     (tie.spec
     invariant-loop

@@ -10,49 +10,49 @@ use Rattle.bytes_copy.proofs.Copied.{copied_more, copied_all}
 use Rattle.bytes_copy.proofs.copy_bytes.Statement.{statement}
 use Rattle.bytes_copy.proofs.copy_bytes.Tie as tie
 
-abbrev invariant-loop : tie.invariant-loop
+abbrev invariant-loop : tie.invariant-loop-i
 invariant-loop dst₀ src i₀ dst i = (dst ≡ take i src ++ drop i dst₀) × (i ≤ length dst₀) × (length dst ≡ length dst₀)
 
-abbrev decreases-loop : tie.decreases-loop
+abbrev decreases-loop : tie.decreases-loop-i
 decreases-loop dst₀ src i₀ dst i = length dst₀ - i
 
-loop-holds : tie.Need-loop-init invariant-loop decreases-loop
+loop-holds : tie.Need-loop-i-init invariant-loop decreases-loop
 loop-holds c = (refl, search rules, refl)
 
-shared-slice-read-dst : tie.Need-shared-slice-read-dst invariant-loop decreases-loop
+shared-slice-read-dst : tie.Need-bounds-src-i invariant-loop decreases-loop
 shared-slice-read-dst c = search rules
 
-slice-write-dst : tie.Need-slice-write-dst invariant-loop decreases-loop
+slice-write-dst : tie.Need-bounds-dst-i invariant-loop decreases-loop
 slice-write-dst c = search rules
 
-add-i : tie.Need-overflow-add-i invariant-loop decreases-loop
+add-i : tie.Need-overflow_add-i invariant-loop decreases-loop
 add-i c = search rules
 
-loop-less : tie.Need-loop-smaller invariant-loop decreases-loop
+loop-less : tie.Need-loop-i-smaller invariant-loop decreases-loop
 loop-less c = search rules
 
-loop-again : tie.Need-loop-preserved invariant-loop decreases-loop
+loop-again : tie.Need-loop-i-preserved invariant-loop decreases-loop
 loop-again c =
-    let A = c.before.before in
-    let d = A.before.args.dst.now in
-    let s = A.before.args.src.now in
-    let i = A.loop.i in (
-      ap (λ (t : List ℕ). set t i (get_or s i 0)) A.loop.invariant.0 ∙ copied_more s d i (omega arith) (omega arith),
+    let A = c in
+    let d = A.args.dst.now in
+    let s = A.args.src.now in
+    let i = A.loop-i.i in (
+      ap (λ (t : List ℕ). set t i (get_or s i 0)) A.loop-i.invariant.0 ∙ copied_more s d i (omega arith) (omega arith),
       omega arith,
-      length-set A.loop.dst i (get_or s i 0) ∙ A.loop.invariant.2,
+      length-set A.loop-i.dst i (get_or s i 0) ∙ A.loop-i.invariant.2,
     )
 
-same_length : tie.Need-same-length invariant-loop decreases-loop
-same_length c = c.before.loop.invariant.2
+same_length : tie.Need-shape_of-dst invariant-loop decreases-loop
+same_length c = c.loop-i.invariant.2
 
 returns : tie.Need-returns invariant-loop decreases-loop
 returns c =
-    let A = c.before in
-    A.loop.invariant.0
-    ∙ copied_all A.before.args.src.now A.before.args.dst.now A.loop.i (omega arith) (omega arith)
+    let A = c in
+    A.loop-i.invariant.0
+    ∙ copied_all A.args.src.now A.args.dst.now A.loop-i.i (omega arith) (omega arith)
 
-pub copy-bytes-spec : {M : Type 1} → statement M
-copy-bytes-spec =
+pub copy_bytes_spec : {M : Type 1} → statement M
+copy_bytes_spec =
     tie.close
     (tie.spec
     invariant-loop

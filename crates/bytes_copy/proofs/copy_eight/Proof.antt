@@ -9,103 +9,103 @@ use Rattle.bytes_compare.proofs.Little.{part-eight, store-eight}
 use Rattle.bytes_copy.proofs.copy_eight.Statement.{statement}
 use Rattle.bytes_copy.proofs.copy_eight.Tie as tie
 
-shared-slice-read-b0 : tie.Need-shared-slice-read-b0
+shared-slice-read-b0 : tie.Need-bounds-src-i
 shared-slice-read-b0 c = search rules
 
-add-b1 : tie.Need-overflow-add-b1
+add-b1 : tie.Need-overflow_add-b1
 add-b1 c = search rules
 
-shared-slice-read-b1 : tie.Need-shared-slice-read-b1
+shared-slice-read-b1 : tie.Need-bounds-src-i-2
 shared-slice-read-b1 c = search rules
 
-add-b2 : tie.Need-overflow-add-b2
+add-b2 : tie.Need-overflow_add-b2
 add-b2 c = search rules
 
-shared-slice-read-b2 : tie.Need-shared-slice-read-b2
+shared-slice-read-b2 : tie.Need-bounds-src-i-3
 shared-slice-read-b2 c = search rules
 
-add-b3 : tie.Need-overflow-add-b3
+add-b3 : tie.Need-overflow_add-b3
 add-b3 c = search rules
 
-shared-slice-read-b3 : tie.Need-shared-slice-read-b3
+shared-slice-read-b3 : tie.Need-bounds-src-i-4
 shared-slice-read-b3 c = search rules
 
-add-b4 : tie.Need-overflow-add-b4
+add-b4 : tie.Need-overflow_add-b4
 add-b4 c = search rules
 
-shared-slice-read-b4 : tie.Need-shared-slice-read-b4
+shared-slice-read-b4 : tie.Need-bounds-src-i-5
 shared-slice-read-b4 c = search rules
 
-add-b5 : tie.Need-overflow-add-b5
+add-b5 : tie.Need-overflow_add-b5
 add-b5 c = search rules
 
-shared-slice-read-b5 : tie.Need-shared-slice-read-b5
+shared-slice-read-b5 : tie.Need-bounds-src-i-6
 shared-slice-read-b5 c = search rules
 
-add-b6 : tie.Need-overflow-add-b6
+add-b6 : tie.Need-overflow_add-b6
 add-b6 c = search rules
 
-shared-slice-read-b6 : tie.Need-shared-slice-read-b6
+shared-slice-read-b6 : tie.Need-bounds-src-i-7
 shared-slice-read-b6 c = search rules
 
-add-b7 : tie.Need-overflow-add-b7
+add-b7 : tie.Need-overflow_add-b7
 add-b7 c = search rules
 
-shared-slice-read-b7 : tie.Need-shared-slice-read-b7
+shared-slice-read-b7 : tie.Need-bounds-src-i-8
 shared-slice-read-b7 c = search rules
 
-slice-write-dst : tie.Need-slice-write-dst
+slice-write-dst : tie.Need-bounds-dst-i
 slice-write-dst c = search rules
 
-add-dst : tie.Need-overflow-add-dst
+add-dst : tie.Need-overflow_add-dst
 add-dst c = search rules
 
-slice-write-dst-2 : tie.Need-slice-write-dst-2
+slice-write-dst-2 : tie.Need-bounds-dst-i-2
 slice-write-dst-2 c = simp length-set (omega arith)
 
-add-dst-2 : tie.Need-overflow-add-dst-2
+add-dst-2 : tie.Need-overflow_add-dst-2
 add-dst-2 c = search rules
 
-slice-write-dst-3 : tie.Need-slice-write-dst-3
+slice-write-dst-3 : tie.Need-bounds-dst-i-3
 slice-write-dst-3 c = simp length-set (omega arith)
 
-add-dst-3 : tie.Need-overflow-add-dst-3
+add-dst-3 : tie.Need-overflow_add-dst-3
 add-dst-3 c = search rules
 
-slice-write-dst-4 : tie.Need-slice-write-dst-4
+slice-write-dst-4 : tie.Need-bounds-dst-i-4
 slice-write-dst-4 c = simp length-set (omega arith)
 
-add-dst-4 : tie.Need-overflow-add-dst-4
+add-dst-4 : tie.Need-overflow_add-dst-4
 add-dst-4 c = search rules
 
-slice-write-dst-5 : tie.Need-slice-write-dst-5
+slice-write-dst-5 : tie.Need-bounds-dst-i-5
 slice-write-dst-5 c = simp length-set (omega arith)
 
-add-dst-5 : tie.Need-overflow-add-dst-5
+add-dst-5 : tie.Need-overflow_add-dst-5
 add-dst-5 c = search rules
 
-slice-write-dst-6 : tie.Need-slice-write-dst-6
+slice-write-dst-6 : tie.Need-bounds-dst-i-6
 slice-write-dst-6 c = simp length-set (omega arith)
 
-add-dst-6 : tie.Need-overflow-add-dst-6
+add-dst-6 : tie.Need-overflow_add-dst-6
 add-dst-6 c = search rules
 
-slice-write-dst-7 : tie.Need-slice-write-dst-7
+slice-write-dst-7 : tie.Need-bounds-dst-i-7
 slice-write-dst-7 c = simp length-set (omega arith)
 
-add-dst-7 : tie.Need-overflow-add-dst-7
+add-dst-7 : tie.Need-overflow_add-dst-7
 add-dst-7 c = search rules
 
-slice-write-dst-8 : tie.Need-slice-write-dst-8
+slice-write-dst-8 : tie.Need-bounds-dst-i-8
 slice-write-dst-8 c = simp length-set (omega arith)
 
-same_length : tie.Need-same-length
+same_length : tie.Need-shape_of-dst
 same_length c = simp length-set
 
 returns : tie.Need-returns
 returns c =
-    let B = c.before.before.before.before in
-    let A = B.before.before.before.before.args in
+    let B = c in
+    let A = B.args in
     let s = A.src.now in
     let i = A.i in
     store-eight A.dst.now A.i
@@ -114,8 +114,8 @@ returns c =
     (omega arith)
     ∙ ap (λ (t : Bytes). store A.dst.now A.i t) (sym (part-eight s i (omega arith)))
 
-pub copy-eight-spec : {M : Type 1} → statement M
-copy-eight-spec =
+pub copy_eight_spec : {M : Type 1} → statement M
+copy_eight_spec =
     tie.close
     (tie.spec
     shared-slice-read-b0

@@ -5,30 +5,30 @@ use borrow.Author.Rules.{rules}
 use Rattle.bytes_move.proofs.copy_up.Statement.{statement}
 use Rattle.bytes_move.proofs.copy_up.Tie as tie
 
-move-bytes-requires : tie.Need-move-bytes-requires
+move-bytes-requires : tie.Need-move_bytes-requires
 move-bytes-requires c κs =
-    let P = c.before.before.before.requires in
+    let P = c.requires in
     (inl P.0, omega arith, P.1)
 
-move-eights-requires : tie.Need-move-eights-requires
+move-eights-requires : tie.Need-move_eights-requires
 move-eights-requires c κs =
-    let P = c.before.before.before.requires in
+    let P = c.requires in
     ((inl P.0, omega arith, P.1), omega arith)
 
-same_length : tie.Need-same-length
+same_length : tie.Need-shape_of-s-then-n-lt8
 same_length c = search rules
 
-returns : tie.Need-returns
+returns : tie.Need-returns-then-n-lt8
 returns c = search rules
 
-same-length-2 : tie.Need-same-length-2
+same-length-2 : tie.Need-shape_of-s-else-n-lt8
 same-length-2 c = search rules
 
-returns-2 : tie.Need-returns-2
+returns-2 : tie.Need-returns-else-n-lt8
 returns-2 c = search rules
 
-pub copy-up-spec : {M : Type 1} → statement M
-copy-up-spec =
+pub copy_up_spec : {M : Type 1} → statement M
+copy_up_spec =
     tie.close
     (tie.spec
     move-bytes-requires

@@ -11,41 +11,41 @@ use Rattle.bytes_zero.proofs.Cleared.{zeroed-all}
 use Rattle.bytes_zero.proofs.zero.Statement.{statement}
 use Rattle.bytes_zero.proofs.zero.Tie as tie
 
-abbrev invariant-loop : tie.invariant-loop
+abbrev invariant-loop : tie.invariant-loop-i
 invariant-loop s₀ i₀ s i = (s ≡ replicate i 0 ++ drop i s₀) × (i ≤ length s₀) × (length s ≡ length s₀)
 
-abbrev decreases-loop : tie.decreases-loop
+abbrev decreases-loop : tie.decreases-loop-i
 decreases-loop s₀ i₀ s i = length s₀ - i
 
-loop-holds : tie.Need-loop-init invariant-loop decreases-loop
+loop-holds : tie.Need-loop-i-init invariant-loop decreases-loop
 loop-holds c = (refl, search rules, refl)
 
-slice-write-s : tie.Need-slice-write-s invariant-loop decreases-loop
+slice-write-s : tie.Need-bounds-s-i invariant-loop decreases-loop
 slice-write-s c = search rules
 
-add-i : tie.Need-overflow-add-i invariant-loop decreases-loop
+add-i : tie.Need-overflow_add-i invariant-loop decreases-loop
 add-i c = search rules
 
-loop-less : tie.Need-loop-smaller invariant-loop decreases-loop
+loop-less : tie.Need-loop-i-smaller invariant-loop decreases-loop
 loop-less c = search rules
 
-loop-again : tie.Need-loop-preserved invariant-loop decreases-loop
+loop-again : tie.Need-loop-i-preserved invariant-loop decreases-loop
 loop-again c =
-    let A = c.before in
-    let s₀ = A.before.args.s.now in (
-      ap (λ (t : List ℕ). set t A.loop.i 0) A.loop.invariant.0 ∙ fill_more A.loop.i 0 s₀ (omega arith),
+    let A = c in
+    let s₀ = A.args.s.now in (
+      ap (λ (t : List ℕ). set t A.loop-i.i 0) A.loop-i.invariant.0 ∙ fill_more A.loop-i.i 0 s₀ (omega arith),
       omega arith,
-      length-set A.loop.s A.loop.i 0 ∙ A.loop.invariant.2,
+      length-set A.loop-i.s A.loop-i.i 0 ∙ A.loop-i.invariant.2,
     )
 
-same_length : tie.Need-same-length invariant-loop decreases-loop
-same_length c = c.before.loop.invariant.2
+same_length : tie.Need-shape_of-s invariant-loop decreases-loop
+same_length c = c.loop-i.invariant.2
 
 returns : tie.Need-returns invariant-loop decreases-loop
-returns c = c.before.loop.invariant.0 ∙ zeroed-all c.before.before.args.s.now c.before.loop.i (omega arith)
+returns c = c.loop-i.invariant.0 ∙ zeroed-all c.args.s.now c.loop-i.i (omega arith)
 
-pub zero-spec : {M : Type 1} → statement M
-zero-spec =
+pub zero_spec : {M : Type 1} → statement M
+zero_spec =
     tie.close
     (tie.spec
     invariant-loop

@@ -6,19 +6,19 @@ use Rattle.table_seek.specs.Seeks.{SoughtIs}
 use Rattle.call_add.proofs.add.Statement.{statement}
 use Rattle.call_add.proofs.add.Tie as tie
 
-mode-known-requires : tie.Need-mode-known-requires
+mode-known-requires : tie.Need-mode_known-requires
 mode-known-requires c κs = search rules
 
-seek-requires : tie.Need-seek-requires
+seek-requires : tie.Need-seek-sought-requires
 seek-requires c κs = search rules
 
-add-sought-requires : tie.Need-add-sought-requires
+add-sought-requires : tie.Need-add_sought-requires
 add-sought-requires c κs =
-    let A = c.before.before.before.before.before.before.before.args in
-    subst (λ (k : Bool). SoughtIs A.image.now A.key.now k c.before.seek.result)
-    c.before.before.mode-known.ensures c.before.seek.ensures
+    let A = c.args in
+    subst (λ (k : Bool). SoughtIs A.image.now A.key.now k c.seek-sought.result)
+    c.mode_known.ensures c.seek-sought.ensures
 
-same_length : tie.Need-same-length
+same_length : tie.Need-shape_of-image
 same_length c = search rules
 
 returns : tie.Need-returns
@@ -26,4 +26,10 @@ returns c = search rules
 
 pub add_spec : {M : Type 1} → statement M
 add_spec =
-    tie.close (tie.spec mode-known-requires seek-requires add-sought-requires same_length returns)
+    tie.close
+    (tie.spec
+    mode-known-requires
+    seek-requires
+    add-sought-requires
+    same_length
+    returns)

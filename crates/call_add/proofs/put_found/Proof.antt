@@ -11,58 +11,58 @@ use Rattle.table_search.proofs.Taken.{other-met, met-is, met-within, met-key}
 use Rattle.call_add.proofs.put_found.Statement.{statement}
 use Rattle.call_add.proofs.put_found.Tie as tie
 
-enum-known-found : tie.Need-enum-known-found
+enum-known-found : tie.Need-enum_known-found
 enum-known-found c = search rules
 
-abbrev start-at-add-absent-arg : tie.After-add-absent-arg → tie.Start
+abbrev start-at-add-absent-arg : tie.After-add_absent-arg-1 → tie.Start
 start-at-add-absent-arg c = c.before.before.before.before.before
 
-add-absent-requires : tie.Need-add-absent-requires
+add-absent-requires : tie.Need-add_absent-requires
 add-absent-requires c κs =
     let S = (start-at-add-absent-arg c) in
-    (S.pre.0, S.pre.1, S.pre.3, other-met S.args.found c.before.match.keys2)
+    (S.requires.0, S.requires.1, S.requires.3, other-met S.args.found c.in_default.keys2)
 
-same_length : tie.Need-same-length
+same_length : tie.Need-shape_of-image-in_default
 same_length c = search rules
 
-returns : tie.Need-returns
-returns c = c.before.before.add-absent.ensures
+returns : tie.Need-returns-in_default
+returns c = c.add_absent.ensures
 
-abbrev start-at-add-present-arg : tie.After-add-present-arg → tie.Start
+abbrev start-at-add-present-arg : tie.After-add_present-arg-1 → tie.Start
 start-at-add-present-arg c = c.before.before.before.before.before.before.before
 
-add-present-requires : tie.Need-add-present-requires
+add-present-requires : tie.Need-add_present-requires
 add-present-requires c κs =
     let S = (start-at-add-present-arg c) in
-    (S.pre.0, met-within c.before.before.found.given.1 S.pre.1, S.pre.4)
+    (S.requires.0, met-within c.found-1.given.1 S.requires.1, S.requires.4)
 
-same-length-2 : tie.Need-same-length-2
+same-length-2 : tie.Need-shape_of-image
 same-length-2 c = search rules
 
-abbrev shared-slice-known2-at-slice-known3 : tie.After-slice-known3 → tie.After-shared-slice-known2
+abbrev shared-slice-known2-at-slice-known3 : tie.After-slice_known-2-1 → tie.After-shared_slice_known-2-1
 shared-slice-known2-at-slice-known3 c = c.before.before.before.before.before.before.before
 
-abbrev start-at-slice-known3 : tie.After-slice-known3 → tie.Start
-start-at-slice-known3 c = (shared-slice-known2-at-slice-known3 c).before.before.before
+abbrev start-at-slice-known3 : tie.After-slice_known-2-1 → tie.Start
+start-at-slice-known3 c = c.before.before.before.before.before.before.before.before.before.before
 
-abbrev found-at-slice-known3 : tie.After-slice-known3 → tie.After-found
+abbrev found-at-slice-known3 : tie.After-slice_known-2-1 → tie.In-Met-2
 found-at-slice-known3 c = c.before.before.before.before.before
 
-returns-2 : tie.Need-returns-2
+returns-2 : tie.Need-returns
 returns-2 c =
     let S = start-at-slice-known3 c in
     let A = S.args in
     let img = A.image.now in
     let g = layout_of img in
-    let p = c.before.before.add-present in
-    let found = (found-at-slice-known3 c).found.given.1 in (
+    let p = c.add_present in
+    let found = (found-at-slice-known3 c).found-1.given.1 in (
       p.ensures.0 ∙ ap (λ (s : Probe). first_no (point_asks g img s A.bytes.now A.mode)) (sym (met-is found)),
       p.ensures.1 ∙ ap₂ (λ (s : Probe) (key : Bytes). settled p.result img
-          (added_at g img s key A.bytes.now A.mode)) (sym (met-is found)) (met-key img found S.pre.2),
+          (added_at g img s key A.bytes.now A.mode)) (sym (met-is found)) (met-key img found S.requires.2),
     )
 
-pub put-found-spec : {M : Type 1} → statement M
-put-found-spec =
+pub put_found_spec : {M : Type 1} → statement M
+put_found_spec =
     tie.close
     (tie.spec
     enum-known-found

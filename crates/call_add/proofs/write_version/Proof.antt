@@ -16,21 +16,27 @@ three (a ∷ b ∷ []) h = absurd (omega arith)
 three (a ∷ b ∷ c ∷ []) h = refl
 three (a ∷ b ∷ c ∷ d ∷ l) h = absurd (omega arith)
 
-slice-write-part : tie.Need-slice-write-part
+slice-write-part : tie.Need-bounds-part-0
 slice-write-part c = search rules
 
-slice-write-part-2 : tie.Need-slice-write-part-2
+slice-write-part-2 : tie.Need-bounds-part-1
 slice-write-part-2 c = search rules
 
-slice-write-part-3 : tie.Need-slice-write-part-3
+slice-write-part-3 : tie.Need-bounds-part-2
 slice-write-part-3 c = search rules
 
-same_length : tie.Need-same-length
+same_length : tie.Need-shape_of-part
 same_length c = search rules
 
 returns : tie.Need-returns
 returns c = three c.args.part.now c.requires
 
-pub write-version-spec : {M : Type 1} → statement M
-write-version-spec =
-    tie.close (tie.spec slice-write-part slice-write-part-2 slice-write-part-3 same_length returns)
+pub write_version_spec : {M : Type 1} → statement M
+write_version_spec =
+    tie.close
+    (tie.spec
+    slice-write-part
+    slice-write-part-2
+    slice-write-part-3
+    same_length
+    returns)

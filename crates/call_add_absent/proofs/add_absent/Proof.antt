@@ -35,115 +35,115 @@ ten : (c : tie.Start) (p q : Probe) → p ≡ q → number c q ≡ 10
     → (10 ≡ number c p) × (c.args.image.now ≡ settled 10 c.args.image.now (after c p))
 ten c p q e h = (sym (ap (number c) e ∙ h), sym (settled-no 10 c.args.image.now (after c p) (λ z. omega arith)))
 
-abbrev start-at-then1 : tie.Then1 → tie.Start
+abbrev start-at-then1 : tie.Then-mode-eq-WITHDRAW → tie.Start
 start-at-then1 c = c.before.before.before.before
 
-returns : tie.Need-returns
+returns : tie.Need-returns-then-mode-eq-WITHDRAW
 returns c =
     let S = start-at-then1 c in
     let A = S.args in (
-      sym (point-14 (layout_of A.image.now) A.image.now A.bytes.now A.mode _ S.pre.3
-          (eq-eqb A.mode 4 c.if1.true)),
+      sym (point-14 (layout_of A.image.now) A.image.now A.bytes.now A.mode _ S.requires.3
+          (eq-eqb A.mode 4 c.if-mode-eq-WITHDRAW.true)),
       sym (settled-no 14 A.image.now _ (λ z. omega arith)),
     )
 
 -- ---- in another mode
 
-abbrev start-at-else1 : tie.Else1 → tie.Start
+abbrev start-at-else1 : tie.Else-mode-eq-WITHDRAW → tie.Start
 start-at-else1 c = c.before.before.before.before
 
-other : (c : tie.Else1) → eqb (start-at-else1 c).args.mode 4 ≡ false
-other c = ne_eqb (start-at-else1 c).args.mode 4 c.if1.false
+other : (c : tie.Else-mode-eq-WITHDRAW) → eqb (start-at-else1 c).args.mode 4 ≡ false
+other c = ne_eqb (start-at-else1 c).args.mode 4 c.if-mode-eq-WITHDRAW.false
 
-enum-known-found : tie.Need-enum-known-found
+enum-known-found : tie.Need-enum_known-found
 enum-known-found c = search rules
 
-returns-2 : tie.Need-returns-2
+returns-2 : tie.Need-returns-in_default
 returns-2 c =
     let E = c.before in
     let S = start-at-else1 E in
-    ten S _ _ (other-empty S.args.found c.match.keys2 S.pre.3)
+    ten S _ _ (other-empty S.args.found c.in_default.keys2 S.requires.3)
     (point-10-exhausted _ _ S.args.bytes.now S.args.mode (other E))
 
-abbrev else1-at-read-u32-arg : tie.After-read-u32-arg → tie.Else1
-else1-at-read-u32-arg c = c.before.before.before.before
+abbrev else1-at-read-u32-arg : tie.In-Empty → tie.Else-mode-eq-WITHDRAW
+else1-at-read-u32-arg c = c.before.before.before
 
-abbrev start-at-read-u32-arg : tie.After-read-u32-arg → tie.Start
-start-at-read-u32-arg c = start-at-else1 (else1-at-read-u32-arg c)
+abbrev start-at-read-u32-arg : tie.In-Empty → tie.Start
+start-at-read-u32-arg c = c.before.before.before.before.before.before.before
 
-read-u32-requires : tie.Need-read-u32-requires
-read-u32-requires c κs = omega (arith, (opened-facts _ (start-at-read-u32-arg c).pre.0.accepted).size_low)
+read-u32-requires : tie.Need-read_u32-requires
+read-u32-requires c κs = omega (arith, (opened-facts _ (start-at-read-u32-arg c).requires.0.accepted).size_low)
 
-cast-if2 : tie.Need-overflow-cast-if2
+cast-if2 : tie.Need-overflow_cast-read_u32
 cast-if2 c = search rules
 
-same_length : tie.Need-same-length
+same_length : tie.Need-shape_of-image-then-slots-read_u32
 same_length c = search rules
 
-abbrev else1-at-then2 : tie.Then2 → tie.Else1
-else1-at-then2 c = c.before.before.before.before.before.before
+abbrev else1-at-then2 : tie.Then-slots-read_u32 → tie.Else-mode-eq-WITHDRAW
+else1-at-then2 c = c.before.before.before.before.before
 
-abbrev found-at-then2 : tie.Then2 → tie.After-found
-found-at-then2 c = c.before.before.before.before
+abbrev found-at-then2 : tie.Then-slots-read_u32 → tie.In-Empty-2
+found-at-then2 c = c.before.before.before
 
-returns-3 : tie.Need-returns-3
+returns-3 : tie.Need-returns-then-slots-read_u32
 returns-3 c =
     let E = else1-at-then2 c in
     let S = start-at-else1 E in
     let img = S.args.image.now in
     let full : (layout_of img).N ≤ field img points_field =
-    omega (arith, c.if2.true, c.before.read_u32.ensures, layout-slots img S.args.shape S.pre.0.shape) in
-    ten S _ _ (empty-is (found-at-then2 c).found.given.1)
+    omega (arith, c.if-slots-read_u32.true, c.read_u32.ensures, layout-slots img S.args.shape S.requires.0.shape) in
+    ten S _ _ (empty-is (found-at-then2 c).found-1.given.1)
     (point-10-full (layout_of img) img S.args.bytes.now S.args.mode _ (other E)
     (le-ltb (field img points_field) (layout_of img).N full))
 
-abbrev else1-at-insert-fresh-arg : tie.After-insert-fresh-arg → tie.Else1
-else1-at-insert-fresh-arg c = c.before.before.before.before.before.before.before
+abbrev else1-at-insert-fresh-arg : tie.After-insert_fresh-arg-1 → tie.Else-mode-eq-WITHDRAW
+else1-at-insert-fresh-arg c = c.before.before.before.before.before.before
 
-abbrev start-at-insert-fresh-arg : tie.After-insert-fresh-arg → tie.Start
-start-at-insert-fresh-arg c = start-at-else1 (else1-at-insert-fresh-arg c)
+abbrev start-at-insert-fresh-arg : tie.After-insert_fresh-arg-1 → tie.Start
+start-at-insert-fresh-arg c = c.before.before.before.before.before.before.before.before.before.before
 
-abbrev found-at-insert-fresh-arg : tie.After-insert-fresh-arg → tie.After-found
-found-at-insert-fresh-arg c = c.before.before.before.before.before
+abbrev found-at-insert-fresh-arg : tie.After-insert_fresh-arg-1 → tie.In-Empty-2
+found-at-insert-fresh-arg c = c.before.before.before.before
 
-insert-fresh-requires : tie.Need-insert-fresh-requires
+insert-fresh-requires : tie.Need-insert_fresh-requires
 insert-fresh-requires c κs =
     let S = (start-at-insert-fresh-arg c) in
-    (S.pre.0, empty-within (found-at-insert-fresh-arg c).found.given.1 S.pre.1, S.pre.2)
+    (S.requires.0, empty-within (found-at-insert-fresh-arg c).found-1.given.1 S.requires.1, S.requires.2)
 
-same-length-2 : tie.Need-same-length-2
+same-length-2 : tie.Need-shape_of-image
 same-length-2 c = search rules
 
-abbrev known-told-at-slice-known2 : tie.After-slice-known2 → tie.After-known-told
-known-told-at-slice-known2 c = c.before.before.before.before.before.before.before
+abbrev known-told-at-slice-known2 : tie.After-slice_known-2-1 → tie.In-Empty
+known-told-at-slice-known2 c = c.before.before.before.before.before.before
 
-abbrev else1-at-slice-known2 : tie.After-slice-known2 → tie.Else1
-else1-at-slice-known2 c = (known-told-at-slice-known2 c).before.before.before
+abbrev else1-at-slice-known2 : tie.After-slice_known-2-1 → tie.Else-mode-eq-WITHDRAW
+else1-at-slice-known2 c = c.before.before.before.before.before.before.before.before.before
 
-abbrev found-at-slice-known2 : tie.After-slice-known2 → tie.After-found
-found-at-slice-known2 c = (known-told-at-slice-known2 c).before
+abbrev found-at-slice-known2 : tie.After-slice_known-2-1 → tie.In-Empty-2
+found-at-slice-known2 c = c.before.before.before.before.before.before.before
 
-abbrev else2-at-slice-known2 : tie.After-slice-known2 → tie.Else2
+abbrev else2-at-slice-known2 : tie.After-slice_known-2-1 → tie.Else-slots-read_u32
 else2-at-slice-known2 c = c.before.before.before.before
 
-abbrev read-u32-at-slice-known2 : tie.After-slice-known2 → tie.After-read-u32
+abbrev read-u32-at-slice-known2 : tie.After-slice_known-2-1 → tie.After-read_u32
 read-u32-at-slice-known2 c = c.before.before.before.before.before
 
-returns-4 : tie.Need-returns-4
+returns-4 : tie.Need-returns
 unfolding added_at
 returns-4 c =
     let E = else1-at-slice-known2 c in
     let S = start-at-else1 E in
     let A = S.args in
     let img = A.image.now in
-    let d = c.before.before.insert-fresh in
-    let is = empty-is (found-at-slice-known2 c).found.given.1 in
+    let d = c.insert_fresh in
+    let is = empty-is (found-at-slice-known2 c).found-1.given.1 in
     let less : field img points_field < (layout_of img).N =
     omega (
       arith,
-      (else2-at-slice-known2 c).if2.left,
+      (else2-at-slice-known2 c).if-slots-read_u32.left,
       (read-u32-at-slice-known2 c).read_u32.ensures,
-      layout-slots img A.shape S.pre.0.shape,
+      layout-slots img A.shape S.requires.0.shape,
     ) in (
       d.ensures.0
           ∙ sym (ap (number S) is
@@ -152,8 +152,8 @@ returns-4 c =
       d.ensures.1 ∙ ap (settled d.result img) (sym (ap (after S) is)),
     )
 
-pub add-absent-spec : {M : Type 1} → statement M
-add-absent-spec =
+pub add_absent_spec : {M : Type 1} → statement M
+add_absent_spec =
     tie.close
     (tie.spec
     returns

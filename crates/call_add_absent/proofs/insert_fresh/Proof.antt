@@ -25,95 +25,95 @@ new-requires c κs = search rules
 enter-requires : tie.Need-enter-requires
 enter-requires c κs = search rules
 
-same_length : tie.Need-same-length
+same_length : tie.Need-shape_of-image-then-mode-bytes
 same_length c = search rules
 
-abbrev shared-slice-known-at-slice-known2 : tie.After-slice-known2 → tie.After-shared-slice-known
+abbrev shared-slice-known-at-slice-known2 : tie.After-slice_known-then-mode-bytes-1 → tie.After-shared_slice_known-1
 shared-slice-known-at-slice-known2 c = c.before.before.before.before.before.before.before
 
-abbrev start-at-slice-known2 : tie.After-slice-known2 → tie.Start
-start-at-slice-known2 c = (shared-slice-known-at-slice-known2 c).before.before
+abbrev start-at-slice-known2 : tie.After-slice_known-then-mode-bytes-1 → tie.Start
+start-at-slice-known2 c = c.before.before.before.before.before.before.before.before.before
 
-abbrev then1-at-slice-known2 : tie.After-slice-known2 → tie.Then1
+abbrev then1-at-slice-known2 : tie.After-slice_known-then-mode-bytes-1 → tie.Then-mode-bytes
 then1-at-slice-known2 c = c.before.before.before.before.before
 
-returns : tie.Need-returns
+returns : tie.Need-returns-then-mode-bytes
 unfolding inserted
 returns c =
     let S = (start-at-slice-known2 c) in
     let A = S.args in
     let img = A.image.now in
-    let none' = fresh-none A.bytes.now A.mode (then1-at-slice-known2 c).if1.taken in
-    place-nothing (layout_of img) img (text S) (entered S (text S)) none' c.before.before.enter.new.0
-    (c.before.before.enter.ensures
-    ∙ ap (enter (layout_of img) img A.slot.0 A.key.now) c.before.before.before.new.ensures
+    let none' = fresh-none A.bytes.now A.mode (then1-at-slice-known2 c).if-mode-bytes.taken in
+    place-nothing (layout_of img) img (text S) (entered S (text S)) none' c.enter.new.0
+    (c.enter.ensures
+    ∙ ap (enter (layout_of img) img A.slot.0 A.key.now) c.new.ensures
     ∙ sym (ap (entered S) none'))
 
-room-number-requires : tie.Need-room-number-requires
+room-number-requires : tie.Need-room_number-number-requires
 room-number-requires c κs = search rules
 
-same-length-2 : tie.Need-same-length-2
+same-length-2 : tie.Need-shape_of-image-then-number-ne0
 same-length-2 c = search rules
 
-abbrev start-at-then2 : tie.Then2 → tie.Start
-start-at-then2 c = c.before.before.before.before.before.before.before
+abbrev start-at-then2 : tie.Then-number-ne0 → tie.Start
+start-at-then2 c = c.before.before.before.before.before.before
 
-returns-2 : tie.Need-returns-2
+returns-2 : tie.Need-returns-then-number-ne0
 returns-2 c =
     let S = (start-at-then2 c) in
     let A = S.args in
     let img = A.image.now in
     place-refused (layout_of img) img (text S) (entered S (text S)) A.bytes.now
-    (fresh-some A.bytes.now A.mode c.before.before.before.if1.false) _
-    (c.before.room-number.ensures A.bytes.now refl) c.if2.true
+    (fresh-some A.bytes.now A.mode c.if-mode-bytes.false) _
+    (c.room_number-number.ensures A.bytes.now refl) c.if-number-ne0.true
 
-abbrev slice-known-at-insert-arg : tie.After-insert-arg → tie.After-slice-known
-slice-known-at-insert-arg c = c.before.before.before.before.before.before.before
+abbrev slice-known-at-insert-arg : tie.After-insert-arg-1 → tie.After-slice_known-1
+slice-known-at-insert-arg c = c.before.before.before.before.before.before
 
-abbrev start-at-insert-arg : tie.After-insert-arg → tie.Start
-start-at-insert-arg c = (slice-known-at-insert-arg c).before
+abbrev start-at-insert-arg : tie.After-insert-arg-1 → tie.Start
+start-at-insert-arg c = c.before.before.before.before.before.before.before
 
 insert-requires : tie.Need-insert-requires
 insert-requires c κs =
     let S = (start-at-insert-arg c) in (
-      S.pre.0,
-      S.pre.1,
-      S.pre.2,
-      place-fits S.pre.0 S.args.bytes.now
-          (sym (c.before.before.room-number.ensures S.args.bytes.now refl) ∙ c.before.if2.false),
+      S.requires.0,
+      S.requires.1,
+      S.requires.2,
+      place-fits S.requires.0 S.args.bytes.now
+          (sym (c.room_number-number.ensures S.args.bytes.now refl) ∙ c.if-number-ne0.false),
     )
 
-same-length-3 : tie.Need-same-length-3
+same-length-3 : tie.Need-shape_of-image
 same-length-3 c = search rules
 
-abbrev else1-at-slice-known3 : tie.After-slice-known3 → tie.Else1
-else1-at-slice-known3 c = c.before.before.before.before.before.before.before
+abbrev else1-at-slice-known3 : tie.After-slice_known-2-1 → tie.Else-mode-bytes
+else1-at-slice-known3 c = c.before.before.before.before.before.before
 
-abbrev start-at-else1 : tie.Else1 → tie.Start
+abbrev start-at-else1 : tie.Else-mode-bytes → tie.Start
 start-at-else1 c = c.before.before.before.before
 
-abbrev start-at-slice-known3 : tie.After-slice-known3 → tie.Start
-start-at-slice-known3 c = start-at-else1 (else1-at-slice-known3 c)
+abbrev start-at-slice-known3 : tie.After-slice_known-2-1 → tie.Start
+start-at-slice-known3 c = c.before.before.before.before.before.before.before.before.before.before
 
-abbrev room-number-at-slice-known3 : tie.After-slice-known3 → tie.After-room-number
+abbrev room-number-at-slice-known3 : tie.After-slice_known-2-1 → tie.After-room_number-number
 room-number-at-slice-known3 c = c.before.before.before.before.before
 
-abbrev else2-at-slice-known3 : tie.After-slice-known3 → tie.Else2
+abbrev else2-at-slice-known3 : tie.After-slice_known-2-1 → tie.Else-number-ne0
 else2-at-slice-known3 c = c.before.before.before.before
 
-returns-3 : tie.Need-returns-3
+returns-3 : tie.Need-returns
 returns-3 c =
     let S = (start-at-slice-known3 c) in
     let A = S.args in
     let img = A.image.now in
-    let some' = fresh-some A.bytes.now A.mode (else1-at-slice-known3 c).if1.left in
+    let some' = fresh-some A.bytes.now A.mode (else1-at-slice-known3 c).if-mode-bytes.left in
     place-done (layout_of img) img (text S) (entered S (text S)) A.bytes.now some' _
-    ((room-number-at-slice-known3 c).room-number.ensures A.bytes.now refl) (else2-at-slice-known3 c).if2.left
-    c.before.before.insert.new.0
-    (c.before.before.insert.ensures ∙ ap (entered S) (sym some'))
+    ((room-number-at-slice-known3 c).room_number-number.ensures A.bytes.now refl) (else2-at-slice-known3 c).if-number-ne0.left
+    c.insert.new.0
+    (c.insert.ensures ∙ ap (entered S) (sym some'))
 
-pub insert-fresh-spec : {M : Type 1} → statement M
-insert-fresh-spec =
+pub insert_fresh_spec : {M : Type 1} → statement M
+insert_fresh_spec =
     tie.close
     (tie.spec
     new-requires

@@ -11,130 +11,130 @@ use Rattle.call_add_present.proofs.Shown.{head-fits}
 use Rattle.call_add_present.proofs.relocate.Statement.{statement}
 use Rattle.call_add_present.proofs.relocate.Tie as tie
 
-abbrev start-at-read-u32-arg : tie.After-read-u32-arg → tie.Start
-start-at-read-u32-arg c = c.before.before.before
+abbrev start-at-read-u32-arg : tie.After-shared_slice_known-1 → tie.Start
+start-at-read-u32-arg c = c.before.before
 
-read-u32-requires : tie.Need-read-u32-requires
+read-u32-requires : tie.Need-read_u32-requires
 read-u32-requires c κs = omega (arith, (opened-facts _ (start-at-read-u32-arg c).requires.0.accepted).size_low)
 
-cast-new : tie.Need-overflow-cast-new
+cast-new : tie.Need-overflow_cast-read_u32
 cast-new c = search rules
 
-new-requires : tie.Need-new-requires
+new-requires : tie.Need-new-free-requires
 new-requires c κs = search rules
 
-abbrev start-at-retire-arg : tie.After-retire-arg → tie.Start
-start-at-retire-arg c = c.before.before.before.before.before.before
+abbrev start-at-retire-arg : tie.After-retire-arg-1 → tie.Start
+start-at-retire-arg c = c.before.before.before.before.before
 
 retire-requires : tie.Need-retire-requires
 retire-requires c κs =
     let S = start-at-retire-arg c in
-    omega (arith, head-range S.pre.0, head-fits S.pre.0 S.args.o.0 S.pre.2)
+    omega (arith, head-range S.requires.0, head-fits S.requires.0 S.args.o.0 S.requires.2)
 
-text-start-requires : tie.Need-text-start-requires
+text-start-requires : tie.Need-text_start-requires
 text-start-requires c κs = search rules
 
-abbrev read-u32-at-text-start : tie.After-text-start → tie.After-read-u32
+abbrev read-u32-at-text-start : tie.After-text_start → tie.After-read_u32
 read-u32-at-text-start c = c.before.before.before.before.before.before.before
 
-abbrev start-at-read-u32 : tie.After-read-u32 → tie.Start
-start-at-read-u32 c = c.before.before.before.before
+abbrev start-at-read-u32 : tie.After-read_u32 → tie.Start
+start-at-read-u32 c = c.before.before.before
 
-abbrev start-at-text-start : tie.After-text-start → tie.Start
-start-at-text-start c = start-at-read-u32 (read-u32-at-text-start c)
+abbrev start-at-text-start : tie.After-text_start → tie.Start
+start-at-text-start c = c.before.before.before.before.before.before.before.before.before.before
 
-abbrev retire-at-text-start : tie.After-text-start → tie.After-retire
+abbrev retire-at-text-start : tie.After-text_start → tie.After-retire
 retire-at-text-start c = c.before.before.before.before
 
-take-space-requires : tie.Need-take-space-requires
+take-space-requires : tie.Need-take_space-requires
 take-space-requires c κs =
     let S = start-at-text-start c in
     let old = (retire-at-text-start c).retire in
-    let open₀ = S.pre.0 in
+    let open₀ = S.requires.0 in
     let o = S.args.o.0 in
-    let same = head-retire open₀ old.last.0 o S.pre.2 old.ensures in
-    let free = retired-free open₀ old.last.0 o S.pre.2 old.ensures in (
+    let same = head-retire open₀ old.last.0 o S.requires.2 old.ensures in
+    let free = retired-free open₀ old.last.0 o S.requires.2 old.ensures in (
       same-open same open₀,
-      omega (arith, c.text-start.ensures, free, S.pre.3),
-      record { small = S.pre.4.small; room = omega (arith, free, same.size, S.pre.4.room) },
+      omega (arith, c.text_start.ensures, free, S.requires.3),
+      record { small = S.requires.4.small; room = omega (arith, free, same.size, S.requires.4.room) },
     )
 
-abbrev image-at-set-offset-arg : tie.After-set-offset-arg → tie.After-image
+abbrev image-at-set-offset-arg : tie.After-set_offset-arg-1 → tie.After-image-1
 image-at-set-offset-arg c = c.before.before.before.before.before.before.before
 
-abbrev shared-slice-known-at-image : tie.After-image → tie.After-shared-slice-known
-shared-slice-known-at-image c = c.before.before.before.before.before.before
+abbrev shared-slice-known-at-image : tie.After-image-1 → tie.After-shared_slice_known-1
+shared-slice-known-at-image c = c.before.before.before.before.before
 
-abbrev start-at-image : tie.After-image → tie.Start
-start-at-image c = (shared-slice-known-at-image c).before.before
+abbrev start-at-image : tie.After-image-1 → tie.Start
+start-at-image c = c.before.before.before.before.before.before.before
 
-abbrev start-at-set-offset-arg : tie.After-set-offset-arg → tie.Start
-start-at-set-offset-arg c = start-at-image (image-at-set-offset-arg c)
+abbrev start-at-set-offset-arg : tie.After-set_offset-arg-1 → tie.Start
+start-at-set-offset-arg c = c.before.before.before.before.before.before.before.before.before.before.before.before.before.before
 
-abbrev retire-at-set-offset-arg : tie.After-set-offset-arg → tie.After-retire
-retire-at-set-offset-arg c = (image-at-set-offset-arg c).before
+abbrev retire-at-set-offset-arg : tie.After-set_offset-arg-1 → tie.After-retire
+retire-at-set-offset-arg c = c.before.before.before.before.before.before.before.before
 
-abbrev text-start-at-set-offset-arg : tie.After-set-offset-arg → tie.After-text-start
+abbrev text-start-at-set-offset-arg : tie.After-set_offset-arg-1 → tie.After-text_start
 text-start-at-set-offset-arg c = c.before.before.before.before
 
-abbrev new-at-set-offset-arg : tie.After-set-offset-arg → tie.After-new
-new-at-set-offset-arg c = (image-at-set-offset-arg c).before.before.before
+abbrev new-at-set-offset-arg : tie.After-set_offset-arg-1 → tie.After-new-free
+new-at-set-offset-arg c = c.before.before.before.before.before.before.before.before.before.before
 
-set-offset-requires : tie.Need-set-offset-requires
+set-offset-requires : tie.Need-set_offset-requires
 set-offset-requires c κs =
     let S = start-at-set-offset-arg c in
     let old = (retire-at-set-offset-arg c).retire in
-    let start = (text-start-at-set-offset-arg c).text-start in
-    let space = c.before.before.before.take-space in
+    let start = (text-start-at-set-offset-arg c).text_start in
+    let space = c.take_space in
     let x = new-at-set-offset-arg c in
-    let open₀ = S.pre.0 in
+    let open₀ = S.requires.0 in
     let f = opened-facts _ open₀.accepted in
     let same =
-    head-relocated open₀ old.last.0 S.args.o.0 S.pre.2 old.ensures
+    head-relocated open₀ old.last.0 S.args.o.0 S.requires.2 old.ensures
     space.new.0 S.args.bytes.now start.result.0 S.args.before start.ensures
-    S.pre.3 S.pre.4 space.ensures in (
+    S.requires.3 S.requires.4 space.ensures in (
       placed-opened space.new.0 S.args.shape (same-open same open₀),
-      S.pre.1,
-      omega (arith, x.new.ensures, x.before.read_u32.ensures, f.free-high, f.size-high),
+      S.requires.1,
+      omega (arith, x.new-free.ensures, x.read_u32.ensures, f.free-high, f.size-high),
     )
 
-same_length : tie.Need-same-length
+same_length : tie.Need-shape_of-image
 same_length c = search rules
 
-abbrev text-start-at-slice-known4 : tie.After-slice-known4 → tie.After-text-start
+abbrev text-start-at-slice-known4 : tie.After-slice_known-4-1 → tie.After-text_start
 text-start-at-slice-known4 c = c.before.before.before.before.before.before.before
 
-abbrev start-at-slice-known4 : tie.After-slice-known4 → tie.Start
-start-at-slice-known4 c = start-at-text-start (text-start-at-slice-known4 c)
+abbrev start-at-slice-known4 : tie.After-slice_known-4-1 → tie.Start
+start-at-slice-known4 c = c.before.before.before.before.before.before.before.before.before.before.before.before.before.before.before.before.before
 
-abbrev retire-at-slice-known4 : tie.After-slice-known4 → tie.After-retire
-retire-at-slice-known4 c = retire-at-text-start (text-start-at-slice-known4 c)
+abbrev retire-at-slice-known4 : tie.After-slice_known-4-1 → tie.After-retire
+retire-at-slice-known4 c = c.before.before.before.before.before.before.before.before.before.before.before
 
-abbrev take-space-at-slice-known4 : tie.After-slice-known4 → tie.After-take-space
+abbrev take-space-at-slice-known4 : tie.After-slice_known-4-1 → tie.After-take_space
 take-space-at-slice-known4 c = c.before.before.before.before.before.before
 
-abbrev new-at-text-start : tie.After-text-start → tie.After-new
+abbrev new-at-text-start : tie.After-text_start → tie.After-new-free
 new-at-text-start c = c.before.before.before.before.before.before
 
-abbrev new-at-slice-known4 : tie.After-slice-known4 → tie.After-new
-new-at-slice-known4 c = new-at-text-start (text-start-at-slice-known4 c)
+abbrev new-at-slice-known4 : tie.After-slice_known-4-1 → tie.After-new-free
+new-at-slice-known4 c = c.before.before.before.before.before.before.before.before.before.before.before.before.before
 
 returns : tie.Need-returns
 returns c =
     let S = start-at-slice-known4 c in
     let A = S.args in
     let old = (retire-at-slice-known4 c).retire in
-    let start = (text-start-at-slice-known4 c).text-start in
-    let space = (take-space-at-slice-known4 c).take-space in
+    let start = (text-start-at-slice-known4 c).text_start in
+    let space = (take-space-at-slice-known4 c).take_space in
     let x = new-at-slice-known4 c in
-    let entry = c.before.before.set-offset in
-    relocated-steps S.pre.0 old.last.0 A.o.0 S.pre.2 old.ensures space.last.0 A.bytes.now
-    start.result.0 A.before start.ensures S.pre.3 S.pre.4 space.ensures
-    entry.new.0 A.slot.0 x.new.result.0 S.pre.1 (x.new.ensures ∙ x.before.read_u32.ensures)
+    let entry = c.set_offset in
+    relocated-steps S.requires.0 old.last.0 A.o.0 S.requires.2 old.ensures space.last.0 A.bytes.now
+    start.result.0 A.before start.ensures S.requires.3 S.requires.4 space.ensures
+    entry.new.0 A.slot.0 x.new-free.result.0 S.requires.1 (x.new-free.ensures ∙ x.read_u32.ensures)
     entry.ensures
 
-pub relocate-spec : {M : Type 1} → statement M
-relocate-spec =
+pub relocate_spec : {M : Type 1} → statement M
+relocate_spec =
     tie.close
     (tie.spec
     read-u32-requires

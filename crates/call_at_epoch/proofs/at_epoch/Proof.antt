@@ -14,62 +14,62 @@ use Rattle.law_epoch.proofs.Answers.{at_part, at-shown, at-inside, at_length}
 use Rattle.call_at_epoch.proofs.at_epoch.Statement.{statement}
 use Rattle.call_at_epoch.proofs.at_epoch.Tie as tie
 
-locate-at-requires : tie.Need-locate-at-requires
+locate-at-requires : tie.Need-locate_at-dated-requires
 locate-at-requires c κs = search rules
 
-at-requires : tie.Need-at-requires
+at-requires : tie.Need-at-start-requires
 at-requires c κs = search rules
 
 -- the part ends in the image
-ends : (c : tie.After-at)
-    → c.at.result + c.before.before.locate-at.result.located.length
-    ≤ length c.before.before.before.before.before.args.image.now
+ends : (c : tie.After-at-start)
+    → c.at-start.result + c.locate_at-dated.result.located.length
+    ≤ length c.args.image.now
 ends c =
-    let L = c.before.before in
-    let A = L.before.before.before.args in
+    let L = c in
+    let A = L.args in
     omega (
       arith,
       at-inside A.image.now A.name.now A.t,
-      c.at.ensures,
-      L.locate-at.ensures.start,
-      L.locate-at.ensures.length,
+      c.at-start.ensures,
+      L.locate_at-dated.ensures.start,
+      L.locate_at-dated.ensures.length,
     )
 
-add-end : tie.Need-overflow-add-end
+add-end : tie.Need-overflow_add-end
 add-end c = omega (arith, ends c.before)
 
-sub-result : tie.Need-overflow-sub-result
+sub-result : tie.Need-slice_bounds-result-count
 sub-result c = search rules
 
-part-result-start : tie.Need-slice-bounds-result-start
+part-result-start : tie.Need-slice_bounds-result-start
 part-result-start c = search rules
 
-part-result-end : tie.Need-slice-bounds-result-end
+part-result-end : tie.Need-slice_bounds-result-end
 part-result-end c = ends c.before
 
 returns : tie.Need-returns
 returns c =
-    let P = c.before.before in
-    let l = P.before.before.locate-at in
-    let A = P.before.before.before.before.before.args in
+    let P = c in
+    let l = P.locate_at-dated in
+    let A = P.args in
     let is : _ ≡ part A.image.now (at_epoch A.image.now A.name.now A.t).start
     (at_epoch A.image.now A.name.now A.t).length =
-    part-lent A.image.now P.at.result l.result.located.length
-    ∙ ap₂ (part A.image.now) (P.at.ensures ∙ l.ensures.start) l.ensures.length in
+    part-lent A.image.now P.at-start.result l.result.located.length
+    ∙ ap₂ (part A.image.now) (P.at-start.ensures ∙ l.ensures.start) l.ensures.length in
     let text = is ∙ at_part A.image.now A.name.now A.t in (
       l.ensures.number,
       (
         l.ensures.epoch,
         (
-          ap (λ (n : ℕ). not (eqb n 0)) (P.at.ensures ∙ l.ensures.start)
+          ap (λ (n : ℕ). not (eqb n 0)) (P.at-start.ensures ∙ l.ensures.start)
               ∙ at-shown A.image.now A.name.now A.t,
           (text, ap length text ∙ at_length A.image.now A.name.now A.t),
         ),
       ),
     )
 
-pub at-epoch-spec : {M : Type 1} → statement M
-at-epoch-spec =
+pub at_epoch_spec : {M : Type 1} → statement M
+at_epoch_spec =
     tie.close
     (tie.spec
     locate-at-requires

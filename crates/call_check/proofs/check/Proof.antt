@@ -9,31 +9,36 @@ use Rattle.check_entries.proofs.Turns.{check-closed, check-open}
 use Rattle.call_check.proofs.check.Statement.{statement}
 use Rattle.call_check.proofs.check.Tie as tie
 
-open-number-requires : tie.Need-open-number-requires
+open-number-requires : tie.Need-open_number-number-requires
 open-number-requires c κs = search rules
 
-returns : tie.Need-returns
+returns : tie.Need-returns-then-number-ne0
 unfolding verdict_in
 returns c =
-    let O = c.before.open-number in
-    check-closed c.before.before.before.args.image.now O.result O.ensures c.if1.true
+    let O = c.open_number-number in
+    check-closed c.args.image.now O.result O.ensures c.if-number-ne0.true
 
 -- behind the questions
-opened : (c : tie.Else1) → open_number c.before.before.before.args.image.now ≡ 0
-opened c = sym c.before.open-number.ensures ∙ c.if1.false
+opened : (c : tie.Else-number-ne0) → open_number c.args.image.now ≡ 0
+opened c = sym c.open_number-number.ensures ∙ c.if-number-ne0.false
 
-read-shape-requires : tie.Need-read-shape-requires
+read-shape-requires : tie.Need-read_shape-requires
 read-shape-requires c κs = opened c
 
-check-table-requires : tie.Need-check-table-requires
-check-table-requires c κs = record { accepted = opened c.before; shape = c.read-shape.ensures }
+check-table-requires : tie.Need-check_table-requires
+check-table-requires c κs = record { accepted = opened c.before; shape = c.read_shape.ensures }
 
-returns-2 : tie.Need-returns-2
+returns-2 : tie.Need-returns
 returns-2 c =
     let E = c.before.before in
-    c.check-table.ensures ∙ check-open E.before.before.before.args.image.now (opened E)
+    c.check_table.ensures ∙ check-open E.args.image.now (opened E)
 
-pub check-spec : {M : Type 1} → statement M
-check-spec =
+pub check_spec : {M : Type 1} → statement M
+check_spec =
     tie.close
-    (tie.spec open-number-requires returns read-shape-requires check-table-requires returns-2)
+    (tie.spec
+    open-number-requires
+    returns
+    read-shape-requires
+    check-table-requires
+    returns-2)

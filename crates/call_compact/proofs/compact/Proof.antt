@@ -10,89 +10,89 @@ use Rattle.call_compact.proofs.Told.{told-refused, told-sound, told-slot, told-c
 use Rattle.call_compact.proofs.compact.Statement.{statement}
 use Rattle.call_compact.proofs.compact.Tie as tie
 
-check-requires : tie.Need-check-requires
+check-requires : tie.Need-check-found-requires
 check-requires c κs = search rules
 
-enum-known-found : tie.Need-enum-known-found
+enum-known-found : tie.Need-enum_known-found
 enum-known-found c = search rules
 
-enum_told : tie.Need-enum-told
+enum_told : tie.Need-enum_told-1
 enum_told c = search rules
 
-read-shape-requires : tie.Need-read-shape-requires
+read-shape-requires : tie.Need-read_shape-requires
 unfolding verdict_in
 read-shape-requires c κs =
-    let T = c.before.before in
-    let F = T.before.before in
-    let img = F.before.before.before.args.image.now in
-    let ok = sym F.check.ensures ∙ ap verdict_in T.enum_told.given.1 in
+    let T = c in
+    let F = c in
+    let img = F.args.image.now in
+    let ok = sym F.check-found.ensures ∙ ap verdict_in T.enum_told-1.given.1 in
     check-open img ok
 
 pack-requires : tie.Need-pack-requires
 unfolding verdict_in
 pack-requires c κs =
-    let T = c.before.before.before in
-    let F = T.before.before in
-    let K = F.before.before in
-    let img = K.before.args.image.now in
-    let ok = sym F.check.ensures ∙ ap verdict_in T.enum_told.given.1 in
+    let T = c in
+    let F = c in
+    let K = c in
+    let img = K.args.image.now in
+    let ok = sym F.check-found.ensures ∙ ap verdict_in T.enum_told-1.given.1 in
     record {
-      opened = record { accepted = check-open img ok; shape = c.read-shape.ensures };
-      bytes = λ i. omega (arith, K.slice-known.given i);
+      opened = record { accepted = check-open img ok; shape = c.read_shape.ensures };
+      bytes = λ i. omega (arith, K.slice_known-1.given i);
       checked = ok;
     }
 
-enum-told-2 : tie.Need-enum-told-2
+enum-told-2 : tie.Need-enum_told-in-SlotFails
 enum-told-2 c = search rules
 
-enum-told-3 : tie.Need-enum-told-3
+enum-told-3 : tie.Need-enum_told-in-CountFails
 enum-told-3 c = search rules
 
-same_length : tie.Need-same-length
+same_length : tie.Need-shape_of-image-in-Refused
 same_length c = search rules
 
-returns : tie.Need-returns
+returns : tie.Need-returns-in-Refused
 unfolding verdict_in
 returns c =
-    let F = c.before.before.before in
-    told-refused F.before.before.before.args.image.now _
-    (sym (ap verdict_in c.before.found.given.1) ∙ F.check.ensures)
+    let F = c in
+    told-refused F.args.image.now _
+    (sym (ap verdict_in c.found-1.given.1) ∙ F.check-found.ensures)
 
-same-length-2 : tie.Need-same-length-2
+same-length-2 : tie.Need-shape_of-image-in-Sound
 same-length-2 c = search rules
 
-returns-2 : tie.Need-returns-2
+returns-2 : tie.Need-returns-in-Sound
 unfolding verdict_in
 returns-2 c =
-    let P = c.before.before in
-    let T = P.before.before.before.before in
-    let F = T.before.before in
-    let img = F.before.before.before.args.image.now in
-    let ok = sym F.check.ensures ∙ ap verdict_in T.enum_told.given.1 in
+    let P = c in
+    let T = c in
+    let F = c in
+    let img = F.args.image.now in
+    let ok = sym F.check-found.ensures ∙ ap verdict_in T.enum_told-1.given.1 in
     ((told-sound img ok).0, P.pack.ensures ∙ (told-sound img ok).1)
 
-same-length-3 : tie.Need-same-length-3
+same-length-3 : tie.Need-shape_of-image-in-SlotFails
 same-length-3 c = search rules
 
-returns-3 : tie.Need-returns-3
+returns-3 : tie.Need-returns-in-SlotFails
 unfolding verdict_in
 returns-3 c =
-    let F = c.before.before in
-    told-slot F.before.before.before.args.image.now _
-    (sym (ap verdict_in c.enum-told2.given.1) ∙ F.check.ensures)
+    let F = c in
+    told-slot F.args.image.now _
+    (sym (ap verdict_in c.enum_told-in-SlotFails-1.given.1) ∙ F.check-found.ensures)
 
-same-length-4 : tie.Need-same-length-4
+same-length-4 : tie.Need-shape_of-image-in-CountFails
 same-length-4 c = search rules
 
-returns-4 : tie.Need-returns-4
+returns-4 : tie.Need-returns-in-CountFails
 unfolding verdict_in
 returns-4 c =
-    let F = c.before.before in
-    told-count F.before.before.before.args.image.now
-    (sym (ap verdict_in c.enum-told3.given.1) ∙ F.check.ensures)
+    let F = c in
+    told-count F.args.image.now
+    (sym (ap verdict_in c.enum_told-in-CountFails-1.given.1) ∙ F.check-found.ensures)
 
-pub compact-spec : {M : Type 1} → statement M
-compact-spec =
+pub compact_spec : {M : Type 1} → statement M
+compact_spec =
     tie.close
     (tie.spec
     check-requires

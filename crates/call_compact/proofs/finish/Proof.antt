@@ -10,55 +10,55 @@ use Rattle.compact_stages.proofs.Ends.{finish-same, finish-lower}
 use Rattle.call_compact.proofs.finish.Statement.{statement}
 use Rattle.call_compact.proofs.finish.Tie as tie
 
-zero-from-requires : tie.Need-zero-from-requires
+zero-from-requires : tie.Need-zero_from-requires
 zero-from-requires c κs = search rules
 
-read-u32-requires : tie.Need-read-u32-requires
+read-u32-requires : tie.Need-read_u32-requires
 read-u32-requires c κs =
-    let Z = c.before.before.before in
-    let S = Z.before.before.before in
-    omega (arith, Z.zero-from.auto.0, (opened-facts S.args.image.now S.requires.0.accepted).size_low)
+    let Z = c in
+    let S = c in
+    omega (arith, Z.zero_from.auto.0, (opened-facts S.args.image.now S.requires.0.accepted).size_low)
 
-cast-if1 : tie.Need-overflow-cast-if1
+cast-if1 : tie.Need-overflow_cast-read_u32
 cast-if1 c = search rules
 
-same_length : tie.Need-same-length
+same_length : tie.Need-shape_of-image-then-read_u32-end
 same_length c = search rules
 
-returns : tie.Need-returns
+returns : tie.Need-returns-then-read_u32-end
 returns c =
-    let Z = c.before.before.before.before.before in
-    let A = Z.before.before.before.args in
-    finish-same A.image.now Z.zero-from.new.0 A.end c.before.read_u32.result Z.zero-from.ensures
-    c.before.read_u32.ensures c.if1.true
+    let Z = c in
+    let A = Z.args in
+    finish-same A.image.now Z.zero_from.new.0 A.end c.read_u32.result Z.zero_from.ensures
+    c.read_u32.ensures c.if-read_u32-end.true
 
 new-requires : tie.Need-new-requires
 new-requires c κs = search rules
 
-set-free-requires : tie.Need-set-free-requires
+set-free-requires : tie.Need-set_free-requires
 set-free-requires c κs =
-    let Z = c.before.before.before.before.before.before.before in
-    let S = Z.before.before.before in
+    let Z = c in
+    let S = c in
     let o = opened-facts S.args.image.now S.requires.0.accepted in (
-      omega (arith, Z.zero-from.auto.0, o.size_low),
+      omega (arith, Z.zero_from.auto.0, o.size_low),
       omega (arith, c.new.ensures, shape-area S.requires.0, S.requires.1),
       omega (arith, c.new.ensures, S.requires.2, o.size-high),
     )
 
-same-length-2 : tie.Need-same-length-2
+same-length-2 : tie.Need-shape_of-image
 same-length-2 c = search rules
 
-returns-2 : tie.Need-returns-2
+returns-2 : tie.Need-returns
 returns-2 c =
-    let P = c.before.before in
-    let N = P.before in
-    let E = N.before.before in
-    let Z = E.before.before.before.before.before in
-    let S = Z.before.before.before in
+    let P = c in
+    let N = c in
+    let E = c in
+    let Z = c in
+    let S = c in
     let A = S.args in
-    let x = Z.zero-from.new.0 in
-    finish-lower A.image.now x A.end E.before.read_u32.result Z.zero-from.ensures
-    E.before.read_u32.ensures E.if1.false P.set_free.new.0
+    let x = Z.zero_from.new.0 in
+    finish-lower A.image.now x A.end E.read_u32.result Z.zero_from.ensures
+    E.read_u32.ensures E.if-read_u32-end.false P.set_free.new.0
     (P.set_free.ensures ∙ ap₂ (λ (d n : ℕ). set_free d x n) (shape-area S.requires.0) N.new.ensures)
 
 pub finish_spec : {M : Type 1} → statement M

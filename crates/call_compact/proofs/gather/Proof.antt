@@ -14,86 +14,86 @@ use Rattle.compact_stages.proofs.Tight.{bytes_fit, tight-stage}
 use Rattle.call_compact.proofs.gather.Statement.{statement}
 use Rattle.call_compact.proofs.gather.Tie as tie
 
-forget-dead-requires : tie.Need-forget-dead-requires
+forget-dead-requires : tie.Need-forget_dead-bytes-requires
 forget-dead-requires c κs = search rules
 
-read-u32-requires : tie.Need-read-u32-requires
+read-u32-requires : tie.Need-read_u32-free-requires
 read-u32-requires c κs =
-    let F = c.before.before.before in
-    let S = F.before.before.before in
-    omega (arith, F.forget-dead.auto.0, (opened-facts S.args.image.now S.requires.opened.accepted).size_low)
+    let F = c in
+    let S = c in
+    omega (arith, F.forget_dead-bytes.auto.0, (opened-facts S.args.image.now S.requires.opened.accepted).size_low)
 
-cast-free : tie.Need-overflow-cast-free
+cast-free : tie.Need-overflow_cast-free
 cast-free c = search rules
 
 at-requires : tie.Need-at-requires
 at-requires c κs = search rules
 
-abbrev forgot : tie.After-at → tie.After-forget-dead
-forgot c = c.before.before.before.before.before.before
+abbrev forgot : tie.After-at → tie.After-forget_dead-bytes
+forgot c = c.before.before.before.before.before
 
 abbrev start : tie.After-at → tie.Start
-start c = (forgot c).before.before.before
+start c = c.before.before.before.before.before.before.before.before
 
 -- D and X as they were read
 area-is : (c : tie.After-at) → c.at.result ≡ (layout_of (start c).args.image.now).D
 area-is c = c.at.ensures ∙ shape-area (start c).requires.opened
 
-free-is : (c : tie.After-at) → c.before.before.read_u32.result ≡ field (start c).args.image.now free_field
+free-is : (c : tie.After-at) → c.read_u32-free.result ≡ field (start c).args.image.now free_field
 free-is c =
-    let F = (forgot c).forget-dead in
-    c.before.before.read_u32.ensures
+    let F = (forgot c).forget_dead-bytes in
+    c.read_u32-free.ensures
     ∙ front-field (start c).args.image.now F.last.0 F.ensures.stage.size F.ensures.stage.front
     free_field (omega arith)
 
-add-if1 : tie.Need-overflow-add-if1
+add-if1 : tie.Need-overflow_add-at
 add-if1 c =
-    let F = (forgot c).forget-dead in
+    let F = (forgot c).forget_dead-bytes in
     let S = start c in
     let img = S.args.image.now in
-    let o = opened-facts img S.pre.opened.accepted in
+    let o = opened-facts img S.requires.opened.accepted in
     omega (
       arith,
       area-is c,
-      bytes_fit img F.last.0 S.args.shape F.result S.pre F.ensures,
+      bytes_fit img F.last.0 S.args.shape F.result S.requires F.ensures,
       o.free-high,
       o.size-high,
     )
 
-same_length : tie.Need-same-length
+same_length : tie.Need-shape_of-image-then-at-bytes
 same_length c = search rules
 
-returns : tie.Need-returns
+returns : tie.Need-returns-then-at-bytes
 returns c =
     let T = c.before in
-    let F = (forgot T).forget-dead in
+    let F = (forgot T).forget_dead-bytes in
     let S = start T in
     let img = S.args.image.now in
     subst (λ (n : ℕ). Stage (layout_of img) img F.last.0 (field img free_field) n) (sym (free-is T))
-    (tight-stage img F.last.0 S.args.shape F.result S.pre F.ensures
-    (ap (λ (n : ℕ). n + F.result) (sym (area-is T)) ∙ c.if1.true ∙ free-is T))
+    (tight-stage img F.last.0 S.args.shape F.result S.requires F.ensures
+    (ap (λ (n : ℕ). n + F.result) (sym (area-is T)) ∙ c.if-at-bytes.true ∙ free-is T))
 
 -- the first stage, from which all are moved
 begun : (c : tie.After-at)
-    → Begun (start c).args.image.now (forgot c).forget-dead.new.0 (start c).args.shape
-begun c = record { sound = (start c).requires; low = omega arith; stage = (forgot c).forget-dead.ensures.stage }
+    → Begun (start c).args.image.now (forgot c).forget_dead-bytes.new.0 (start c).args.shape
+begun c = record { sound = (start c).requires; low = omega arith; stage = (forgot c).forget_dead-bytes.ensures.stage }
 
-move-all-requires : tie.Need-move-all-requires
+move-all-requires : tie.Need-move_all-requires
 move-all-requires c κs =
     let T = c.before.before in
     ((start T).args.image.now, begun T)
 
-same-length-2 : tie.Need-same-length-2
+same-length-2 : tie.Need-shape_of-image
 same-length-2 c = search rules
 
-returns-2 : tie.Need-returns-2
+returns-2 : tie.Need-returns
 returns-2 c =
-    let P = c.before.before in
-    let T = P.before.before.before in
+    let P = c in
+    let T = c.before.before.before.before.before in
     P.move_all.ensures (start T).args.image.now (begun T)
 
-pub gather-spec : {M : Type 1} → statement M
-gather-spec =
+pub gather_spec : {M : Type 1} → statement M
+gather_spec =
     tie.close
     (tie.spec
     forget-dead-requires

@@ -5,27 +5,33 @@ use Rattle.compact_stages.proofs.Ends.{stage-end, stage-place}
 use Rattle.call_compact.proofs.pack.Statement.{statement}
 use Rattle.call_compact.proofs.pack.Tie as tie
 
-gather-requires : tie.Need-gather-requires
-gather-requires c κs = c.before.before.requires
+gather-requires : tie.Need-gather-end-requires
+gather-requires c κs = c.requires
 
 finish-requires : tie.Need-finish-requires
 finish-requires c κs =
-    let G = c.before.before.before in
-    let S = G.before.before.before in
-    stage-place S.args.image.now G.gather.new.0 S.args.shape G.gather.result S.requires
-    G.gather.ensures
+    let G = c in
+    let S = c in
+    stage-place S.args.image.now G.gather-end.new.0 S.args.shape G.gather-end.result S.requires
+    G.gather-end.ensures
 
-same_length : tie.Need-same-length
+same_length : tie.Need-shape_of-image
 same_length c = search rules
 
 returns : tie.Need-returns
 returns c =
-    let P = c.before.before in
-    let G = P.before.before.before.before in
-    let S = G.before.before.before in
+    let P = c in
+    let G = c in
+    let S = c in
     P.finish.ensures
-    ∙ stage-end S.args.image.now G.gather.new.0 S.args.shape G.gather.result S.requires
-    G.gather.ensures
+    ∙ stage-end S.args.image.now G.gather-end.new.0 S.args.shape G.gather-end.result S.requires
+    G.gather-end.ensures
 
-pub pack-spec : {M : Type 1} → statement M
-pack-spec = tie.close (tie.spec gather-requires finish-requires same_length returns)
+pub pack_spec : {M : Type 1} → statement M
+pack_spec =
+    tie.close
+    (tie.spec
+    gather-requires
+    finish-requires
+    same_length
+    returns)

@@ -31,7 +31,7 @@ same_area : (img : Bytes) → (other_layout img).D ≡ (layout_of img).D
 unfolding other_layout recast
 same_area img = refl
 
-write-bare-requires : tie.Need-write-bare-requires
+write-bare-requires : tie.Need-write_bare-requires
 unfolding layout_of
 write-bare-requires c κs =
     let S = c.before.before.before in
@@ -39,49 +39,55 @@ write-bare-requires c κs =
     let area = ap (λ (l : Layout). l.D) r.layout ∙ same_area S.args.source.now in
     (S.requires.0.opened, omega (arith, r.opened.free-low, r.opened.free-high, r.size, area))
 
-read-shape-requires : tie.Need-read-shape-requires
+read-shape-requires : tie.Need-read_shape-to-requires
 read-shape-requires c κs =
-    let S = c.before.before.before.before.before.before.before in
-    ap open_number c.before.before.before.write-bare.ensures
+    let S = c.before.before.before.before.before.before in
+    ap open_number c.write_bare.ensures
     ∙ facts-opened _ (first S).opened
 
-carry-all-requires : tie.Need-carry-all-requires
+carry-all-requires : tie.Need-carry_all-requires
 carry-all-requires c κs =
-    let R = c.before in
-    let W = R.before.before.before.before in
-    let S = W.before.before.before.before in
+    let R = c in
+    let W = c in
+    let S = c.before.before.before.before.before.before.before.before in
     let img = S.args.source.now in
-    let t = W.write-bare.new.1.0 in
-    let size : length t ≡ length S.args.target.now = W.write-bare.auto.1.0 in
+    let t = W.write_bare.new.1.0 in
+    let size : length t ≡ length S.args.target.now = W.write_bare.auto.1.0 in
     record {
       source = S.requires.0.opened;
       bytes = S.requires.0.bytes;
       accepted = ap (convert_number img) size ∙ S.requires.1;
       target =
           record {
-            accepted = ap open_number W.write-bare.ensures ∙ facts-opened _ (first S).opened;
-            shape = R.read-shape.ensures;
+            accepted = ap open_number W.write_bare.ensures ∙ facts-opened _ (first S).opened;
+            shape = R.read_shape-to.ensures;
           };
       low = omega arith;
       same =
-          W.write-bare.ensures
+          W.write_bare.ensures
           ∙ ap (bare_image img) (sym size)
           ∙ sym (below-start img (length t));
     }
 
-same_length : tie.Need-same-length
+same_length : tie.Need-shape_of-target
 same_length c = search rules
 
 returns : tie.Need-returns
 unfolding carried_below converted
 returns c =
-    let P = c.before.before in
-    let W = P.before.before.before.before.before.before in
-    let S = W.before.before.before.before in
+    let P = c in
+    let W = c in
+    let S = c in
     let img = S.args.source.now in
-    P.carry-all.ensures.same
-    ∙ ap (converted img) (P.carry-all.auto.1.0 ∙ W.write-bare.auto.1.0)
+    P.carry_all.ensures.same
+    ∙ ap (converted img) (P.carry_all.auto.1.0 ∙ W.write_bare.auto.1.0)
 
-pub write-target-spec : {M : Type 1} → statement M
-write-target-spec =
-    tie.close (tie.spec write-bare-requires read-shape-requires carry-all-requires same_length returns)
+pub write_target_spec : {M : Type 1} → statement M
+write_target_spec =
+    tie.close
+    (tie.spec
+    write-bare-requires
+    read-shape-requires
+    carry-all-requires
+    same_length
+    returns)

@@ -9,47 +9,47 @@ use Rattle.call_create.proofs.Numbered.{create-answers, create-kept, create-fres
 use Rattle.call_create.proofs.create.Statement.{statement}
 use Rattle.call_create.proofs.create.Tie as tie
 
-slots-asked-requires : tie.Need-slots-asked-requires
+slots-asked-requires : tie.Need-slots_asked-meant-requires
 slots-asked-requires c κs = search rules
 
-create-number-requires : tie.Need-create-number-requires
+create-number-requires : tie.Need-create_number-number-requires
 create-number-requires c κs = search rules
 
-returns : tie.Need-returns
+returns : tie.Need-returns-then-number-ne0
 returns c =
-    let Q = c.before in
-    let A = Q.before.before.before.args in
+    let Q = c in
+    let A = Q.args in
     let img = A.image.now in
-    let e = Q.create-number.ensures ∙ ap (create_number (length img) A.size) Q.before.slots-asked.ensures in
-    let n = Q.create-number.result in (
+    let e = Q.create_number-number.ensures ∙ ap (create_number (length img) A.size) Q.slots_asked-meant.ensures in
+    let n = Q.create_number-number.result in (
       create-answers img A.size A.slots A.seed n e,
-      create-kept img A.size A.slots A.seed n e c.if1.true,
+      create-kept img A.size A.slots A.seed n e c.if-number-ne0.true,
     )
 
-write-fresh-requires : tie.Need-write-fresh-requires
+write-fresh-requires : tie.Need-write_fresh-requires
 write-fresh-requires c κs = search rules
 
-same_length : tie.Need-same-length
+same_length : tie.Need-shape_of-image
 same_length c = search rules
 
-returns-2 : tie.Need-returns-2
+returns-2 : tie.Need-returns
 returns-2 c =
-    let W = c.before.before in
-    let E = W.before.before in
-    let Q = E.before in
-    let A = Q.before.before.before.args in
+    let W = c in
+    let E = c in
+    let Q = c in
+    let A = Q.args in
     let img = A.image.now in
-    let m = Q.before.slots-asked.ensures in
-    let e = Q.create-number.ensures ∙ ap (create_number (length img) A.size) m in
-    let n = Q.create-number.result in (
-      sym E.if1.false ∙ create-answers img A.size A.slots A.seed n e,
-      W.write-fresh.ensures
+    let m = Q.slots_asked-meant.ensures in
+    let e = Q.create_number-number.ensures ∙ ap (create_number (length img) A.size) m in
+    let n = Q.create_number-number.result in (
+      sym E.if-number-ne0.false ∙ create-answers img A.size A.slots A.seed n e,
+      W.write_fresh.ensures
           ∙ ap (λ (k : ℕ). fresh_image (length img) A.size k A.seed) m
-          ∙ create-fresh img A.size A.slots A.seed n e E.if1.false,
+          ∙ create-fresh img A.size A.slots A.seed n e E.if-number-ne0.false,
     )
 
-pub create-spec : {M : Type 1} → statement M
-create-spec =
+pub create_spec : {M : Type 1} → statement M
+create_spec =
     tie.close
     (tie.spec
     slots-asked-requires

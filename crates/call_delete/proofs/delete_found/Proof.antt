@@ -25,20 +25,20 @@ img c = c.args.image.now
 abbrev Sound? : Bytes → ℕ → Bool → Type 0
 Sound? b i t = message_sound (layout_of b) b (offset_of (layout_of b) (slot (layout_of b) b i)) ≡ t
 
-abbrev match-keys1-at-else1 : tie.Else1 → tie.At-match-keys1
-match-keys1-at-else1 c = c.before.before.before.before.before.before.before
+abbrev match-keys1-at-else1 : tie.Else-not-message_sound → tie.In-Met-1
+match-keys1-at-else1 c = c.before.before.before.before.before
 
-abbrev start-at-else1 : tie.Else1 → tie.Start
-start-at-else1 c = (match-keys1-at-else1 c).before.before
+abbrev start-at-else1 : tie.Else-not-message_sound → tie.Start
+start-at-else1 c = c.before.before.before.before.before.before.before
 
-abbrev found-at-else1 : tie.Else1 → tie.After-found
-found-at-else1 c = c.before.before.before.before.before.before
+abbrev found-at-else1 : tie.Else-not-message_sound → tie.In-Met-2
+found-at-else1 c = c.before.before.before.before
 
-is-sound : (c : tie.Else1) → Sound? (img (start-at-else1 c)) (found-at-else1 c).found.given.0.0.0 true
+is-sound : (c : tie.Else-not-message_sound) → Sound? (img (start-at-else1 c)) (found-at-else1 c).found-1.given.0.0.0 true
 is-sound c =
     ap (message_sound (layout_of (img (start-at-else1 c))) (img (start-at-else1 c)))
-    (sym c.before.before.before.offset-of.ensures)
-    ∙ was-yes c.before.message-sound.ensures c.if1.false
+    (sym c.offset_of-o.ensures)
+    ∙ was-yes c.message_sound.ensures c.if-not-message_sound.false
 
 -- the number and the image, by how the search ended
 refused : (b : Bytes) (p q : Probe) (n : ℕ) → p ≡ q → first_no (removed_asks (layout_of b) b q) ≡ n → (n ≡ 0 → ⊥)
@@ -47,146 +47,146 @@ refused b p q n e h z =
     (sym (ap (λ (x : Probe). first_no (removed_asks (layout_of b) b x)) e ∙ h), sym (settled-no n b _ z))
 
 -- ---- the needs
-enum-known-found : tie.Need-enum-known-found
+enum-known-found : tie.Need-enum_known-found
 enum-known-found c = search rules
 
-returns : tie.Need-returns
+returns : tie.Need-returns-in_default
 returns c =
     let S = c.before.before in
-    refused (img S) _ _ 14 refl (removed-14 _ _ _ (other-met S.args.found c.match.keys2)) (λ z. omega arith)
+    refused (img S) _ _ 14 refl (removed-14 _ _ _ (other-met S.args.found c.in_default.keys2)) (λ z. omega arith)
 
-abbrev start-at-offset-of-arg : tie.After-offset-of-arg → tie.Start
-start-at-offset-of-arg c = c.before.before.before.before.before
+abbrev start-at-offset-of-arg : tie.In-Met → tie.Start
+start-at-offset-of-arg c = c.before.before.before.before
 
-offset-of-requires : tie.Need-offset-of-requires
+offset-of-requires : tie.Need-offset_of-o-requires
 offset-of-requires c κs = (
-  (start-at-offset-of-arg c).pre.0,
-  met-within c.before.before.found.given.1 (start-at-offset-of-arg c).pre.1,
+  (start-at-offset-of-arg c).requires.0,
+  met-within c.found-1.given.1 (start-at-offset-of-arg c).requires.1,
 )
 
-abbrev start-at-message-sound-arg : tie.After-message-sound-arg → tie.Start
-start-at-message-sound-arg c = c.before.before.before.before.before.before.before
+abbrev start-at-message-sound-arg : tie.After-offset_of-o → tie.Start
+start-at-message-sound-arg c = c.before.before.before.before.before
 
-message-sound-requires : tie.Need-message-sound-requires
-message-sound-requires c κs = (start-at-message-sound-arg c).pre.0
+message-sound-requires : tie.Need-message_sound-requires
+message-sound-requires c κs = (start-at-message-sound-arg c).requires.0
 
-same_length : tie.Need-same-length
+same_length : tie.Need-shape_of-image-then-not-message_sound
 same_length c = search rules
 
-abbrev match-keys1-at-then1 : tie.Then1 → tie.At-match-keys1
-match-keys1-at-then1 c = c.before.before.before.before.before.before.before
+abbrev match-keys1-at-then1 : tie.Then-not-message_sound → tie.In-Met-1
+match-keys1-at-then1 c = c.before.before.before.before.before
 
-abbrev start-at-then1 : tie.Then1 → tie.Start
-start-at-then1 c = (match-keys1-at-then1 c).before.before
+abbrev start-at-then1 : tie.Then-not-message_sound → tie.Start
+start-at-then1 c = c.before.before.before.before.before.before.before
 
-abbrev found-at-then1 : tie.Then1 → tie.After-found
-found-at-then1 c = c.before.before.before.before.before.before
+abbrev found-at-then1 : tie.Then-not-message_sound → tie.In-Met-2
+found-at-then1 c = c.before.before.before.before
 
-returns-2 : tie.Need-returns-2
+returns-2 : tie.Need-returns-then-not-message_sound
 returns-2 c =
     let S = (start-at-then1 c) in
-    let m = (found-at-then1 c).found.given in
+    let m = (found-at-then1 c).found-1.given in
     let bad : Sound? (img S) m.0.0.0 false =
-    ap (message_sound (layout_of (img S)) (img S)) (sym c.before.before.before.offset-of.ensures)
-    ∙ was-no c.before.message-sound.ensures c.if1.true in
+    ap (message_sound (layout_of (img S)) (img S)) (sym c.offset_of-o.ensures)
+    ∙ was-no c.message_sound.ensures c.if-not-message_sound.true in
     refused (img S) _ _ 11 (met-is m.1) (removed-11 (layout_of (img S)) (img S) m.0.0.0 (unsound (img S) _ bad))
     (λ z. omega arith)
 
-abbrev found-at-read-u32-arg : tie.After-read-u32-arg → tie.After-found
-found-at-read-u32-arg c = c.before.before.before.before.before.before.before
+abbrev found-at-read-u32-arg : tie.Else-not-message_sound → tie.In-Met-2
+found-at-read-u32-arg c = c.before.before.before.before
 
-abbrev start-at-read-u32-arg : tie.After-read-u32-arg → tie.Start
-start-at-read-u32-arg c = (found-at-read-u32-arg c).before.before.before
+abbrev start-at-read-u32-arg : tie.Else-not-message_sound → tie.Start
+start-at-read-u32-arg c = c.before.before.before.before.before.before.before
 
-read-u32-requires : tie.Need-read-u32-requires
-read-u32-requires c κs = omega (arith, (opened-facts _ (start-at-read-u32-arg c).pre.0.accepted).size_low)
+read-u32-requires : tie.Need-read_u32-points-requires
+read-u32-requires c κs = omega (arith, (opened-facts _ (start-at-read-u32-arg c).requires.0.accepted).size_low)
 
-same-length-2 : tie.Need-same-length-2
+same-length-2 : tie.Need-shape_of-image-then-points-eq0
 same-length-2 c = search rules
 
-abbrev offset-of-arg-at-then2 : tie.Then2 → tie.After-offset-of-arg
-offset-of-arg-at-then2 c = c.before.before.before.before.before.before.before
+abbrev offset-of-arg-at-then2 : tie.Then-points-eq0 → tie.In-Met
+offset-of-arg-at-then2 c = c.before.before.before.before.before
 
-abbrev start-at-then2 : tie.Then2 → tie.Start
-start-at-then2 c = start-at-offset-of-arg (offset-of-arg-at-then2 c)
+abbrev start-at-then2 : tie.Then-points-eq0 → tie.Start
+start-at-then2 c = c.before.before.before.before.before.before.before.before.before
 
-abbrev found-at-then2 : tie.Then2 → tie.After-found
-found-at-then2 c = (offset-of-arg-at-then2 c).before.before
+abbrev found-at-then2 : tie.Then-points-eq0 → tie.In-Met-2
+found-at-then2 c = c.before.before.before.before.before.before
 
-returns-3 : tie.Need-returns-3
+returns-3 : tie.Need-returns-then-points-eq0
 returns-3 c =
     let S = (start-at-then2 c) in
-    let m = (found-at-then2 c).found.given in
+    let m = (found-at-then2 c).found-1.given in
     refused (img S) _ _ 11 (met-is m.1)
     (removed-11 (layout_of (img S)) (img S) m.0.0.0
-    (no-point (img S) _ (is-sound c.before.before.before) (sym c.before.read_u32.ensures ∙ c.if2.true)))
+    (no-point (img S) _ (is-sound c.before.before.before) (sym c.read_u32-points.ensures ∙ c.if-points-eq0.true)))
     (λ z. omega arith)
 
-abbrev offset-of-at-remove-arg : tie.After-remove-arg → tie.After-offset-of
-offset-of-at-remove-arg c = c.before.before.before.before.before.before.before
+abbrev offset-of-at-remove-arg : tie.After-remove-arg-1 → tie.After-offset_of-o
+offset-of-at-remove-arg c = c.before.before.before.before.before
 
-abbrev found-at-remove-arg : tie.After-remove-arg → tie.After-found
-found-at-remove-arg c = (offset-of-at-remove-arg c).before.before.before
+abbrev found-at-remove-arg : tie.After-remove-arg-1 → tie.In-Met-2
+found-at-remove-arg c = c.before.before.before.before.before.before.before
 
-abbrev start-at-offset-of : tie.After-offset-of → tie.Start
-start-at-offset-of c = c.before.before.before.before.before.before
+abbrev start-at-offset-of : tie.After-offset_of-o → tie.Start
+start-at-offset-of c = c.before.before.before.before.before
 
-abbrev start-at-remove-arg : tie.After-remove-arg → tie.Start
-start-at-remove-arg c = start-at-offset-of (offset-of-at-remove-arg c)
+abbrev start-at-remove-arg : tie.After-remove-arg-1 → tie.Start
+start-at-remove-arg c = c.before.before.before.before.before.before.before.before.before.before
 
-abbrev message-sound-at-remove-arg : tie.After-remove-arg → tie.After-message-sound
-message-sound-at-remove-arg c = c.before.before.before.before.before
+abbrev message-sound-at-remove-arg : tie.After-remove-arg-1 → tie.After-message_sound
+message-sound-at-remove-arg c = c.before.before.before.before
 
-abbrev else1-at-remove-arg : tie.After-remove-arg → tie.Else1
-else1-at-remove-arg c = c.before.before.before.before
+abbrev else1-at-remove-arg : tie.After-remove-arg-1 → tie.Else-not-message_sound
+else1-at-remove-arg c = c.before.before.before
 
 remove-requires : tie.Need-remove-requires
 remove-requires c κs =
-    let m = (found-at-remove-arg c).found.given in
-    let at = (offset-of-at-remove-arg c).offset-of.ensures in (
-      (start-at-remove-arg c).pre.0,
-      met-within m.1 (start-at-remove-arg c).pre.1,
+    let m = (found-at-remove-arg c).found-1.given in
+    let at = (offset-of-at-remove-arg c).offset_of-o.ensures in (
+      (start-at-remove-arg c).requires.0,
+      met-within m.1 (start-at-remove-arg c).requires.1,
       at,
-      was-yes (message-sound-at-remove-arg c).message-sound.ensures (else1-at-remove-arg c).if1.left,
-      c.before.before.read_u32.ensures,
-      omega (arith, c.before.if2.false),
+      was-yes (message-sound-at-remove-arg c).message_sound.ensures (else1-at-remove-arg c).if-not-message_sound.left,
+      c.read_u32-points.ensures,
+      omega (arith, c.if-points-eq0.false),
     )
 
-same-length-3 : tie.Need-same-length-3
+same-length-3 : tie.Need-shape_of-image
 same-length-3 c = search rules
 
-abbrev else1-at-slice-known2 : tie.After-slice-known2 → tie.Else1
-else1-at-slice-known2 c = c.before.before.before.before.before.before.before
+abbrev else1-at-slice-known2 : tie.After-slice_known-2-1 → tie.Else-not-message_sound
+else1-at-slice-known2 c = c.before.before.before.before.before.before
 
-abbrev start-at-slice-known2 : tie.After-slice-known2 → tie.Start
-start-at-slice-known2 c = start-at-else1 (else1-at-slice-known2 c)
+abbrev start-at-slice-known2 : tie.After-slice_known-2-1 → tie.Start
+start-at-slice-known2 c = c.before.before.before.before.before.before.before.before.before.before.before.before.before
 
-abbrev found-at-slice-known2 : tie.After-slice-known2 → tie.After-found
-found-at-slice-known2 c = found-at-else1 (else1-at-slice-known2 c)
+abbrev found-at-slice-known2 : tie.After-slice_known-2-1 → tie.In-Met-2
+found-at-slice-known2 c = c.before.before.before.before.before.before.before.before.before.before
 
-abbrev read-u32-at-slice-known2 : tie.After-slice-known2 → tie.After-read-u32
+abbrev read-u32-at-slice-known2 : tie.After-slice_known-2-1 → tie.After-read_u32-points
 read-u32-at-slice-known2 c = c.before.before.before.before.before
 
-abbrev else2-at-slice-known2 : tie.After-slice-known2 → tie.Else2
+abbrev else2-at-slice-known2 : tie.After-slice_known-2-1 → tie.Else-points-eq0
 else2-at-slice-known2 c = c.before.before.before.before
 
-returns-4 : tie.Need-returns-4
+returns-4 : tie.Need-returns
 unfolding deleted
 returns-4 c =
     let S = (start-at-slice-known2 c) in
-    let m = (found-at-slice-known2 c).found.given in
+    let m = (found-at-slice-known2 c).found-1.given in
     let i = m.0.0.0 in
     let g = layout_of (img S) in
-    let p = (read-u32-at-slice-known2 c).read_u32 in
+    let p = (read-u32-at-slice-known2 c).read_u32-points in
     let is = met-is m.1 in (
       sym (ap (λ (x : Probe). first_no (removed_asks g (img S) x)) is
           ∙ removed-0 g (img S) i (is-sound (else1-at-slice-known2 c))
-          (some-point (img S) p.result p.ensures (else2-at-slice-known2 c).if2.left)),
-      c.before.before.remove.ensures ∙ sym (ap (deleted g (img S)) is) ∙ sym (settled-yes 0 (img S) _ refl),
+          (some-point (img S) p.result p.ensures (else2-at-slice-known2 c).if-points-eq0.left)),
+      c.remove.ensures ∙ sym (ap (deleted g (img S)) is) ∙ sym (settled-yes 0 (img S) _ refl),
     )
 
-pub delete-found-spec : {M : Type 1} → statement M
-delete-found-spec =
+pub delete_found_spec : {M : Type 1} → statement M
+delete_found_spec =
     tie.close
     (tie.spec
     enum-known-found

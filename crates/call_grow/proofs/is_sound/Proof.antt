@@ -7,47 +7,47 @@ use Rattle.call_check.specs.declared.Verdict.{Verdict}
 use Rattle.call_grow.proofs.is_sound.Statement.{statement}
 use Rattle.call_grow.proofs.is_sound.Tie as tie
 
-check-requires : tie.Need-check-requires
+check-requires : tie.Need-check-found-requires
 check-requires c κs = search rules
 
-enum_told : tie.Need-enum-told
+enum_told : tie.Need-enum_told-1
 enum_told c = search rules
 
-enum-told-2 : tie.Need-enum-told-2
+enum-told-2 : tie.Need-enum_told-in-Sound
 enum-told-2 c = search rules
 
-enum-told-3 : tie.Need-enum-told-3
+enum-told-3 : tie.Need-enum_told-in-SlotFails
 enum-told-3 c = search rules
 
-enum-told-4 : tie.Need-enum-told-4
+enum-told-4 : tie.Need-enum_told-in-CountFails
 enum-told-4 c = search rules
 
-returns : tie.Need-returns
+returns : tie.Need-returns-in-Refused
 unfolding is_sound verdict_in
 returns c =
-    sym (ap (λ (v : Verdict). is_sound (verdict_in v)) c.enum_told.given.1)
-    ∙ ap is_sound c.before.before.check.ensures
+    sym (ap (λ (v : Verdict). is_sound (verdict_in v)) c.enum_told-1.given.1)
+    ∙ ap is_sound c.check-found.ensures
 
-returns-2 : tie.Need-returns-2
+returns-2 : tie.Need-returns-in-Sound
 unfolding is_sound verdict_in
 returns-2 c =
-    sym (ap (λ (v : Verdict). is_sound (verdict_in v)) c.enum-told2.given.1)
-    ∙ ap is_sound c.before.before.check.ensures
+    sym (ap (λ (v : Verdict). is_sound (verdict_in v)) c.enum_told-in-Sound-1.given.1)
+    ∙ ap is_sound c.check-found.ensures
 
-returns-3 : tie.Need-returns-3
+returns-3 : tie.Need-returns-in-SlotFails
 unfolding is_sound verdict_in
 returns-3 c =
-    sym (ap (λ (v : Verdict). is_sound (verdict_in v)) c.enum-told3.given.1)
-    ∙ ap is_sound c.before.before.check.ensures
+    sym (ap (λ (v : Verdict). is_sound (verdict_in v)) c.enum_told-in-SlotFails-1.given.1)
+    ∙ ap is_sound c.check-found.ensures
 
-returns-4 : tie.Need-returns-4
+returns-4 : tie.Need-returns-in-CountFails
 unfolding is_sound verdict_in
 returns-4 c =
-    sym (ap (λ (v : Verdict). is_sound (verdict_in v)) c.enum-told4.given.1)
-    ∙ ap is_sound c.before.before.check.ensures
+    sym (ap (λ (v : Verdict). is_sound (verdict_in v)) c.enum_told-in-CountFails-1.given.1)
+    ∙ ap is_sound c.check-found.ensures
 
-pub is-sound-spec : {M : Type 1} → statement M
-is-sound-spec =
+pub is_sound_spec : {M : Type 1} → statement M
+is_sound_spec =
     tie.close
     (tie.spec
     check-requires

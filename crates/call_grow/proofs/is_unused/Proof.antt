@@ -16,56 +16,56 @@ use Rattle.call_grow.proofs.Starting.{sound-open, unused-no, unused-is}
 use Rattle.call_grow.proofs.is_unused.Statement.{statement}
 use Rattle.call_grow.proofs.is_unused.Tie as tie
 
-abbrev new-at : tie.Else1 → Bytes
-new-at c = c.before.before.before.args.new.now
+abbrev new-at : tie.Else-not-is_sound → Bytes
+new-at c = c.args.new.now
 
-is-sound : (c : tie.Else1) → is_sound (check (new-at c)) ≡ true
-is-sound c = was-yes c.before.is-sound.ensures c.if1.false
+is-sound : (c : tie.Else-not-is_sound) → is_sound (check (new-at c)) ≡ true
+is-sound c = was-yes c.is_sound.ensures c.if-not-is_sound.false
 
-is_open : (c : tie.Else1) → open_number (new-at c) ≡ 0
+is_open : (c : tie.Else-not-is_sound) → open_number (new-at c) ≡ 0
 is_open c = sound-open (new-at c) (is-sound c)
 
-is-sound-requires : tie.Need-is-sound-requires
+is-sound-requires : tie.Need-is_sound-requires
 is-sound-requires c κs = search rules
 
-returns : tie.Need-returns
+returns : tie.Need-returns-then-not-is_sound
 returns c =
-    unused-no c.before.before.before.args.new.now (was-no c.before.is-sound.ensures c.if1.true)
+    unused-no c.args.new.now (was-no c.is_sound.ensures c.if-not-is_sound.true)
 
-read-shape-requires : tie.Need-read-shape-requires
+read-shape-requires : tie.Need-read_shape-requires
 read-shape-requires c κs = is_open c
 
-read-u32-requires : tie.Need-read-u32-requires
+read-u32-requires : tie.Need-read_u32-requires
 read-u32-requires c κs =
     let E = c.before.before in
     omega (arith, (opened-facts (new-at E) (is_open E)).size_low)
 
-read-u32-requires-2 : tie.Need-read-u32-requires-2
+read-u32-requires-2 : tie.Need-read_u32-requires-2
 read-u32-requires-2 c κs =
     let E = c.before.before.before in
     omega (arith, (opened-facts (new-at E) (is_open E)).size_low)
 
-cast-result : tie.Need-overflow-cast-result
+cast-result : tie.Need-overflow_cast-result
 cast-result c = search rules
 
 at-requires : tie.Need-at-requires
 at-requires c κs = search rules
 
-returns-2 : tie.Need-returns-2
+returns-2 : tie.Need-returns
 returns-2 c =
-    let X = c.before in
-    let C = X.before in
-    let R = C.before.before in
-    let E = R.before in
+    let X = c in
+    let C = c in
+    let R = c in
+    let E = c.before.before.before.before.before in
     let new = new-at E in
-    let area = shape-area (record { accepted = is_open E; shape = R.read-shape.ensures }) in
+    let area = shape-area (record { accepted = is_open E; shape = R.read_shape.ensures }) in
     ap₂ (λ (a b : Bool). a && b)
     (ap (λ (x : ℕ). eqb x 0) C.read_u32.ensures)
-    (ap₂ (λ (x y : ℕ). eqb x y) X.read-u322.ensures (c.at.ensures ∙ area))
+    (ap₂ (λ (x y : ℕ). eqb x y) X.read_u32-2.ensures (c.at.ensures ∙ area))
     ∙ unused-is new (is-sound E)
 
-pub is-unused-spec : {M : Type 1} → statement M
-is-unused-spec =
+pub is_unused_spec : {M : Type 1} → statement M
+is_unused_spec =
     tie.close
     (tie.spec
     is-sound-requires

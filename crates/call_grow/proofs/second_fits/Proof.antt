@@ -21,61 +21,61 @@ use Rattle.call_grow.proofs.second_fits.Statement.{statement}
 use Rattle.call_grow.proofs.second_fits.Tie as tie
 
 -- ---- the stages
-abbrev start : tie.Else1 → tie.Start
+abbrev start : tie.Else-not-is_unused → tie.Start
 start c = c.before.before.before.before
 
-is-unused : (c : tie.Else1) → unused (start c).args.new.now ≡ true
-is-unused c = was-yes c.before.is-unused.ensures c.if1.false
+is-unused : (c : tie.Else-not-is_unused) → unused (start c).args.new.now ≡ true
+is-unused c = was-yes c.is_unused.ensures c.if-not-is_unused.false
 
-new-opens : (c : tie.Else1) → open_number (start c).args.new.now ≡ 0
+new-opens : (c : tie.Else-not-is_unused) → open_number (start c).args.new.now ≡ 0
 new-opens c = sound-open (start c).args.new.now (unused-sound (start c).args.new.now (is-unused c))
 
-abbrev else1-at-else2 : tie.Else2 → tie.Else1
+abbrev else1-at-else2 : tie.Else-not-same_kind → tie.Else-not-is_unused
 else1-at-else2 c = c.before.before
 
-abbrev start-at-else2 : tie.Else2 → tie.Start
-start-at-else2 c = start (else1-at-else2 c)
+abbrev start-at-else2 : tie.Else-not-same_kind → tie.Start
+start-at-else2 c = c.before.before.before.before.before.before
 
-same : (c : tie.Else2) → same_kind (start-at-else2 c).args.old.now (start-at-else2 c).args.new.now ≡ true
-same c = was-yes c.before.same_kind.ensures c.if2.false
+same : (c : tie.Else-not-same_kind) → same_kind (start-at-else2 c).args.old.now (start-at-else2 c).args.new.now ≡ true
+same c = was-yes c.same_kind.ensures c.if-not-same_kind.false
 
-abbrev else2-at-shape2 : tie.After-read-shape2 → tie.Else2
+abbrev else2-at-shape2 : tie.After-read_shape-larger → tie.Else-not-same_kind
 else2-at-shape2 c = c.before.before
 
-abbrev start-at-shape2 : tie.After-read-shape2 → tie.Start
-start-at-shape2 c = start-at-else2 (else2-at-shape2 c)
+abbrev start-at-shape2 : tie.After-read_shape-larger → tie.Start
+start-at-shape2 c = c.before.before.before.before.before.before.before.before
 
-old-open : (c : tie.After-read-shape2) → Open (start-at-shape2 c).args.old.now c.before.read-shape.result
-old-open c = record { accepted = (start-at-shape2 c).requires; shape = c.before.read-shape.ensures }
+old-open : (c : tie.After-read_shape-larger) → Open (start-at-shape2 c).args.old.now c.read_shape-shape.result
+old-open c = record { accepted = (start-at-shape2 c).requires; shape = c.read_shape-shape.ensures }
 
-new-open : (c : tie.After-read-shape2) → Open (start-at-shape2 c).args.new.now c.read-shape2.result
-new-open c = record { accepted = new-opens (else1-at-else2 (else2-at-shape2 c)); shape = c.read-shape2.ensures }
+new-open : (c : tie.After-read_shape-larger) → Open (start-at-shape2 c).args.new.now c.read_shape-larger.result
+new-open c = record { accepted = new-opens (else1-at-else2 (else2-at-shape2 c)); shape = c.read_shape-larger.ensures }
 
 -- ---- the needs
-is-unused-requires : tie.Need-is-unused-requires
+is-unused-requires : tie.Need-is_unused-requires
 is-unused-requires c κs = search rules
 
-returns : tie.Need-returns
+returns : tie.Need-returns-then-not-is_unused
 returns c =
-    let A = c.before.before.before.before.args in
-    unfit-used A.old.now A.new.now (was-no c.before.is-unused.ensures c.if1.true)
+    let A = c.args in
+    unfit-used A.old.now A.new.now (was-no c.is_unused.ensures c.if-not-is_unused.true)
 
-same-kind-requires : tie.Need-same-kind-requires
+same-kind-requires : tie.Need-same_kind-requires
 same-kind-requires c κs = ((start c).requires, new-opens c)
 
-returns-2 : tie.Need-returns-2
+returns-2 : tie.Need-returns-then-not-same_kind
 returns-2 c =
     let E = c.before.before in
     let A = (start E).args in
-    unfit-kind A.old.now A.new.now (is-unused E) (was-no c.before.same_kind.ensures c.if2.true)
+    unfit-kind A.old.now A.new.now (is-unused E) (was-no c.same_kind.ensures c.if-not-same_kind.true)
 
-read-shape-requires : tie.Need-read-shape-requires
+read-shape-requires : tie.Need-read_shape-shape-requires
 read-shape-requires c κs = (start-at-else2 c).requires
 
-read-shape-requires-2 : tie.Need-read-shape-requires-2
+read-shape-requires-2 : tie.Need-read_shape-larger-requires
 read-shape-requires-2 c κs = new-opens (else1-at-else2 c.before)
 
-returns-3 : tie.Need-returns-3
+returns-3 : tie.Need-returns-then-larger-shape
 returns-3 c =
     let P = c.before.before.before in
     let F = else2-at-shape2 P in
@@ -83,24 +83,24 @@ returns-3 c =
     unfit-slots A.old.now A.new.now (is-unused (else1-at-else2 F)) (same F)
     (le-ltb (layout_of A.old.now).N (layout_of A.new.now).N (omega (
       arith,
-      c.if3.true,
-      layout-slots A.old.now P.before.read-shape.result P.before.read-shape.ensures,
-      layout-slots A.new.now P.read-shape2.result P.read-shape2.ensures,
+      c.if-larger-shape.true,
+      layout-slots A.old.now P.read_shape-shape.result P.read_shape-shape.ensures,
+      layout-slots A.new.now P.read_shape-larger.result P.read_shape-larger.ensures,
     )))
 
 at-requires : tie.Need-at-requires
 at-requires c κs = search rules
 
-abbrev else3-at-at : tie.After-at → tie.Else3
+abbrev else3-at-at : tie.After-at → tie.Else-larger-shape
 else3-at-at c = c.before.before
 
-abbrev shape2-at-at : tie.After-at → tie.After-read-shape2
-shape2-at-at c = (else3-at-at c).before.before.before
+abbrev shape2-at-at : tie.After-at → tie.After-read_shape-larger
+shape2-at-at c = c.before.before.before.before.before
 
 area-is : (c : tie.After-at) → c.at.result ≡ (layout_of (start-at-shape2 (shape2-at-at c)).args.new.now).D
 area-is c = c.at.ensures ∙ shape-area (new-open (shape2-at-at c))
 
-sub-room : tie.Need-overflow-sub-room
+sub-room : tie.Need-overflow_sub-room
 sub-room c =
     let P = shape2-at-at c in
     omega (arith, c.at.ensures, (header (start-at-shape2 P).args.new.now _ (new-open P)).area)
@@ -108,35 +108,35 @@ sub-room c =
 new-requires : tie.Need-new-requires
 new-requires c κs = search rules
 
-active-space-requires : tie.Need-active-space-requires
+active-space-requires : tie.Need-active_space-requires
 active-space-requires c κs =
     let P = shape2-at-at c.before in
     let old = (start-at-shape2 P).args.old.now in
     (old-open P, ap (message_sound (layout_of old) old) c.new.ensures ∙ none-sound old)
 
-returns-4 : tie.Need-returns-4
+returns-4 : tie.Need-returns
 returns-4 c =
-    let N = c.before in
-    let at = N.before in
+    let N = c in
+    let at = c.before.before in
     let P = shape2-at-at at in
     let F = else2-at-shape2 P in
     let A = (start-at-else2 F).args in
     let old = A.old.now in
     let new = A.new.now in
     ap₂ (λ (x y : ℕ). leb x (length new - y))
-    (c.active-space.ensures ∙ ap (λ (o : ℕ). active_space (retire old o)) N.new.ensures
+    (c.active_space.ensures ∙ ap (λ (o : ℕ). active_space (retire old o)) N.new.ensures
     ∙ ap active_space (none_named old))
     (area-is at)
     ∙ fit_is old new (is-unused (else1-at-else2 F)) (same F)
     (lt-ltb (layout_of old).N (layout_of new).N (omega (
       arith,
-      (else3-at-at at).if3.false,
-      layout-slots old P.before.read-shape.result P.before.read-shape.ensures,
-      layout-slots new P.read-shape2.result P.read-shape2.ensures,
+      (else3-at-at at).if-larger-shape.false,
+      layout-slots old P.read_shape-shape.result P.read_shape-shape.ensures,
+      layout-slots new P.read_shape-larger.result P.read_shape-larger.ensures,
     )))
 
-pub second-fits-spec : {M : Type 1} → statement M
-second-fits-spec =
+pub second_fits_spec : {M : Type 1} → statement M
+second_fits_spec =
     tie.close
     (tie.spec
     is-unused-requires

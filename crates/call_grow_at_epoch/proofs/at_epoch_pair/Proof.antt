@@ -19,52 +19,52 @@ use Rattle.call_grow_at_epoch.proofs.at_epoch_pair.Statement.{statement}
 use Rattle.call_grow_at_epoch.proofs.at_epoch_pair.Tie as tie
 
 -- ---- the stages
-abbrev located : tie.After-at → tie.After-locate-pair-at
-located c = c.before.before.before
+abbrev located : tie.After-at-start → tie.After-locate_pair_at-found
+located c = c.before.before.before.before
 
-abbrev start : tie.After-at → tie.Start
-start c = (located c).before.before.before.before
+abbrev start : tie.After-at-start → tie.Start
+start c = c.before.before.before.before.before.before.before.before
 
-abbrev pair : tie.After-at → Pair
+abbrev pair : tie.After-at-start → Pair
 pair c = record { old = (start c).args.old.now; new = (start c).args.new.now }
 
-abbrev name : tie.After-at → Bytes
+abbrev name : tie.After-at-start → Bytes
 name c = (start c).args.name.now
 
-abbrev t : tie.After-at → ℕ
+abbrev t : tie.After-at-start → ℕ
 t c = (start c).args.t
 
-abbrev Holds : tie.After-at → Bytes → Type 0
+abbrev Holds : tie.After-at-start → Bytes → Type 0
 Holds c img = grow_dated_number (pair c) (name c) ≡ 0 → dated_holder (pair c) (name c) (t c) ≡ img
 
 -- the part ends in the image that has the entry
-ends : (c : tie.After-at) (img : Bytes) → Holds c img
-    → c.at.result + (located c).locate-pair-at.result.dated.located.length ≤ length img
+ends : (c : tie.After-at-start) (img : Bytes) → Holds c img
+    → c.at-start.result + (located c).locate_pair_at-found.result.dated.located.length ≤ length img
 ends c img h =
-    let L = (located c).locate-pair-at.ensures.answers in
-    omega (arith, pair-at-inside (pair c) (name c) (t c) img h, c.at.ensures, L.start, L.length)
+    let L = (located c).locate_pair_at-found.ensures.answers in
+    omega (arith, pair-at-inside (pair c) (name c) (t c) img h, c.at-start.ensures, L.start, L.length)
 
 -- which image it is
-named_new : (c : tie.After-at) → (located c).locate-pair-at.result.in_new ≡ true → Holds c (pair c).new
-named_new c y z = holder-new (pair c) (name c) (t c) (sym ((located c).locate-pair-at.ensures.held z) ∙ y)
+named_new : (c : tie.After-at-start) → (located c).locate_pair_at-found.result.in_new ≡ true → Holds c (pair c).new
+named_new c y z = holder-new (pair c) (name c) (t c) (sym ((located c).locate_pair_at-found.ensures.held z) ∙ y)
 
-named-old : (c : tie.After-at) → (located c).locate-pair-at.result.in_new ≡ false → Holds c (pair c).old
-named-old c y z = holder-old (pair c) (name c) (t c) (sym ((located c).locate-pair-at.ensures.held z) ∙ y)
+named-old : (c : tie.After-at-start) → (located c).locate_pair_at-found.result.in_new ≡ false → Holds c (pair c).old
+named-old c y z = holder-old (pair c) (name c) (t c) (sym ((located c).locate_pair_at-found.ensures.held z) ∙ y)
 
 -- the answer, of a part of the image that has the entry
-abbrev Answered : (c : tie.After-at) → Bytes → Type 0
+abbrev Answered : (c : tie.After-at-start) → Bytes → Type 0
 Answered c text =
     let d = grow_at_epoch (pair c) (name c) (t c) in
-    let r = (located c).locate-pair-at.result.dated in
+    let r = (located c).locate_pair_at-found.result.dated in
     (r.located.number ≡ d.number)
     × ((r.epoch ≡ d.epoch)
-    × ((not (eqb c.at.result 0) ≡ is_text d.text) × ((text ≡ bytes_of d.text) × (length text ≡ d.length))))
+    × ((not (eqb c.at-start.result 0) ≡ is_text d.text) × ((text ≡ bytes_of d.text) × (length text ≡ d.length))))
 
-answered : (c : tie.After-at) (img text : Bytes) → Holds c img
-    → text ≡ part img c.at.result (located c).locate-pair-at.result.dated.located.length → Answered c text
+answered : (c : tie.After-at-start) (img text : Bytes) → Holds c img
+    → text ≡ part img c.at-start.result (located c).locate_pair_at-found.result.dated.located.length → Answered c text
 answered c img text h e =
-    let L = (located c).locate-pair-at.ensures.answers in
-    let begins = c.at.ensures ∙ L.start in
+    let L = (located c).locate_pair_at-found.ensures.answers in
+    let begins = c.at-start.ensures ∙ L.start in
     let shown = e ∙ ap₂ (part img) begins L.length ∙ pair-at-part (pair c) (name c) (t c) img h in (
       L.number,
       (
@@ -77,57 +77,57 @@ answered c img text h e =
     )
 
 -- ---- the needs
-locate-pair-at-requires : tie.Need-locate-pair-at-requires
+locate-pair-at-requires : tie.Need-locate_pair_at-found-requires
 locate-pair-at-requires c κs = search rules
 
-at-requires : tie.Need-at-requires
+at-requires : tie.Need-at-start-requires
 at-requires c κs = search rules
 
-add-end : tie.Need-overflow-add-end
+add-end : tie.Need-overflow_add-end
 add-end c =
     let P = c.before in
     by_bool (dated_in_new (pair P) (name P) (t P))
     (λ h. omega (arith, ends P (pair P).new (λ z. holder-new (pair P) (name P) (t P) h)))
     (λ h. omega (arith, ends P (pair P).old (λ z. holder-old (pair P) (name P) (t P) h)))
 
-sub-result : tie.Need-overflow-sub-result
+sub-result : tie.Need-slice_bounds-result-count
 sub-result c = search rules
 
-part-result-start : tie.Need-slice-bounds-result-start
+part-result-start : tie.Need-slice_bounds-result-start
 part-result-start c = search rules
 
-part-result-end : tie.Need-slice-bounds-result-end
+part-result-end : tie.Need-slice_bounds-result-end
 part-result-end c =
     let P = c.before.before in
-    omega (arith, ends P (pair P).new (named_new P c.if1.true))
+    omega (arith, ends P (pair P).new (named_new P c.if-found.true))
 
-returns : tie.Need-returns
+returns : tie.Need-returns-then-found
 returns c =
-    let T = c.before in
-    let P = T.before.before in
-    answered P (pair P).new _ (named_new P T.if1.true)
-    (part-lent (pair P).new P.at.result (located P).locate-pair-at.result.dated.located.length)
+    let T = c in
+    let P = c.before.before.before in
+    answered P (pair P).new _ (named_new P T.if-found.true)
+    (part-lent (pair P).new P.at-start.result (located P).locate_pair_at-found.result.dated.located.length)
 
-sub-result-2 : tie.Need-overflow-sub-result-2
+sub-result-2 : tie.Need-slice_bounds-result-count-2
 sub-result-2 c = search rules
 
-part-result-start-2 : tie.Need-slice-bounds-result-start-2
+part-result-start-2 : tie.Need-slice_bounds-result-start-2
 part-result-start-2 c = search rules
 
-part-result-end-2 : tie.Need-slice-bounds-result-end-2
+part-result-end-2 : tie.Need-slice_bounds-result-end-2
 part-result-end-2 c =
     let P = c.before.before in
-    omega (arith, ends P (pair P).old (named-old P c.if1.false))
+    omega (arith, ends P (pair P).old (named-old P c.if-found.false))
 
-returns-2 : tie.Need-returns-2
+returns-2 : tie.Need-returns
 returns-2 c =
-    let T = c.before in
-    let P = T.before.before in
-    answered P (pair P).old _ (named-old P T.if1.false)
-    (part-lent (pair P).old P.at.result (located P).locate-pair-at.result.dated.located.length)
+    let T = c in
+    let P = c.before.before.before in
+    answered P (pair P).old _ (named-old P T.if-found.false)
+    (part-lent (pair P).old P.at-start.result (located P).locate_pair_at-found.result.dated.located.length)
 
-pub at-epoch-pair-spec : {M : Type 1} → statement M
-at-epoch-pair-spec =
+pub at_epoch_pair_spec : {M : Type 1} → statement M
+at_epoch_pair_spec =
     tie.close
     (tie.spec
     locate-pair-at-requires

@@ -26,31 +26,38 @@ module _ (s s' : Chosen) where
   unfolding later_of
   both-met h k = sym (rw (h, k) refl)
 
-is-met-requires : tie.Need-is-met-requires
+is-met-requires : tie.Need-is_met-requires
 is-met-requires c κs = search rules
 
-returns : tie.Need-returns
+returns : tie.Need-returns-then-not-is_met
 returns c =
-    let A = c.before.before.args in
-    none-later A.first A.second (was-no c.before.is-met.ensures c.if1.true)
+    let A = c.args in
+    none-later A.first A.second (was-no c.is_met.ensures c.if-not-is_met.true)
 
-is-met-requires-2 : tie.Need-is-met-requires-2
+is-met-requires-2 : tie.Need-is_met-requires-2
 is-met-requires-2 c κs = search rules
 
-returns-2 : tie.Need-returns-2
+returns-2 : tie.Need-returns-then-not-is_met-2
 returns-2 c =
-    let E = c.before.before in
-    let A = E.before.before.args in
-    only-later A.first A.second (was-yes E.before.is-met.ensures E.if1.false)
-    (was-no c.before.is-met2.ensures c.if2.true)
+    let E = c in
+    let A = E.args in
+    only-later A.first A.second (was-yes E.is_met.ensures E.if-not-is_met.false)
+    (was-no c.is_met-2.ensures c.if-not-is_met-2.true)
 
-returns-3 : tie.Need-returns-3
+returns-3 : tie.Need-returns
 returns-3 c =
-    let N = c.before.before in
-    let E = N.before.before in
-    let A = E.before.before.args in
-    both-met A.first A.second (was-yes E.before.is-met.ensures E.if1.false)
-    (was-yes N.before.is-met2.ensures N.if2.false)
+    let N = c in
+    let E = c in
+    let A = E.args in
+    both-met A.first A.second (was-yes E.is_met.ensures E.if-not-is_met.false)
+    (was-yes N.is_met-2.ensures N.if-not-is_met-2.false)
 
-pub is-later-spec : {M : Type 1} → statement M
-is-later-spec = tie.close (tie.spec is-met-requires returns is-met-requires-2 returns-2 returns-3)
+pub is_later_spec : {M : Type 1} → statement M
+is_later_spec =
+    tie.close
+    (tie.spec
+    is-met-requires
+    returns
+    is-met-requires-2
+    returns-2
+    returns-3)

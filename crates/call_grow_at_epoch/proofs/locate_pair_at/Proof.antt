@@ -23,166 +23,166 @@ use Rattle.call_grow_at_epoch.proofs.locate_pair_at.Tie as tie
 abbrev pair : tie.Start → Pair
 pair S = record { old = S.args.old.now; new = S.args.new.now }
 
-abbrev start : tie.Else1 → tie.Start
+abbrev start : tie.Else-number-ne0 → tie.Start
 start c = c.before.before.before.before.before
 
-abbrev name : tie.Else1 → Bytes
+abbrev name : tie.Else-number-ne0 → Bytes
 name c = (start c).args.name.now
 
 -- questions 1, 5, 6 and 21 are answered yes
-accepted : (c : tie.Else1) → pair_number (pair (start c)) [] ≡ 0
-accepted c = sym c.before.pair-number.ensures ∙ c.if1.false
+accepted : (c : tie.Else-number-ne0) → pair_number (pair (start c)) [] ≡ 0
+accepted c = sym c.pair_number-number.ensures ∙ c.if-number-ne0.false
 
-both-open : (c : tie.Else1) → PairOpen (pair (start c))
+both-open : (c : tie.Else-number-ne0) → PairOpen (pair (start c))
 both-open c = pair-open (pair (start c)) (accepted c)
 
-old-open : (c : tie.After-read-shape) → Open (pair (start c.before)).old c.read-shape.result
-old-open c = record { accepted = (both-open c.before).first; shape = c.read-shape.ensures }
+old-open : (c : tie.After-read_shape-shape) → Open (pair (start c.before)).old c.read_shape-shape.result
+old-open c = record { accepted = (both-open c.before).first; shape = c.read_shape-shape.ensures }
 
 -- so are 23 and 7
-abbrev shape-at-else3 : tie.Else3 → tie.After-read-shape
+abbrev shape-at-else3 : tie.Else-name-size → tie.After-read_shape-shape
 shape-at-else3 c = c.before.before
 
-abbrev else1-at-else3 : tie.Else3 → tie.Else1
-else1-at-else3 c = (shape-at-else3 c).before
+abbrev else1-at-else3 : tie.Else-name-size → tie.Else-number-ne0
+else1-at-else3 c = c.before.before.before
 
-dated : (c : tie.Else3) → key_dated (old_key (pair (start (else1-at-else3 c)))) ≡ true
+dated : (c : tie.Else-name-size) → key_dated (old_key (pair (start (else1-at-else3 c)))) ≡ true
 dated c =
     let E = else1-at-else3 c in
-    let s = (shape-at-else3 c).read-shape in
-    key-long (pair (start E)).old (name E) s.result s.ensures c.before.if2.false
+    let s = (shape-at-else3 c).read_shape-shape in
+    key-long (pair (start E)).old (name E) s.result s.ensures c.if-size-lt-LEAST_KEY.false
 
-allowed : (c : tie.Else3) → prism_allowed (old_key (pair (start (else1-at-else3 c)))) (name (else1-at-else3 c)) ≡ true
+allowed : (c : tie.Else-name-size) → prism_allowed (old_key (pair (start (else1-at-else3 c)))) (name (else1-at-else3 c)) ≡ true
 allowed c =
     let E = else1-at-else3 c in
-    let s = (shape-at-else3 c).read-shape in
-    name-is (pair (start E)).old (name E) s.result s.ensures c.if3.false
+    let s = (shape-at-else3 c).read_shape-shape in
+    name-is (pair (start E)).old (name E) s.result s.ensures c.if-name-size.false
 
-new-open : (c : tie.After-read-shape2) → Open (pair (start (else1-at-else3 c.before))).new c.read-shape2.result
+new-open : (c : tie.After-read_shape-larger) → Open (pair (start (else1-at-else3 c.before))).new c.read_shape-larger.result
 new-open c =
-    record { accepted = (both-open (else1-at-else3 c.before)).second; shape = c.read-shape2.ensures }
+    record { accepted = (both-open (else1-at-else3 c.before)).second; shape = c.read_shape-larger.ensures }
 
 -- both choices
-abbrev shape2-at-choose2 : tie.After-choose2 → tie.After-read-shape2
+abbrev shape2-at-choose2 : tie.After-choose-second → tie.After-read_shape-larger
 shape2-at-choose2 c = c.before.before
 
-abbrev else1-at-choose2 : tie.After-choose2 → tie.Else1
-else1-at-choose2 c = else1-at-else3 (shape2-at-choose2 c).before
+abbrev else1-at-choose2 : tie.After-choose-second → tie.Else-number-ne0
+else1-at-choose2 c = c.before.before.before.before.before.before
 
-in-new : (c : tie.After-is-later)
+in-new : (c : tie.After-is_later)
     → let E = else1-at-choose2 c.before in
     c.is_later.result ≡ dated_in_new (pair (start E)) (name E) (start E).args.t
 in-new c =
     let P = c.before in
     let E = else1-at-choose2 P in
     c.is_later.ensures
-    ∙ later-is (pair (start E)) (name E) (start E).args.t _ _ P.before.choose.ensures P.choose2.ensures
+    ∙ later-is (pair (start E)) (name E) (start E).args.t _ _ P.choose-first.ensures P.choose-second.ensures
 
 -- ---- the needs
-pair-number-requires : tie.Need-pair-number-requires
+pair-number-requires : tie.Need-pair_number-number-requires
 pair-number-requires c κs = search rules
 
-refused-requires : tie.Need-refused-requires
+refused-requires : tie.Need-refused-dated-requires
 refused-requires c κs = search rules
 
-returns : tie.Need-returns
+returns : tie.Need-returns-then-number-ne0
 returns c =
-    let T = c.before in
-    let N = T.before.pair-number in
-    let S = T.before.before.before.before.before in
+    let T = c in
+    let N = T.pair_number-number in
+    let S = c.before.before.before.before.before.before in
     dates-refused (pair S) S.args.name.now S.args.t _ N.result
-    (dated-stop (pair S) S.args.name.now (λ z. T.if1.true (N.ensures ∙ z)) ∙ sym N.ensures)
-    T.if1.true c.refused.ensures
+    (dated-stop (pair S) S.args.name.now (λ z. T.if-number-ne0.true (N.ensures ∙ z)) ∙ sym N.ensures)
+    T.if-number-ne0.true c.refused-dated.ensures
 
-read-shape-requires : tie.Need-read-shape-requires
+read-shape-requires : tie.Need-read_shape-shape-requires
 read-shape-requires c κs = (both-open c).first
 
-refused-requires-2 : tie.Need-refused-requires-2
+refused-requires-2 : tie.Need-refused-dated-requires-then-size-lt-LEAST_KEY
 refused-requires-2 c κs = search rules
 
-returns-2 : tie.Need-returns-2
+returns-2 : tie.Need-returns-then-size-lt-LEAST_KEY
 returns-2 c =
-    let R = c.before.before in
-    let E = R.before in
-    let s = R.read-shape in
+    let R = c in
+    let E = c.before.before.before in
+    let s = R.read_shape-shape in
     dates-refused (pair (start E)) (name E) (start E).args.t _ 23
     (dated-23 (pair (start E)) (name E) (accepted E)
-    (key-short (pair (start E)).old (name E) s.result s.ensures c.before.if2.true))
-    (λ z. omega arith) c.refused2.ensures
+    (key-short (pair (start E)).old (name E) s.result s.ensures c.if-size-lt-LEAST_KEY.true))
+    (λ z. omega arith) c.refused-dated-then-size-lt-LEAST_KEY.ensures
 
-add-if3 : tie.Need-overflow-add-if3
+add-if3 : tie.Need-overflow_add-name
 add-if3 c = search rules
 
-refused-requires-3 : tie.Need-refused-requires-3
+refused-requires-3 : tie.Need-refused-dated-requires-then-name-size
 refused-requires-3 c κs = search rules
 
-returns-3 : tie.Need-returns-3
+returns-3 : tie.Need-returns-then-name-size
 returns-3 c =
-    let L = c.before.before in
-    let R = L.before in
-    let E = R.before in
-    let s = R.read-shape in
+    let L = c in
+    let R = c in
+    let E = c.before.before.before.before in
+    let s = R.read_shape-shape in
     let old = (pair (start E)).old in
     dates-refused (pair (start E)) (name E) (start E).args.t _ 7
-    (dated-7 (pair (start E)) (name E) (accepted E) (key-long old (name E) s.result s.ensures L.if2.false)
-    (name-other old (name E) s.result s.ensures L.if2.false c.before.if3.true))
-    (λ z. omega arith) c.refused3.ensures
+    (dated-7 (pair (start E)) (name E) (accepted E) (key-long old (name E) s.result s.ensures L.if-size-lt-LEAST_KEY.false)
+    (name-other old (name E) s.result s.ensures L.if-size-lt-LEAST_KEY.false c.if-name-size.true))
+    (λ z. omega arith) c.refused-dated-then-name-size.ensures
 
-read-shape-requires-2 : tie.Need-read-shape-requires-2
+read-shape-requires-2 : tie.Need-read_shape-larger-requires
 read-shape-requires-2 c κs = (both-open (else1-at-else3 c)).second
 
-choose-requires : tie.Need-choose-requires
-choose-requires c κs = record { opened = old-open (shape-at-else3 c.before); size = c.before.if3.false }
+choose-requires : tie.Need-choose-first-requires
+choose-requires c κs = record { opened = old-open (shape-at-else3 c.before); size = c.if-name-size.false }
 
-choose-requires-2 : tie.Need-choose-requires-2
+choose-requires-2 : tie.Need-choose-second-requires
 choose-requires-2 c κs =
     let R = c.before in
-    let F = R.before in
+    let F = c.before.before in
     let E = else1-at-else3 F in
-    let s = (shape-at-else3 F).read-shape in
+    let s = (shape-at-else3 F).read_shape-shape in
     let S = pair (start E) in
     record {
       opened = new-open R;
       size =
-          F.if3.false ∙ sym (layout-key S.old s.result s.ensures) ∙ sym (both-open E).key-is
-          ∙ layout-key S.new R.read-shape2.result R.read-shape2.ensures;
+          F.if-name-size.false ∙ sym (layout-key S.old s.result s.ensures) ∙ sym (both-open E).key-is
+          ∙ layout-key S.new R.read_shape-larger.result R.read_shape-larger.ensures;
     }
 
-is-later-requires : tie.Need-is-later-requires
+is-later-requires : tie.Need-is_later-requires
 is-later-requires c κs = search rules
 
-show-requires : tie.Need-show-requires
+show-requires : tie.Need-show-dated-requires
 show-requires c κs =
     let P = c.before.before in
     let R = shape2-at-choose2 P in
     let E = else1-at-choose2 P in
-    let s = R.read-shape2 in
+    let s = R.read_shape-larger in
     record {
       opened = new-open R;
       within =
           chosen-within (pair (start E)).new (name E) (start E).args.t s.result.slots
-          (layout-slots (pair (start E)).new s.result s.ensures) (probe_of P.choose2.result.found)
-          P.choose2.ensures.found;
-      kept = P.choose2.ensures.kept;
+          (layout-slots (pair (start E)).new s.result s.ensures) (probe_of P.choose-second.result.found)
+          P.choose-second.ensures.found;
+      kept = P.choose-second.ensures.kept;
     }
 
-returns-4 : tie.Need-returns-4
+returns-4 : tie.Need-returns-then-is_later
 returns-4 c =
-    let T = c.before in
-    let P = T.before.before in
+    let T = c in
+    let P = c.before.before.before in
     let F = (shape2-at-choose2 P).before in
     let E = else1-at-else3 F in
     dates-new (pair (start E)) (name E) (start E).args.t _ (accepted E) (dated F) (allowed F)
-    (probe_of P.choose2.result.found) (sym (in-new T.before) ∙ T.if4.true) P.choose2.ensures.found
-    c.show.ensures refl
+    (probe_of P.choose-second.result.found) (sym (in-new T.before) ∙ T.if-is_later.true) P.choose-second.ensures.found
+    c.show-dated.ensures refl
 
-show-requires-2 : tie.Need-show-requires-2
+show-requires-2 : tie.Need-show-dated-requires-2
 show-requires-2 c κs =
     let P = c.before.before in
     let R = shape-at-else3 (shape2-at-choose2 P).before in
     let E = R.before in
     let s = R.read-shape in
-    let D = P.before.choose in
+    let D = P.choose-first in
     record {
       opened = old-open R;
       within =
@@ -192,19 +192,19 @@ show-requires-2 c κs =
       kept = D.ensures.kept;
     }
 
-returns-5 : tie.Need-returns-5
+returns-5 : tie.Need-returns
 returns-5 c =
-    let T = c.before in
-    let P = T.before.before in
+    let T = c in
+    let P = c.before.before.before in
     let F = (shape2-at-choose2 P).before in
     let E = else1-at-else3 F in
-    let D = P.before.choose in
+    let D = P.choose-first in
     dates-old (pair (start E)) (name E) (start E).args.t _ (accepted E) (dated F) (allowed F)
-    (probe_of D.result.found) (sym (in-new T.before) ∙ T.if4.false) D.ensures.found
-    c.show2.ensures refl
+    (probe_of D.result.found) (sym (in-new T.before) ∙ T.if-is_later.false) D.ensures.found
+    c.show-dated-2.ensures refl
 
-pub locate-pair-at-spec : {M : Type 1} → statement M
-locate-pair-at-spec =
+pub locate_pair_at_spec : {M : Type 1} → statement M
+locate_pair_at_spec =
     tie.close
     (tie.spec
     pair-number-requires

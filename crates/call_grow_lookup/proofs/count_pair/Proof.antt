@@ -16,31 +16,31 @@ use Rattle.call_grow_lookup.proofs.count_pair.Tie as tie
 abbrev pair : tie.Start → Pair
 pair S = record { old = S.args.old.now; new = S.args.new.now }
 
-abbrev start : tie.Else1 → tie.Start
+abbrev start : tie.Else-number-ne0 → tie.Start
 start c = c.before.before.before.before
 
-accepted : (c : tie.Else1) → pair_number (pair (start c)) [] ≡ 0
-accepted c = sym c.before.pair-number.ensures ∙ c.if1.false
+accepted : (c : tie.Else-number-ne0) → pair_number (pair (start c)) [] ≡ 0
+accepted c = sym c.pair_number-number.ensures ∙ c.if-number-ne0.false
 
-is_open : (c : tie.Else1) → PairOpen (pair (start c))
+is_open : (c : tie.Else-number-ne0) → PairOpen (pair (start c))
 is_open c = pair-open (pair (start c)) (accepted c)
 
-pair-number-requires : tie.Need-pair-number-requires
+pair-number-requires : tie.Need-pair_number-number-requires
 pair-number-requires c κs = search rules
 
-returns : tie.Need-returns
+returns : tie.Need-returns-then-number-ne0
 returns c =
-    counts-refused (pair c.before.before.before.before) _ c.before.pair-number.ensures c.if1.true
+    counts-refused (pair c.before.before.before.before) _ c.pair_number-number.ensures c.if-number-ne0.true
 
-read-u32-requires : tie.Need-read-u32-requires
+read-u32-requires : tie.Need-read_u32-requires
 read-u32-requires c κs = omega (arith, (opened-facts (pair (start c)).old (is_open c).first).size_low)
 
-read-u32-requires-2 : tie.Need-read-u32-requires-2
+read-u32-requires-2 : tie.Need-read_u32-requires-2
 read-u32-requires-2 c κs =
     let E = c.before in
     omega (arith, (opened-facts (pair (start E)).new (is_open E).second).size_low)
 
-add-points : tie.Need-overflow-add-points
+add-points : tie.Need-overflow_add-points
 add-points c =
     let E = c.before.before in
     let f = opened-facts (pair (start E)).old (is_open E).first in
@@ -51,18 +51,18 @@ add-points c =
       f.slots-high,
       g.points,
       g.slots-high,
-      c.before.read_u32.ensures,
-      c.read-u322.ensures,
+      c.read_u32.ensures,
+      c.read_u32-2.ensures,
     )
 
-returns-2 : tie.Need-returns-2
+returns-2 : tie.Need-returns
 returns-2 c =
     let E = c.before.before in
     counts (pair (start E)) _ _ refl (accepted E)
-    (unfold both_points in ap₂ (λ (x y : ℕ). x + y) c.before.read_u32.ensures c.read-u322.ensures)
+    (unfold both_points in ap₂ (λ (x y : ℕ). x + y) c.read_u32.ensures c.read_u32-2.ensures)
 
-pub count-pair-spec : {M : Type 1} → statement M
-count-pair-spec =
+pub count_pair_spec : {M : Type 1} → statement M
+count_pair_spec =
     tie.close
     (tie.spec
     pair-number-requires

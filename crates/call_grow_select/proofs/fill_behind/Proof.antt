@@ -12,29 +12,29 @@ use Rattle.call_grow_select.proofs.Numbers.{store-behind}
 use Rattle.call_grow_select.proofs.fill_behind.Statement.{statement}
 use Rattle.call_grow_select.proofs.fill_behind.Tie as tie
 
-sub-fill-list : tie.Need-overflow-sub-fill-list
+sub-fill-list : tie.Need-slice_bounds-fill_list-count
 sub-fill-list c = search rules
 
-part-fill-list-start : tie.Need-slice-bounds-fill-list-start
+part-fill-list-start : tie.Need-slice_bounds-fill_list-start
 part-fill-list-start c = search rules
 
-part-fill-list-end : tie.Need-slice-bounds-fill-list-end
+part-fill-list-end : tie.Need-slice_bounds-fill_list-end
 part-fill-list-end c = search rules
 
-fill-list-requires : tie.Need-fill-list-requires
+fill-list-requires : tie.Need-fill_list-requires
 fill-list-requires c κs = search rules
 
-same_length : tie.Need-same-length
+same_length : tie.Need-shape_of-list
 same_length c = search rules
 
 returns : tie.Need-returns
 returns c =
-    let F = c.before.before in
-    let S = F.before.before.before.before.before.before in
+    let F = c in
+    let S = c in
     let A = S.args in
     let img = A.image.now in
     let first = selected (layout_of img) img A.lowest.now A.highest.now in (
-      F.fill-list.ensures.0,
+      F.fill_list.ensures.0,
       store-behind A.list.now A.from (slot_numbers first) _
           (omega (
             arith,
@@ -43,11 +43,11 @@ returns c =
             layout-slots img A.shape S.requires.0.shape,
             S.requires.2,
           ))
-          F.fill-list.ensures.1,
+          F.fill_list.ensures.1,
     )
 
-pub fill-behind-spec : {M : Type 1} → statement M
-fill-behind-spec =
+pub fill_behind_spec : {M : Type 1} → statement M
+fill_behind_spec =
     tie.close
     (tie.spec
     sub-fill-list

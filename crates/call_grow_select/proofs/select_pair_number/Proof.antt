@@ -22,131 +22,131 @@ use Rattle.call_grow_select.proofs.select_pair_number.Tie as tie
 abbrev pair : tie.Start → Pair
 pair S = record { old = S.args.old.now; new = S.args.new.now }
 
-abbrev start : tie.Else1 → tie.Start
+abbrev start : tie.Else-number-ne0 → tie.Start
 start c = c.before.before.before.before.before.before
 
 -- questions 1, 5, 6 and 21 are answered yes
-accepted : (c : tie.Else1) → pair_number (pair (start c)) [] ≡ 0
-accepted c = sym c.before.pair-number.ensures ∙ c.if1.false
+accepted : (c : tie.Else-number-ne0) → pair_number (pair (start c)) [] ≡ 0
+accepted c = sym c.pair_number-number.ensures ∙ c.if-number-ne0.false
 
-both-open : (c : tie.Else1) → PairOpen (pair (start c))
+both-open : (c : tie.Else-number-ne0) → PairOpen (pair (start c))
 both-open c = pair-open (pair (start c)) (accepted c)
 
-old-open : (c : tie.After-read-shape) → Open (pair (start c.before)).old c.read-shape.result
-old-open c = record { accepted = (both-open c.before).first; shape = c.read-shape.ensures }
+old-open : (c : tie.After-read_shape-shape) → Open (pair (start c.before)).old c.read_shape-shape.result
+old-open c = record { accepted = (both-open c.before).first; shape = c.read_shape-shape.ensures }
 
 -- the layout's numbers are the shape's
-asks : (c : tie.After-read-shape) {b : Bool}
+asks : (c : tie.After-read_shape-shape) {b : Bool}
     → let A = (start c.before).args in
-    ranges_allowed c.read-shape.result.keylen A.lowest.now A.highest.now ≡ b
+    ranges_allowed c.read_shape-shape.result.keylen A.lowest.now A.highest.now ≡ b
     → ranges_allowed (old_key (pair (start c.before))) A.lowest.now A.highest.now ≡ b
 asks c h =
     let A = (start c.before).args in
     ap (λ (k : ℕ). ranges_allowed k A.lowest.now A.highest.now)
-    (layout-key A.old.now c.read-shape.result c.read-shape.ensures) ∙ h
+    (layout-key A.old.now c.read_shape-shape.result c.read_shape-shape.ensures) ∙ h
 
-abbrev shape-at-else2 : tie.Else2 → tie.After-read-shape
+abbrev shape-at-else2 : tie.Else-not-ranges_allowed → tie.After-read_shape-shape
 shape-at-else2 c = c.before.before
 
-abbrev start-at-else2 : tie.Else2 → tie.Start
-start-at-else2 c = start (shape-at-else2 c).before
+abbrev start-at-else2 : tie.Else-not-ranges_allowed → tie.Start
+start-at-else2 c = c.before.before.before.before.before.before.before.before.before
 
-new-open : (c : tie.After-read-shape2) → Open (pair (start-at-else2 c.before)).new c.read-shape2.result
+new-open : (c : tie.After-read_shape-larger) → Open (pair (start-at-else2 c.before)).new c.read_shape-larger.result
 new-open c =
-    record { accepted = (both-open (shape-at-else2 c.before).before).second; shape = c.read-shape2.ensures }
+    record { accepted = (both-open (shape-at-else2 c.before).before).second; shape = c.read_shape-larger.ensures }
 
 -- both N, and that they are small
-abbrev slots : tie.After-read-shape2 → ℕ
-slots c = (shape-at-else2 c.before).read-shape.result.slots + c.read-shape2.result.slots
+abbrev slots : tie.After-read_shape-larger → ℕ
+slots c = (shape-at-else2 c.before).read_shape-shape.result.slots + c.read_shape-larger.result.slots
 
-slots-are : (c : tie.After-read-shape2)
+slots-are : (c : tie.After-read_shape-larger)
     → (layout_of (pair (start-at-else2 c.before)).old).N + (layout_of (pair (start-at-else2 c.before)).new).N
     ≡ slots c
 slots-are c =
     let A = (start-at-else2 c.before).args in
-    let R = (shape-at-else2 c.before).read-shape in
+    let R = (shape-at-else2 c.before).read_shape-shape in
     omega (
       arith,
       layout-slots A.old.now R.result R.ensures,
-      layout-slots A.new.now c.read-shape2.result c.read-shape2.ensures,
+      layout-slots A.new.now c.read_shape-larger.result c.read_shape-larger.ensures,
     )
 
 -- ---- the needs
-pair-number-requires : tie.Need-pair-number-requires
+pair-number-requires : tie.Need-pair_number-number-requires
 pair-number-requires c κs = search rules
 
-returns : tie.Need-returns
+returns : tie.Need-returns-then-number-ne0
 returns c =
     let S = c.before.before.before.before.before.before in
-    let e = c.before.pair-number.ensures in
+    let e = c.pair_number-number.ensures in
     e ∙ sym (grow-closed (pair S) S.args.lowest.now S.args.highest.now S.args.size
-    (λ z. c.if1.true (e ∙ z)))
+    (λ z. c.if-number-ne0.true (e ∙ z)))
 
-read-shape-requires : tie.Need-read-shape-requires
+read-shape-requires : tie.Need-read_shape-shape-requires
 read-shape-requires c κs = (both-open c).first
 
-ranges-allowed-requires : tie.Need-ranges-allowed-requires
+ranges-allowed-requires : tie.Need-ranges_allowed-requires
 ranges-allowed-requires c κs = search rules
 
-returns-2 : tie.Need-returns-2
+returns-2 : tie.Need-returns-then-not-ranges_allowed
 returns-2 c =
     let P = c.before.before in
-    let S = start P.before in
+    let S = start c.before.before.before in
     sym
     (grow-22 (pair S) S.args.lowest.now S.args.highest.now S.args.size (accepted P.before)
-    (asks P (was-no c.before.ranges-allowed.ensures c.if2.true)))
+    (asks P (was-no c.ranges_allowed.ensures c.if-not-ranges_allowed.true)))
 
-read-shape-requires-2 : tie.Need-read-shape-requires-2
+read-shape-requires-2 : tie.Need-read_shape-larger-requires
 read-shape-requires-2 c κs = (both-open (shape-at-else2 c).before).second
 
-add-if3 : tie.Need-overflow-add-if3
+add-if3 : tie.Need-overflow_add-shape
 add-if3 c =
     let Q = c.before.before in
-    let P = shape-at-else2 Q.before in
+    let P = shape-at-else2 c.before.before.before in
     let A = (start P.before).args in
     omega (
       arith,
-      (header A.old.now P.read-shape.result (old-open P)).slots-high,
-      (header A.new.now Q.read-shape2.result (new-open Q)).slots-high,
+      (header A.old.now P.read_shape-shape.result (old-open P)).slots-high,
+      (header A.new.now Q.read_shape-larger.result (new-open Q)).slots-high,
     )
 
-mul-if3 : tie.Need-overflow-mul-if3
+mul-if3 : tie.Need-overflow_mul-shape
 mul-if3 c =
     let Q = c.before.before in
-    let P = shape-at-else2 Q.before in
+    let P = shape-at-else2 c.before.before.before in
     let A = (start P.before).args in
     omega (
       arith,
-      (header A.old.now P.read-shape.result (old-open P)).slots-high,
-      (header A.new.now Q.read-shape2.result (new-open Q)).slots-high,
+      (header A.old.now P.read_shape-shape.result (old-open P)).slots-high,
+      (header A.new.now Q.read_shape-larger.result (new-open Q)).slots-high,
     )
 
-returns-3 : tie.Need-returns-3
+returns-3 : tie.Need-returns-then-size-shape
 returns-3 c =
     let Q = c.before.before.before in
-    let E = Q.before in
+    let E = c.before.before.before.before in
     let P = shape-at-else2 E in
     let S = start P.before in
     let N = (layout_of (pair S).old).N + (layout_of (pair S).new).N in
     sym
     (grow-16 (pair S) S.args.lowest.now S.args.highest.now S.args.size (accepted P.before)
-    (asks P (was-yes E.before.ranges-allowed.ensures E.if2.false))
-    (unfold list_holds in lt-leb (4 * N) S.args.size (omega (arith, slots-are Q, c.if3.true))))
+    (asks P (was-yes E.ranges_allowed.ensures E.if-not-ranges_allowed.false))
+    (unfold list_holds in lt-leb (4 * N) S.args.size (omega (arith, slots-are Q, c.if-size-shape.true))))
 
-returns-4 : tie.Need-returns-4
+returns-4 : tie.Need-returns
 returns-4 c =
     let Q = c.before.before.before in
-    let E = Q.before in
+    let E = c.before.before.before.before in
     let P = shape-at-else2 E in
     let S = start P.before in
     let N = (layout_of (pair S).old).N + (layout_of (pair S).new).N in
     sym
     (grow-0 (pair S) S.args.lowest.now S.args.highest.now S.args.size (accepted P.before)
-    (asks P (was-yes E.before.ranges-allowed.ensures E.if2.false))
-    (unfold list_holds in le-leb (4 * N) S.args.size (omega (arith, slots-are Q, c.if3.false))))
+    (asks P (was-yes E.ranges_allowed.ensures E.if-not-ranges_allowed.false))
+    (unfold list_holds in le-leb (4 * N) S.args.size (omega (arith, slots-are Q, c.if-size-shape.false))))
 
-pub select-pair-number-spec : {M : Type 1} → statement M
-select-pair-number-spec =
+pub select_pair_number_spec : {M : Type 1} → statement M
+select_pair_number_spec =
     tie.close
     (tie.spec
     pair-number-requires

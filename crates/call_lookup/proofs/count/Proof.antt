@@ -7,19 +7,25 @@ use Rattle.call_lookup.proofs.Answers.{count-refused, count-accepted}
 use Rattle.call_lookup.proofs.count.Statement.{statement}
 use Rattle.call_lookup.proofs.count.Tie as tie
 
-open-number-requires : tie.Need-open-number-requires
+open-number-requires : tie.Need-open_number-number-requires
 open-number-requires c κs = search rules
 
-returns : tie.Need-returns
-returns c = count-refused _ _ c.before.open-number.ensures c.if1.true
+returns : tie.Need-returns-then-number-ne0
+returns c = count-refused _ _ c.open_number-number.ensures c.if-number-ne0.true
 
-read-u32-requires : tie.Need-read-u32-requires
+read-u32-requires : tie.Need-read_u32-points-requires
 read-u32-requires c κs =
-    omega (arith, (opened-facts _ (sym c.before.open-number.ensures ∙ c.if1.false)).size_low)
+    omega (arith, (opened-facts _ (sym c.open_number-number.ensures ∙ c.if-number-ne0.false)).size_low)
 
-returns-2 : tie.Need-returns-2
+returns-2 : tie.Need-returns
 returns-2 c =
-    count-accepted _ _ (sym c.before.before.open-number.ensures ∙ c.before.if1.false) c.read_u32.ensures
+    count-accepted _ _ (sym c.open_number-number.ensures ∙ c.if-number-ne0.false) c.read_u32-points.ensures
 
 pub count_spec : {M : Type 1} → statement M
-count_spec = tie.close (tie.spec open-number-requires returns read-u32-requires returns-2)
+count_spec =
+    tie.close
+    (tie.spec
+    open-number-requires
+    returns
+    read-u32-requires
+    returns-2)

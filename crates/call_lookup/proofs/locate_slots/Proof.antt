@@ -8,64 +8,64 @@ use Rattle.call_lookup.proofs.Answers.{located-refused, located-found}
 use Rattle.call_lookup.proofs.locate_slots.Statement.{statement}
 use Rattle.call_lookup.proofs.locate_slots.Tie as tie
 
-seek-requires : tie.Need-seek-requires
+seek-requires : tie.Need-seek-sought-requires
 seek-requires c κs = search rules
 
-enum-known-sought : tie.Need-enum-known-sought
+enum-known-sought : tie.Need-enum_known-sought
 enum-known-sought c = search rules
 
-nothing-requires : tie.Need-nothing-requires
+nothing-requires : tie.Need-nothing-located-requires
 nothing-requires c κs = search rules
 
-enum-known-sought-2 : tie.Need-enum-known-sought-2
+enum-known-sought-2 : tie.Need-enum_known-sought-in-At-1
 enum-known-sought-2 c = search rules
 
-abbrev start-at-known-told2 : tie.After-known-told2 → tie.Start
+abbrev start-at-known-told2 : tie.In-At → tie.Start
 start-at-known-told2 c = c.before.before.before.before.before.before
 
-locate-found-requires : tie.Need-locate-found-requires
+locate-found-requires : tie.Need-locate_found-located-requires
 locate-found-requires c κs =
     let r =
     reached-is (start-at-known-told2 c).args.image.now (start-at-known-told2 c).args.key.now true
-    c.before.before.before.seek.ensures c.before.sought2.given.1 in
+    c.seek-sought.ensures c.sought-in-At-1.given.1 in
     (r.opened, r.within)
 
-abbrev start-at-nothing : tie.After-nothing → tie.Start
+abbrev start-at-nothing : tie.After-nothing-located → tie.Start
 start-at-nothing c = c.before.before.before.before.before.before.before
 
-abbrev seek-at-nothing : tie.After-nothing → tie.After-seek
+abbrev seek-at-nothing : tie.After-nothing-located → tie.After-seek-sought
 seek-at-nothing c = c.before.before.before.before
 
-returns : tie.Need-returns
+returns : tie.Need-returns-in-Refused
 unfolding lookup_read
 returns c =
     let A = (start-at-nothing c).args in
-    let is = (seek-at-nothing c).seek.ensures in
-    let e = c.before.before.sought.given.1 in
+    let is = (seek-at-nothing c).seek-sought.ensures in
+    let e = c.sought-1.given.1 in
     let r = refused-is A.image.now A.key.now true is e in
-    let n = c.nothing.ensures in
+    let n = c.nothing-located.ensures in
     let a =
     located-refused A.image.now A.key.now _ _ _ (n.0 ∙ r.0) (λ z. r.1 (sym n.0 ∙ z)) n.1 n.2 in
     (a.0, a.1, a.2, refused-read A.image.now A.key.now true is e)
 
-abbrev start-at-locate-found : tie.After-locate-found → tie.Start
+abbrev start-at-locate-found : tie.After-locate_found-located → tie.Start
 start-at-locate-found c = c.before.before.before.before.before.before.before
 
-abbrev seek-at-locate-found : tie.After-locate-found → tie.After-seek
+abbrev seek-at-locate-found : tie.After-locate_found-located → tie.After-seek-sought
 seek-at-locate-found c = c.before.before.before.before
 
-returns-2 : tie.Need-returns-2
+returns-2 : tie.Need-returns-in-At
 unfolding lookup_read
 returns-2 c =
     let A = (start-at-locate-found c).args in
-    let is = (seek-at-locate-found c).seek.ensures in
-    let e = c.before.before.sought2.given.1 in
+    let is = (seek-at-locate-found c).seek-sought.ensures in
+    let e = c.sought-in-At-1.given.1 in
     let r = reached-is A.image.now A.key.now true is e in
-    let a = located-found A.image.now A.key.now r.asked _ _ _ _ r.ended c.locate-found.ensures in
+    let a = located-found A.image.now A.key.now r.asked _ _ _ _ r.ended c.locate_found-located.ensures in
     (a.0, a.1, a.2, reached-read A.image.now A.key.now true is e)
 
-pub locate-slots-spec : {M : Type 1} → statement M
-locate-slots-spec =
+pub locate_slots_spec : {M : Type 1} → statement M
+locate_slots_spec =
     tie.close
     (tie.spec
     seek-requires

@@ -9,54 +9,54 @@ use Rattle.call_lookup.proofs.Answers.{inside, lookup-answer}
 use Rattle.call_lookup.proofs.lookup.Statement.{statement}
 use Rattle.call_lookup.proofs.lookup.Tie as tie
 
-locate-requires : tie.Need-locate-requires
+locate-requires : tie.Need-locate-found-requires
 locate-requires c κs = search rules
 
-at-requires : tie.Need-at-requires
+at-requires : tie.Need-at-start-requires
 at-requires c κs = search rules
 
-add-end : tie.Need-overflow-add-end
+add-end : tie.Need-overflow_add-end
 add-end c =
-    let L = c.before.before in
-    let A = L.before.before.before.args in
+    let L = c in
+    let A = L.args in
     omega (
       arith,
       inside A.image.now A.key.now,
-      c.before.at.ensures,
-      L.locate.ensures.1,
-      L.locate.ensures.2,
+      c.at-start.ensures,
+      L.locate-found.ensures.1,
+      L.locate-found.ensures.2,
     )
 
-sub-result : tie.Need-overflow-sub-result
+sub-result : tie.Need-slice_bounds-result-count
 sub-result c = search rules
 
-part-result-start : tie.Need-slice-bounds-result-start
+part-result-start : tie.Need-slice_bounds-result-start
 part-result-start c = search rules
 
-part-result-end : tie.Need-slice-bounds-result-end
+part-result-end : tie.Need-slice_bounds-result-end
 part-result-end c =
-    let L = c.before.before in
-    let A = L.before.before.before.args in
+    let L = c in
+    let A = L.args in
     omega (
       arith,
       inside A.image.now A.key.now,
-      c.before.at.ensures,
-      L.locate.ensures.1,
-      L.locate.ensures.2,
+      c.at-start.ensures,
+      L.locate-found.ensures.1,
+      L.locate-found.ensures.2,
     )
 
 returns : tie.Need-returns
 returns c =
-    let P = c.before.before in
-    let L = P.before in
-    let A = L.before.before.before.args in
-    lookup-answer A.image.now A.key.now _ _ _ L.locate.ensures.0
-    (P.at.ensures ∙ L.locate.ensures.1)
-    (part-lent A.image.now P.at.result L.locate.result.length
-    ∙ ap₂ (part A.image.now) (P.at.ensures ∙ L.locate.ensures.1) L.locate.ensures.2)
+    let P = c in
+    let L = c in
+    let A = L.args in
+    lookup-answer A.image.now A.key.now _ _ _ L.locate-found.ensures.0
+    (P.at-start.ensures ∙ L.locate-found.ensures.1)
+    (part-lent A.image.now P.at-start.result L.locate-found.result.length
+    ∙ ap₂ (part A.image.now) (P.at-start.ensures ∙ L.locate-found.ensures.1) L.locate-found.ensures.2)
 
-pub lookup-spec : {M : Type 1} → statement M
-lookup-spec =
+pub lookup_spec : {M : Type 1} → statement M
+lookup_spec =
     tie.close
     (tie.spec
     locate-requires

@@ -12,12 +12,12 @@ use Rattle.call_select.proofs.Selecting.{selects-outside, selects-inside}
 use Rattle.call_select.proofs.is_selected.Statement.{statement}
 use Rattle.call_select.proofs.is_selected.Tie as tie
 
-key-of-requires : tie.Need-key-of-requires
+key-of-requires : tie.Need-key_of-key-requires
 key-of-requires c κs = search rules
 
-key-in-ranges-requires : tie.Need-key-in-ranges-requires
+key-in-ranges-requires : tie.Need-key_in_ranges-requires
 key-in-ranges-requires c κs =
-    let S = c.before.before.before.before in
+    let S = c in
     let img = S.args.image.now in
     let g = layout_of img in
     let s = S.args.shape in
@@ -28,28 +28,34 @@ key-in-ranges-requires c κs =
     let size : length (key_of g (slot g img i)) ≡ g.K =
     length-key_of g (slot g img i) (length-slot g img (room img o.accepted) i below) in (
       f.asked,
-      ap length c.key_of.ensures ∙ size ∙ layout-key img s o.shape ∙ sym f.lowest-length,
+      ap length c.key_of-key.ensures ∙ size ∙ layout-key img s o.shape ∙ sym f.lowest-length,
       f.highest-length ∙ sym f.lowest-length,
     )
 
-returns : tie.Need-returns
+returns : tie.Need-returns-then-not-key_in_ranges
 returns c =
-    let R = c.before in
-    let A = R.before.before.before.before.before.args in
+    let R = c in
+    let A = R.args in
     selects-outside (layout_of A.image.now) A.image.now A.lowest.now A.highest.now A.i.0 _
-    R.before.key_of.ensures (was-no R.key-in-ranges.ensures c.if1.true)
+    R.key_of-key.ensures (was-no R.key_in_ranges.ensures c.if-not-key_in_ranges.true)
 
-all-zero-requires : tie.Need-all-zero-requires
+all-zero-requires : tie.Need-all_zero-requires
 all-zero-requires c κs = search rules
 
-returns-2 : tie.Need-returns-2
+returns-2 : tie.Need-returns
 returns-2 c =
-    let E = c.before in
-    let R = E.before in
-    let A = R.before.before.before.before.before.args in
+    let E = c in
+    let R = c in
+    let A = R.args in
     selects-inside (layout_of A.image.now) A.image.now A.lowest.now A.highest.now A.i.0 _
-    R.before.key_of.ensures (was-yes R.key-in-ranges.ensures E.if1.false) _ c.all-zero.ensures
+    R.key_of-key.ensures (was-yes R.key_in_ranges.ensures E.if-not-key_in_ranges.false) _ c.all_zero.ensures
 
-pub is-selected-spec : {M : Type 1} → statement M
-is-selected-spec =
-    tie.close (tie.spec key-of-requires key-in-ranges-requires returns all-zero-requires returns-2)
+pub is_selected_spec : {M : Type 1} → statement M
+is_selected_spec =
+    tie.close
+    (tie.spec
+    key-of-requires
+    key-in-ranges-requires
+    returns
+    all-zero-requires
+    returns-2)

@@ -17,81 +17,81 @@ use Rattle.call_select.proofs.select_number.Statement.{statement}
 use Rattle.call_select.proofs.select_number.Tie as tie
 
 -- ---- the stages: the start, and the opening's number, seen from the shape
-abbrev start : tie.After-read-shape → tie.Start
+abbrev start : tie.After-read_shape-shape → tie.Start
 start c = c.before.before.before.before.before.before
 
 -- questions 1, 5 and 6 are answered yes
-accepted : (c : tie.After-read-shape) → open_number (start c).args.image.now ≡ 0
-accepted c = sym c.before.before.open-number.ensures ∙ c.before.if1.false
+accepted : (c : tie.After-read_shape-shape) → open_number (start c).args.image.now ≡ 0
+accepted c = sym c.open_number-opened.ensures ∙ c.if-opened-ne0.false
 
-opened : (c : tie.After-read-shape) → Open (start c).args.image.now c.read-shape.result
-opened c = record { accepted = accepted c; shape = c.read-shape.ensures }
+opened : (c : tie.After-read_shape-shape) → Open (start c).args.image.now c.read_shape-shape.result
+opened c = record { accepted = accepted c; shape = c.read_shape-shape.ensures }
 
 -- the layout's numbers are the shape's
-asks : (c : tie.After-read-shape) {b : Bool}
-    → ranges_allowed c.read-shape.result.keylen (start c).args.lowest.now (start c).args.highest.now ≡ b
+asks : (c : tie.After-read_shape-shape) {b : Bool}
+    → ranges_allowed c.read_shape-shape.result.keylen (start c).args.lowest.now (start c).args.highest.now ≡ b
     → ranges_allowed (layout_of (start c).args.image.now).K (start c).args.lowest.now (start c).args.highest.now
     ≡ b
 asks c h =
     let A = (start c).args in
     ap (λ (k : ℕ). ranges_allowed k A.lowest.now A.highest.now)
-    (layout-key A.image.now c.read-shape.result c.read-shape.ensures) ∙ h
+    (layout-key A.image.now c.read_shape-shape.result c.read_shape-shape.ensures) ∙ h
 
-slots : (c : tie.After-read-shape) → (layout_of (start c).args.image.now).N ≡ c.read-shape.result.slots
-slots c = layout-slots (start c).args.image.now c.read-shape.result c.read-shape.ensures
+slots : (c : tie.After-read_shape-shape) → (layout_of (start c).args.image.now).N ≡ c.read_shape-shape.result.slots
+slots c = layout-slots (start c).args.image.now c.read_shape-shape.result c.read_shape-shape.ensures
 
-open-number-requires : tie.Need-open-number-requires
+open-number-requires : tie.Need-open_number-opened-requires
 open-number-requires c κs = search rules
 
-returns : tie.Need-returns
+returns : tie.Need-returns-then-opened-ne0
 returns c =
-    let N = c.before in
-    let A = N.before.before.before.before.args in
-    let e = N.open-number.ensures in
-    e ∙ sym (select-closed A.image.now A.lowest.now A.highest.now A.size (λ z. c.if1.true (e ∙ z)))
+    let N = c in
+    let A = N.args in
+    let e = N.open_number-opened.ensures in
+    e ∙ sym (select-closed A.image.now A.lowest.now A.highest.now A.size (λ z. c.if-opened-ne0.true (e ∙ z)))
 
-read-shape-requires : tie.Need-read-shape-requires
+read-shape-requires : tie.Need-read_shape-shape-requires
 read-shape-requires c κs =
-    sym c.before.open-number.ensures ∙ c.if1.false
+    sym c.open_number-opened.ensures ∙ c.if-opened-ne0.false
 
-ranges-allowed-requires : tie.Need-ranges-allowed-requires
+ranges-allowed-requires : tie.Need-ranges_allowed-requires
 ranges-allowed-requires c κs = search rules
 
-returns-2 : tie.Need-returns-2
+returns-2 : tie.Need-returns-then-not-ranges_allowed
 returns-2 c =
     let P = c.before.before in
     let A = (start P).args in
     sym
     (select-22 A.image.now A.lowest.now A.highest.now A.size (accepted P)
-    (asks P (was-no c.before.ranges-allowed.ensures c.if2.true)))
+    (asks P (was-no c.ranges_allowed.ensures c.if-not-ranges_allowed.true)))
 
-mul-if3 : tie.Need-overflow-mul-if3
+mul-if3 : tie.Need-overflow_mul-shape
 mul-if3 c =
     let P = c.before.before.before in
-    omega (arith, (header (start P).args.image.now P.read-shape.result (opened P)).slots-high)
+    omega (arith, (header (start P).args.image.now P.read_shape-shape.result (opened P)).slots-high)
 
-returns-3 : tie.Need-returns-3
+returns-3 : tie.Need-returns-then-size-shape
 returns-3 c =
-    let R = c.before.before.before in
-    let P = R.before in
+    let R = c in
+    let P = c.before.before.before.before in
     let A = (start P).args in
     sym
     (select-16 A.image.now A.lowest.now A.highest.now A.size (accepted P)
-    (asks P (was-yes R.ranges-allowed.ensures c.before.before.if2.false))
-    (unfold list_holds in lt-leb (4 * (layout_of A.image.now).N) A.size (omega (arith, slots P, c.if3.true))))
+    (asks P (was-yes R.ranges_allowed.ensures c.if-not-ranges_allowed.false))
+    (unfold list_holds in lt-leb (4 * (layout_of A.image.now).N) A.size (omega (arith, slots P, c.if-size-shape.true))))
 
-returns-4 : tie.Need-returns-4
+returns-4 : tie.Need-returns
 returns-4 c =
-    let R = c.before.before.before in
-    let P = R.before in
+    let R = c in
+    let P = c.before.before.before.before in
     let A = (start P).args in
     sym
     (select-0 A.image.now A.lowest.now A.highest.now A.size (accepted P)
-    (asks P (was-yes R.ranges-allowed.ensures c.before.before.if2.false))
-    (unfold list_holds in le-leb (4 * (layout_of A.image.now).N) A.size (omega (arith, slots P, c.if3.false))))
+    (asks P (was-yes R.ranges_allowed.ensures c.if-not-ranges_allowed.false))
+    (unfold list_holds in le-leb (4 * (layout_of A.image.now).N) A.size (omega (arith, slots P, c.if-size-shape.false))))
 
-pub select-number-spec : {M : Type 1} → statement M
-select-number-spec =
+pub select_number_spec : {M : Type 1} → statement M
+select_number_spec =
     tie.close
     (tie.spec
     open-number-requires

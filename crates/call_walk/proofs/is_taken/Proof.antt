@@ -6,12 +6,16 @@ use borrow.Author.Rules.{rules}
 use Rattle.call_walk.proofs.is_taken.Statement.{statement}
 use Rattle.call_walk.proofs.is_taken.Tie as tie
 
-is-vacant-requires : tie.Need-is-vacant-requires
+is-vacant-requires : tie.Need-is_vacant-requires
 is-vacant-requires c κs = search rules
 
 returns : tie.Need-returns
 unfolding taken
-returns c = ap not c.is-vacant.ensures
+returns c = ap not c.is_vacant.ensures
 
-pub is-taken-spec : {M : Type 1} → statement M
-is-taken-spec = tie.close (tie.spec is-vacant-requires returns)
+pub is_taken_spec : {M : Type 1} → statement M
+is_taken_spec =
+    tie.close
+    (tie.spec
+    is-vacant-requires
+    returns)

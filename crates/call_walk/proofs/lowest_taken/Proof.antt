@@ -13,67 +13,67 @@ use Rattle.call_walk.proofs.Stopping.{walk_start, walk_here, walk_end}
 use Rattle.call_walk.proofs.lowest_taken.Statement.{statement}
 use Rattle.call_walk.proofs.lowest_taken.Tie as tie
 
-abbrev invariant-loop : tie.invariant-loop
+abbrev invariant-loop : tie.invariant-loop-i
 invariant-loop image shape from slots i₀ i =
     next_taken (layout_of image) image from ≡ lowest (taken (layout_of image) image) (slots - i) i
 
-abbrev decreases-loop : tie.decreases-loop
+abbrev decreases-loop : tie.decreases-loop-i
 decreases-loop image shape from slots i₀ i = slots - i
 
-loop-holds : tie.Need-loop-init invariant-loop decreases-loop
+loop-holds : tie.Need-loop-i-init invariant-loop decreases-loop
 loop-holds c =
-    let S = c.before in
+    let S = c in
     walk_start (layout_of S.args.image.now) S.args.image.now S.args.from S.args.shape.slots
     (layout-slots S.args.image.now S.args.shape S.requires.shape)
 
-new-requires : tie.Need-new-requires invariant-loop decreases-loop
+new-requires : tie.Need-new-at-requires invariant-loop decreases-loop
 new-requires c κs = tt
 
-is-taken-requires : tie.Need-is-taken-requires invariant-loop decreases-loop
+is-taken-requires : tie.Need-is_taken-requires invariant-loop decreases-loop
 is-taken-requires c κs =
-    let S = c.before.before.before.before in
-    (S.requires, omega (arith, c.new.ensures, c.before.loop-test.true))
+    let S = c in
+    (S.requires, omega (arith, c.new-at.ensures, c.loop-i-test.true))
 
-returns : tie.Need-returns invariant-loop decreases-loop
+returns : tie.Need-returns-then-is_taken invariant-loop decreases-loop
 unfolding stop_of
 returns c =
-    let L = c.before.before.before.before in
-    let S = L.before.before in
+    let L = c in
+    let S = c in
     let img = S.args.image.now in
-    walk_here (layout_of img) img (next_taken (layout_of img) img S.args.from) S.args.shape.slots L.loop.i
-    L.loop.invariant
-    c.before.before.new.result.0 c.before.before.new.ensures c.before.before.before.loop-test.true
-    (sym c.before.is-taken.ensures ∙ c.if1.true)
+    walk_here (layout_of img) img (next_taken (layout_of img) img S.args.from) S.args.shape.slots L.loop-i.i
+    L.loop-i.invariant
+    c.new-at.result.0 c.new-at.ensures c.loop-i-test.true
+    (sym c.is_taken.ensures ∙ c.if-is_taken.true)
 
-add-i : tie.Need-overflow-add-i invariant-loop decreases-loop
+add-i : tie.Need-overflow_add-i invariant-loop decreases-loop
 add-i c = search rules
 
-loop-less : tie.Need-loop-smaller invariant-loop decreases-loop
+loop-less : tie.Need-loop-i-smaller invariant-loop decreases-loop
 loop-less c = search rules
 
-loop-again : tie.Need-loop-preserved invariant-loop decreases-loop
+loop-again : tie.Need-loop-i-preserved invariant-loop decreases-loop
 loop-again c =
-    let L = c.before.before.before.before in
-    let S = L.before.before in
+    let L = c in
+    let S = c in
     let img = S.args.image.now in
-    L.loop.invariant
-    ∙ lowest-no (taken (layout_of img) img) S.args.shape.slots L.loop.i
-    c.before.before.before.loop-test.true
-    (ap (taken (layout_of img) img) (sym c.before.before.new.ensures) ∙ sym c.before.is-taken.ensures
-    ∙ c.if1.false)
+    L.loop-i.invariant
+    ∙ lowest-no (taken (layout_of img) img) S.args.shape.slots L.loop-i.i
+    c.loop-i-test.true
+    (ap (taken (layout_of img) img) (sym c.new-at.ensures) ∙ sym c.is_taken.ensures
+    ∙ c.if-is_taken.false)
 
-returns-2 : tie.Need-returns-2 invariant-loop decreases-loop
+returns-2 : tie.Need-returns invariant-loop decreases-loop
 unfolding stop_of
 returns-2 c =
-    let L = c.before in
-    let S = L.before.before in
+    let L = c in
+    let S = c in
     let img = S.args.image.now in
-    walk_end (layout_of img) img (next_taken (layout_of img) img S.args.from) S.args.shape.slots L.loop.i
-    L.loop.invariant
-    c.loop-test.false
+    walk_end (layout_of img) img (next_taken (layout_of img) img S.args.from) S.args.shape.slots L.loop-i.i
+    L.loop-i.invariant
+    c.loop-i-test.false
 
-pub lowest-taken-spec : {M : Type 1} → statement M
-lowest-taken-spec =
+pub lowest_taken_spec : {M : Type 1} → statement M
+lowest_taken_spec =
     tie.close
     (tie.spec
     invariant-loop

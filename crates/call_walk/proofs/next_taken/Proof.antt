@@ -9,36 +9,41 @@ use borrow.Author.Rules.{rules}
 use Rattle.call_walk.proofs.next_taken.Statement.{statement}
 use Rattle.call_walk.proofs.next_taken.Tie as tie
 
-open-number-requires : tie.Need-open-number-requires
+open-number-requires : tie.Need-open_number-number-requires
 open-number-requires c κs = search rules
 
-returns : tie.Need-returns
+returns : tie.Need-returns-then-number-ne0
 unfolding stop_of
 returns c =
-    let A = c.before.before.before.args in
-    walk-closed A.image.now A.from c.before.open-number.result c.before.open-number.ensures
-    c.if1.true
+    let A = c.args in
+    walk-closed A.image.now A.from c.open_number-number.result c.open_number-number.ensures
+    c.if-number-ne0.true
 
-read-shape-requires : tie.Need-read-shape-requires
+read-shape-requires : tie.Need-read_shape-requires
 read-shape-requires c κs =
-    sym c.before.open-number.ensures ∙ c.if1.false
+    sym c.open_number-number.ensures ∙ c.if-number-ne0.false
 
-lowest-taken-requires : tie.Need-lowest-taken-requires
+lowest-taken-requires : tie.Need-lowest_taken-requires
 lowest-taken-requires c κs =
     record {
-      accepted = sym c.before.before.open-number.ensures
-          ∙ c.before.if1.false;
-      shape = c.read-shape.ensures;
+      accepted = sym c.open_number-number.ensures
+          ∙ c.if-number-ne0.false;
+      shape = c.read_shape.ensures;
     }
 
-returns-2 : tie.Need-returns-2
+returns-2 : tie.Need-returns
 returns-2 c =
-    let A = c.before.before.before.before.before.args in
-    c.lowest-taken.ensures
+    let A = c.args in
+    c.lowest_taken.ensures
     ∙ walk-open A.image.now A.from
-    (sym c.before.before.before.open-number.ensures ∙ c.before.before.if1.false)
+    (sym c.open_number-number.ensures ∙ c.if-number-ne0.false)
 
-pub next-taken-spec : {M : Type 1} → statement M
-next-taken-spec =
+pub next_taken_spec : {M : Type 1} → statement M
+next_taken_spec =
     tie.close
-    (tie.spec open-number-requires returns read-shape-requires lowest-taken-requires returns-2)
+    (tie.spec
+    open-number-requires
+    returns
+    read-shape-requires
+    lowest-taken-requires
+    returns-2)

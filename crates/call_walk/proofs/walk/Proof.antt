@@ -13,34 +13,34 @@ use borrow.Author.Rules.{rules}
 use Rattle.call_walk.proofs.walk.Statement.{statement}
 use Rattle.call_walk.proofs.walk.Tie as tie
 
-next-taken-requires : tie.Need-next-taken-requires
+next-taken-requires : tie.Need-next_taken-stop-requires
 next-taken-requires c κs = search rules
 
-enum-known-stop : tie.Need-enum-known-stop
+enum-known-stop : tie.Need-enum_known-stop
 enum-known-stop c = search rules
 
-slice-aggregate-result : tie.Need-slice-aggregate-result
+slice-aggregate-result : tie.Need-slice_bounds-result-end
 slice-aggregate-result c = search rules
 
-enum-known-stop-2 : tie.Need-enum-known-stop-2
+enum-known-stop-2 : tie.Need-enum_known-stop-in-At-1
 enum-known-stop-2 c = search rules
 
 number-requires : tie.Need-number-requires
 number-requires c κs = search rules
 
-abbrev start-at-stop2 : tie.After-stop2 → tie.Start
+abbrev start-at-stop2 : tie.In-At-2 → tie.Start
 start-at-stop2 c = c.before.before.before.before
 
 -- where the code stops, the walk does
-stops : (c : tie.After-stop2)
+stops : (c : tie.In-At-2)
     → let S : tie.Start = start-at-stop2 c in
-    key_walk S.args.image.now S.args.from ≡ stopped c.stop2.given.0.0.0
+    key_walk S.args.image.now S.args.from ≡ stopped c.stop-in-At-1.given.0.0.0
 stops c =
     let A = (start-at-stop2 c).args in
-    let next = c.before.before.next-taken in
-    stopped-is A.image.now A.from next.result next.ensures c.stop2.given.1
+    let next = c.next_taken-stop in
+    stopped-is A.image.now A.from next.result next.ensures c.stop-in-At-1.given.1
 
-cast-slot : tie.Need-overflow-cast-slot
+cast-slot : tie.Need-overflow_cast-slot
 cast-slot c =
     let P = c.before.before in
     let A = (start-at-stop2 P).args in
@@ -50,40 +50,40 @@ cast-slot c =
     stopped-slot A.image.now A.from _ w c.number.result c.number.ensures in
     omega (arith, b, f.slots-high)
 
-read-shape-requires : tie.Need-read-shape-requires
+read-shape-requires : tie.Need-read_shape-requires
 read-shape-requires c κs =
     let P = c.before.before in
     let A = (start-at-stop2 P).args in
     let w = stops P in
     stopped-open A.image.now A.from _ w
 
-key-of-requires : tie.Need-key-of-requires
+key-of-requires : tie.Need-key_of-requires
 key-of-requires c κs =
     let P = c.before.before.before in
     let A = (start-at-stop2 P).args in
     let w = stops P in (
-      record { accepted = stopped-open A.image.now A.from _ w; shape = c.read-shape.ensures },
-      subst (λ (n : ℕ). c.before.before.before.stop2.given.0.0.0 < n)
-          (layout-slots A.image.now c.read-shape.result c.read-shape.ensures)
+      record { accepted = stopped-open A.image.now A.from _ w; shape = c.read_shape.ensures },
+      subst (λ (n : ℕ). c.stop-in-At-1.given.0.0.0 < n)
+          (layout-slots A.image.now c.read_shape.result c.read_shape.ensures)
           (stopped-below A.image.now A.from _ w),
     )
 
-enum_told : tie.Need-enum-told
+enum_told : tie.Need-enum_told-1
 enum_told c = search rules
 
-slice-aggregate-result-2 : tie.Need-slice-aggregate-result-2
+slice-aggregate-result-2 : tie.Need-slice_bounds-result-end-in-End
 slice-aggregate-result-2 c = search rules
 
-returns : tie.Need-returns
+returns : tie.Need-returns-in-Refused
 returns c =
-    let F = c.before.before.before.before in
-    let A = F.before.before.args in
+    let F = c in
+    let A = F.args in
     let s = shown-refused A.image.now (key_walk A.image.now A.from) _
-    (refused-is A.image.now A.from F.next-taken.result F.next-taken.ensures
-    c.before.before.stop.given.1) in
+    (refused-is A.image.now A.from F.next_taken-stop.result F.next_taken-stop.ensures
+    c.stop-1.given.1) in
     (s.key, s.number_is, s.slot_is)
 
-returns-2 : tie.Need-returns-2
+returns-2 : tie.Need-returns-in-At
 returns-2 c =
     let P = c.before.before.before.before in
     let A = (start-at-stop2 P).args in
@@ -91,19 +91,19 @@ returns-2 c =
     let s =
     shown-stopped A.image.now (key_walk A.image.now A.from) _ (sym w) c.key_of.result.now
     c.key_of.ensures in
-    (s.key, s.number_is, c.before.before.number.ensures ∙ s.slot_is)
+    (s.key, s.number_is, c.number.ensures ∙ s.slot_is)
 
-returns-3 : tie.Need-returns-3
+returns-3 : tie.Need-returns-in-End
 returns-3 c =
-    let F = c.before.before.before in
-    let A = F.before.before.args in
+    let F = c in
+    let A = F.args in
     let s = shown-end A.image.now (key_walk A.image.now A.from)
-    (end_is A.image.now A.from F.next-taken.result F.next-taken.ensures
-    c.before.enum_told.given.1) in
+    (end_is A.image.now A.from F.next_taken-stop.result F.next_taken-stop.ensures
+    c.enum_told-1.given.1) in
     (s.key, s.number_is, s.slot_is)
 
-pub walk-spec : {M : Type 1} → statement M
-walk-spec =
+pub walk_spec : {M : Type 1} → statement M
+walk_spec =
     tie.close
     (tie.spec
     next-taken-requires

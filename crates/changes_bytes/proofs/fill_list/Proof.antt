@@ -22,30 +22,36 @@ is-old : (W : tie.After-whole)
     before W.whole.result S.args.old.now S.args.new.now ≡ S.args.old.now
 is-old W =
     let S = start W in
-    before-whole W.whole.result S.args.old.now S.args.new.now S.pre.0 W.whole.ensures
+    before-whole W.whole.result S.args.old.now S.args.new.now S.requires.0 W.whole.ensures
 
-fill-list-within-requires : tie.Need-fill-list-within-requires
+fill-list-within-requires : tie.Need-fill_list_within-requires
 fill-list-within-requires c κs =
     let S = start c in (
-      kept_whole _ _ _ S.pre.0 c.whole.ensures,
-      omega (arith, S.pre.0, S.pre.1),
-      S.pre.2,
+      kept_whole _ _ _ S.requires.0 c.whole.ensures,
+      omega (arith, S.requires.0, S.requires.1),
+      S.requires.2,
     )
 
-same_length : tie.Need-same-length
+same_length : tie.Need-shape_of-list
 same_length c = search rules
 
 returns : tie.Need-returns
 returns c =
-    let C = c.before.before in
-    let W = C.before in
+    let C = c in
+    let W = c.before.before.before in
     let S = start W in
     let list = S.args.list.now in
     let new = S.args.new.now in (
-      C.fill-list-within.ensures.0 ∙ ap (λ (b : Bytes). length (changes_in (length list) b new)) (is-old W),
-      C.fill-list-within.ensures.1
+      C.fill_list_within.ensures.0 ∙ ap (λ (b : Bytes). length (changes_in (length list) b new)) (is-old W),
+      C.fill_list_within.ensures.1
           ∙ ap (λ (b : Bytes). store list 0 (pair_bytes (changes_in (length list) b new))) (is-old W),
     )
 
-pub fill-list-spec : {M : Type 1} → statement M
-fill-list-spec = tie.close (tie.spec whole-requires fill-list-within-requires same_length returns)
+pub fill_list_spec : {M : Type 1} → statement M
+fill_list_spec =
+    tie.close
+    (tie.spec
+    whole-requires
+    fill-list-within-requires
+    same_length
+    returns)

@@ -13,18 +13,23 @@ use Rattle.changes_bytes.proofs.measure.Tie as tie
 whole-requires : tie.Need-whole-requires
 whole-requires c κs = search rules
 
-measure-within-requires : tie.Need-measure-within-requires
-measure-within-requires c κs = kept_whole _ _ _ c.before.before.before.requires c.whole.ensures
+measure-within-requires : tie.Need-measure_within-requires
+measure-within-requires c κs = kept_whole _ _ _ c.requires c.whole.ensures
 
 returns : tie.Need-returns
 returns c =
-    let W = c.before in
-    let S = W.before.before.before in
-    let r = c.measure-within.result in
+    let W = c in
+    let S = c in
+    let r = c.measure_within.result in
     subst (λ (n : ℕ). Measured (runs 0 S.args.old.now S.args.new.now) n r.pairs r.bytes) (sym S.requires)
     (subst (λ (b : Bytes). Measured (runs 0 b S.args.new.now) (length S.args.new.now) r.pairs r.bytes)
     (before-whole W.whole.result S.args.old.now S.args.new.now S.requires W.whole.ensures)
-    c.measure-within.ensures)
+    c.measure_within.ensures)
 
-pub measure-spec : {M : Type 1} → statement M
-measure-spec = tie.close (tie.spec whole-requires measure-within-requires returns)
+pub measure_spec : {M : Type 1} → statement M
+measure_spec =
+    tie.close
+    (tie.spec
+    whole-requires
+    measure-within-requires
+    returns)

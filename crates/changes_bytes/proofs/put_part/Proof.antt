@@ -10,40 +10,40 @@ use Rattle.law_file.proofs.Stores.{store-lent}
 use Rattle.changes_bytes.proofs.put_part.Statement.{statement}
 use Rattle.changes_bytes.proofs.put_part.Tie as tie
 
-sub-stop : tie.Need-overflow-sub-stop
+sub-stop : tie.Need-overflow_sub-stop
 sub-stop c = search rules
 
-add-stop : tie.Need-overflow-add-stop
+add-stop : tie.Need-overflow_add-stop
 add-stop c = search rules
 
-sub-copy : tie.Need-overflow-sub-copy
+sub-copy : tie.Need-slice_bounds-copy-count
 sub-copy c = search rules
 
-part-copy-start : tie.Need-slice-bounds-copy-start
+part-copy-start : tie.Need-slice_bounds-copy-start
 part-copy-start c = search rules
 
-part-copy-end : tie.Need-slice-bounds-copy-end
+part-copy-end : tie.Need-slice_bounds-copy-end
 part-copy-end c = search rules
 
-sub-copy-2 : tie.Need-overflow-sub-copy-2
+sub-copy-2 : tie.Need-slice_bounds-copy-count-2
 sub-copy-2 c = search rules
 
-part-copy-start-2 : tie.Need-slice-bounds-copy-start-2
+part-copy-start-2 : tie.Need-slice_bounds-copy-start-2
 part-copy-start-2 c = search rules
 
-part-copy-end-2 : tie.Need-slice-bounds-copy-end-2
+part-copy-end-2 : tie.Need-slice_bounds-copy-end-2
 part-copy-end-2 c = search rules
 
 copy-requires : tie.Need-copy-requires
 copy-requires c κs = search rules
 
-same_length : tie.Need-same-length
+same_length : tie.Need-shape_of-out
 same_length c = search rules
 
 returns : tie.Need-returns
 returns c =
-    let C = c.before.before in
-    let S = C.before.before.before.before.before in
+    let C = c in
+    let S = c in
     let A = S.args in
     let size : ℕ = A.end - A.at in
     let is : C.copy.new.0 ≡ part A.new.now A.at size = unfold part in C.copy.ensures in
@@ -53,8 +53,8 @@ returns c =
     ∙ omega arith in
     (store-lent A.out.now A.to stop C.copy.new.0 long ∙ ap (store A.out.now A.to) is, refl)
 
-pub put-part-spec : {M : Type 1} → statement M
-put-part-spec =
+pub put_part_spec : {M : Type 1} → statement M
+put_part_spec =
     tie.close
     (tie.spec
     sub-stop

@@ -23,30 +23,36 @@ is-old : (W : tie.After-whole)
     before W.whole.result S.args.old.now S.args.new.now ≡ S.args.old.now
 is-old W =
     let S = start W in
-    before-whole W.whole.result S.args.old.now S.args.new.now S.pre.0 W.whole.ensures
+    before-whole W.whole.result S.args.old.now S.args.new.now S.requires.0 W.whole.ensures
 
-write-bytes-within-requires : tie.Need-write-bytes-within-requires
+write-bytes-within-requires : tie.Need-write_bytes_within-requires
 write-bytes-within-requires c κs =
     let S = start c in (
-      kept_whole _ _ _ S.pre.0 c.whole.ensures,
+      kept_whole _ _ _ S.requires.0 c.whole.ensures,
       omega (
         arith,
         ap (λ (b : Bytes). length (new_bytes (runs 0 b S.args.new.now) S.args.new.now)) (is-old c),
-        S.pre.1,
+        S.requires.1,
       ),
     )
 
-same_length : tie.Need-same-length
+same_length : tie.Need-shape_of-out
 same_length c = search rules
 
 returns : tie.Need-returns
 returns c =
-    let C = c.before.before in
-    let W = C.before in
+    let C = c in
+    let W = c.before.before.before in
     let S = start W in
     let new = S.args.new.now in
-    C.write-bytes-within.ensures
+    C.write_bytes_within.ensures
     ∙ ap (λ (b : Bytes). store S.args.out.now S.args.place (new_bytes (runs 0 b new) new)) (is-old W)
 
-pub write-bytes-spec : {M : Type 1} → statement M
-write-bytes-spec = tie.close (tie.spec whole-requires write-bytes-within-requires same_length returns)
+pub write_bytes_spec : {M : Type 1} → statement M
+write_bytes_spec =
+    tie.close
+    (tie.spec
+    whole-requires
+    write-bytes-within-requires
+    same_length
+    returns)

@@ -22,31 +22,37 @@ is-old : (W : tie.After-whole)
     before W.whole.result S.args.old.now S.args.new.now ≡ S.args.old.now
 is-old W =
     let S = start W in
-    before-whole W.whole.result S.args.old.now S.args.new.now S.pre.0 W.whole.ensures
+    before-whole W.whole.result S.args.old.now S.args.new.now S.requires.0 W.whole.ensures
 
-write-pairs-within-requires : tie.Need-write-pairs-within-requires
+write-pairs-within-requires : tie.Need-write_pairs_within-requires
 write-pairs-within-requires c κs =
     let S = start c in (
-      kept_whole _ _ _ S.pre.0 c.whole.ensures,
-      omega (arith, S.pre.0, S.pre.1),
+      kept_whole _ _ _ S.requires.0 c.whole.ensures,
+      omega (arith, S.requires.0, S.requires.1),
       omega (
         arith,
         ap (λ (b : Bytes). length (pair_bytes (runs 0 b S.args.new.now))) (is-old c),
-        S.pre.2,
+        S.requires.2,
       ),
     )
 
-same_length : tie.Need-same-length
+same_length : tie.Need-shape_of-list
 same_length c = search rules
 
 returns : tie.Need-returns
 returns c =
-    let C = c.before.before in
-    let W = C.before in
+    let C = c in
+    let W = c.before.before.before in
     let S = start W in
-    C.write-pairs-within.ensures
+    C.write_pairs_within.ensures
     ∙ ap (λ (b : Bytes). store S.args.list.now S.args.place (pair_bytes (runs 0 b S.args.new.now)))
     (is-old W)
 
-pub write-pairs-spec : {M : Type 1} → statement M
-write-pairs-spec = tie.close (tie.spec whole-requires write-pairs-within-requires same_length returns)
+pub write_pairs_spec : {M : Type 1} → statement M
+write_pairs_spec =
+    tie.close
+    (tie.spec
+    whole-requires
+    write-pairs-within-requires
+    same_length
+    returns)

@@ -15,137 +15,137 @@ use Rattle.changes_calls.proofs.add_listed.Statement.{statement}
 use Rattle.changes_calls.proofs.add_listed.Tie as tie
 
 -- the function's start, and what the call is, from where 16 has been asked
-abbrev start : tie.After-slices-allowed → tie.Start
+abbrev start : tie.After-slices_allowed → tie.Start
 start A = A.before.before.before.before.before.before
 
 abbrev call : tie.Start → Bytes → Outcome Bytes
 call S img = add img S.args.key.now S.args.bytes.now S.args.mode
 
 -- 16 is answered no
-fits : (E : tie.Else1)
+fits : (E : tie.Else-not-slices_allowed)
     → let S : tie.Start = start E.before in
     (list_allowed (length S.args.list.now)
     && work_allowed (length S.args.image.now) (length S.args.work.now))
     ≡ true
-fits E = was-yes E.before.slices-allowed.ensures E.if1.false
+fits E = was-yes E.slices_allowed.ensures E.if-not-slices_allowed.false
 
-roomy : (E : tie.Else1)
+roomy : (E : tie.Else-not-slices_allowed)
     → let S : tie.Start = start E.before in
     length S.args.image.now ≤ length S.args.work.now
 roomy E = let S = start E.before in allowed-work _ _ (length S.args.list.now) (fits E)
 
-slices-allowed-requires : tie.Need-slices-allowed-requires
+slices-allowed-requires : tie.Need-slices_allowed-requires
 slices-allowed-requires c κs = search rules
 
-returns : tie.Need-returns
+returns : tie.Need-returns-then-not-slices_allowed
 returns c =
     let A = c.before in
     let S = start A in
     lists-16 (call S) S.args.image.now (length S.args.work.now) S.args.list.now
-    (was-no A.slices-allowed.ensures c.if1.true)
+    (was-no A.slices_allowed.ensures c.if-not-slices_allowed.true)
 
-of-add-requires : tie.Need-of-add-requires
+of-add-requires : tie.Need-of_add-windows-requires
 of-add-requires c κs = search rules
 
 keep-requires : tie.Need-keep-requires
 keep-requires c κs =
-    let W = c.before.before in
-    record { sorted = W.of-add.ensures.0; roomy = roomy W.before.before }
+    let W = c in
+    record { sorted = W.of_add-windows.ensures.0; roomy = roomy c.before.before }
 
-add-requires : tie.Need-add-requires
+add-requires : tie.Need-add-number-requires
 add-requires c κs = search rules
 
-same_length : tie.Need-same-length
+same_length : tie.Need-shape_of-image-then-number-ne0
 same_length c = search rules
 
-same-length-2 : tie.Need-same-length-2
+same-length-2 : tie.Need-shape_of-work-then-number-ne0
 same-length-2 c = search rules
 
 -- from the call's return back to where the windows were kept, found, and 16 was answered no
-abbrev kept : tie.After-add → tie.After-keep
+abbrev kept : tie.After-add-number → tie.After-keep
 kept D = D.before.before.before.before
 
-abbrev found : tie.After-add → tie.After-of-add
-found D = (kept D).before.before.before
+abbrev found : tie.After-add-number → tie.After-of_add-windows
+found D = D.before.before.before.before.before.before
 
-abbrev asked : tie.After-add → tie.Else1
-asked D = (found D).before.before
+abbrev asked : tie.After-add-number → tie.Else-not-slices_allowed
+asked D = D.before.before.before.before.before.before.before
 
 -- where the call was accepted, the working slice and the new image tell the old one
-abbrev done : tie.Else2 → tie.After-add
+abbrev done : tie.Else-number-ne0 → tie.After-add-number
 done E = E.before.before.before
 
-accepted : (E : tie.Else2)
+accepted : (E : tie.Else-number-ne0)
     → let S : tie.Start = start (asked (done E)).before in
     (call S S.args.image.now).answer.number ≡ 0
-accepted E = sym (done E).add.ensures.0 ∙ E.if2.false
+accepted E = sym (done E).add-number.ensures.0 ∙ E.if-number-ne0.false
 
-held : (E : tie.Else2)
-    → let D : tie.After-add = done E in
-    before (found D).of-add.result (kept D).keep.last.0 D.add.last.0
+held : (E : tie.Else-number-ne0)
+    → let D : tie.After-add-number = done E in
+    before (found D).of_add-windows.result (kept D).keep.last.0 D.add-number.last.0
     ≡ (start (asked D).before).args.image.now
 held E =
     let D = done E in
     let S = start (asked D).before in
-    let w = (found D).of-add in
-    windows-hold (call S) S.args.image.now S.args.work.now D.add.last.0 (kept D).keep.last.0
-    w.result w.ensures.0 w.ensures.1 (roomy (asked D)) (accepted E) D.add.ensures.1 D.add.kept.0
+    let w = (found D).of_add-windows in
+    windows-hold (call S) S.args.image.now S.args.work.now D.add-number.last.0 (kept D).keep.last.0
+    w.result w.ensures.0 w.ensures.1 (roomy (asked D)) (accepted E) D.add-number.ensures.1 D.add-number.kept.0
     (kept D).keep.ensures
 
-returns-2 : tie.Need-returns-2
+returns-2 : tie.Need-returns-then-number-ne0
 returns-2 c =
     let D = c.before.before.before in
     let S = start (asked D).before in
     lists-refused (call S) S.args.image.now (length S.args.work.now) S.args.list.now (fits (asked D))
-    D.add.result D.add.new.0 D.add.ensures.0 c.if2.true
-    (D.add.ensures.1
+    D.add-number.result D.add-number.new.0 D.add-number.ensures.0 c.if-number-ne0.true
+    (D.add-number.ensures.1
     ∙ add-leaves S.args.image.now S.args.key.now S.args.bytes.now S.args.mode
-    (λ h. c.if2.true (D.add.ensures.0 ∙ h)))
+    (λ h. c.if-number-ne0.true (D.add-number.ensures.0 ∙ h)))
 
-fill-list-within-requires : tie.Need-fill-list-within-requires
+fill-list-within-requires : tie.Need-fill_list_within-requires
 fill-list-within-requires c κs =
-    let E = c.before.before.before in
+    let E = c.before in
     let D = done E in
     let S = start (asked D).before in
-    let w = (found D).of-add in (
+    let w = (found D).of_add-windows in (
       record {
-        sorted = subst (λ (n : ℕ). Sorted w.result n) (sym D.add.kept.0) w.ensures.0;
-        roomy = omega (arith, D.add.kept.0, (kept D).keep.kept.0, roomy (asked D));
+        sorted = subst (λ (n : ℕ). Sorted w.result n) (sym D.add-number.kept.0) w.ensures.0;
+        roomy = omega (arith, D.add-number.kept.0, (kept D).keep.kept.0, roomy (asked D));
       },
       omega (
         arith,
-        D.add.kept.0,
+        D.add-number.kept.0,
         add_small S.args.image.now S.args.key.now S.args.bytes.now S.args.mode (accepted E),
       ),
       allowed-list _ _ (length S.args.list.now) (fits (asked D)),
     )
 
-same-length-3 : tie.Need-same-length-3
+same-length-3 : tie.Need-shape_of-image
 same-length-3 c = search rules
 
-same-length-4 : tie.Need-same-length-4
+same-length-4 : tie.Need-shape_of-work
 same-length-4 c = search rules
 
-same-length-5 : tie.Need-same-length-5
+same-length-5 : tie.Need-shape_of-list
 same-length-5 c = search rules
 
-returns-3 : tie.Need-returns-3
+returns-3 : tie.Need-returns
 returns-3 c =
-    let F = c.before.before in
-    let E = F.before.before.before.before in
+    let F = c in
+    let E = c.before.before.before.before in
     let D = done E in
     let S = start (asked D).before in
     let list = S.args.list.now in
-    let new = D.add.last.0 in
+    let new = D.add-number.last.0 in
     lists-done (call S) S.args.image.now (length S.args.work.now) list (fits (asked D))
-    new F.fill-list-within.new.0 F.fill-list-within.result (accepted E) D.add.ensures.1
-    (sym D.add.kept.0)
-    (F.fill-list-within.ensures.0 ∙ ap (λ (t : Bytes). length (changes_in (length list) t new)) (held E))
-    (F.fill-list-within.ensures.1
+    new F.fill_list_within.new.0 F.fill_list_within.result (accepted E) D.add-number.ensures.1
+    (sym D.add-number.kept.0)
+    (F.fill_list_within.ensures.0 ∙ ap (λ (t : Bytes). length (changes_in (length list) t new)) (held E))
+    (F.fill_list_within.ensures.1
     ∙ ap (λ (t : Bytes). store list 0 (pair_bytes (changes_in (length list) t new))) (held E))
 
-pub add-listed-spec : {M : Type 1} → statement M
-add-listed-spec =
+pub add_listed_spec : {M : Type 1} → statement M
+add_listed_spec =
     tie.close
     (tie.spec
     slices-allowed-requires

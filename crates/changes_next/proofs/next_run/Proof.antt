@@ -8,45 +8,45 @@ use Rattle.changes_next.proofs.Steps.{lesser-low, next-taken}
 use Rattle.changes_next.proofs.next_run.Statement.{statement}
 use Rattle.changes_next.proofs.next_run.Tie as tie
 
-lesser-of-requires : tie.Need-lesser-of-requires
+lesser-of-requires : tie.Need-lesser_of-end-requires
 lesser-of-requires c κs = tt
 
-slice-aggregate-next-within : tie.Need-slice-aggregate-next-within
+slice-aggregate-next-within : tie.Need-slice_bounds-next_within-end
 slice-aggregate-next-within c =
-    let A = c.before.before.before.before.args in
+    let A = c.args in
     sym (length-take-le _ A.old.now
-    (omega (arith, c.before.lesser-of.ensures, (lesser-low (length A.old.now) (length A.new.now)).0)))
+    (omega (arith, c.lesser_of-end.ensures, (lesser-low (length A.old.now) (length A.new.now)).0)))
 
-slice-aggregate-next-within-2 : tie.Need-slice-aggregate-next-within-2
+slice-aggregate-next-within-2 : tie.Need-slice_bounds-next_within-end-2
 slice-aggregate-next-within-2 c =
-    let M = c.before.before in
-    let A = M.before.before.before.args in
+    let M = c in
+    let A = M.args in
     sym (length-take-le _ A.new.now
-    (omega (arith, M.lesser-of.ensures, (lesser-low (length A.old.now) (length A.new.now)).1)))
+    (omega (arith, M.lesser_of-end.ensures, (lesser-low (length A.old.now) (length A.new.now)).1)))
 
-next-within-requires : tie.Need-next-within-requires
+next-within-requires : tie.Need-next_within-run-requires
 next-within-requires c κs =
-    let M = c.before.before in
-    let A = M.before.before.before.args in
+    let M = c in
+    let A = M.args in
     let low = lesser-low (length A.old.now) (length A.new.now) in
-    let end = M.lesser-of.result in
-    length-take-le end A.old.now (omega (arith, M.lesser-of.ensures, low.0))
-    ∙ sym (length-take-le end A.new.now (omega (arith, M.lesser-of.ensures, low.1)))
+    let end = M.lesser_of-end.result in
+    length-take-le end A.old.now (omega (arith, M.lesser_of-end.ensures, low.0))
+    ∙ sym (length-take-le end A.new.now (omega (arith, M.lesser_of-end.ensures, low.1)))
 
 returns : tie.Need-returns
 returns c =
-    let M = c.before.before.before in
-    let A = M.before.before.before.args in
-    let e = next-taken A.from M.lesser-of.result A.old.now A.new.now M.lesser-of.ensures in
+    let M = c in
+    let A = M.args in
+    let e = next-taken A.from M.lesser_of-end.result A.old.now A.new.now M.lesser_of-end.ensures in
     record {
-      place = c.next-within.ensures.0 ∙ ap (λ (r : Pair). r.at) e;
-      many = c.next-within.ensures.1 ∙ ap (λ (r : Pair). r.size) e;
+      place = c.next_within-run.ensures.0 ∙ ap (λ (r : Pair). r.at) e;
+      many = c.next_within-run.ensures.1 ∙ ap (λ (r : Pair). r.size) e;
       before = refl;
       after = refl;
     }
 
-pub next-run-spec : {M : Type 1} → statement M
-next-run-spec =
+pub next_run_spec : {M : Type 1} → statement M
+next_run_spec =
     tie.close
     (tie.spec
     lesser-of-requires

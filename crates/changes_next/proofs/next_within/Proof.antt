@@ -9,62 +9,62 @@ use Rattle.changes_next.proofs.Steps.{next_past, scan-none, scan-some}
 use Rattle.changes_next.proofs.next_within.Statement.{statement}
 use Rattle.changes_next.proofs.next_within.Tie as tie
 
-returns : tie.Need-returns
+returns : tie.Need-returns-then-end-from
 returns c =
-    let S = c.before.before.before in
-    let e = next_past S.args.from S.args.old.now S.args.new.now S.requires c.if1.true in
+    let S = c in
+    let e = next_past S.args.from S.args.old.now S.args.new.now S.requires c.if-end-from.true in
     (sym (ap (λ (r : Pair). r.at) e), sym (ap (λ (r : Pair). r.size) e))
 
-past-blocks-requires : tie.Need-past-blocks-requires
-past-blocks-requires c κs = (c.before.before.before.requires, omega (arith, c.if1.false))
+past-blocks-requires : tie.Need-past_blocks-near-requires
+past-blocks-requires c κs = (c.requires, omega (arith, c.if-end-from.false))
 
-whole-requires : tie.Need-whole-requires
+whole-requires : tie.Need-whole-w-requires
 whole-requires c κs = tt
 
-next-change-requires : tie.Need-next-change-requires
+next-change-requires : tie.Need-next_change-at-requires
 next-change-requires c κs =
-    let P = c.before in
-    let S = P.before.before.before.before in
-    (kept_whole _ _ _ S.requires c.whole.ensures, P.past-blocks.ensures.0)
+    let P = c in
+    let S = c in
+    (kept_whole _ _ _ S.requires c.whole-w.ensures, P.past_blocks-near.ensures.0)
 
-returns-2 : tie.Need-returns-2
+returns-2 : tie.Need-returns-then-end-at
 returns-2 c =
-    let N = c.before in
-    let W = N.before in
-    let P = W.before in
-    let S = P.before.before.before.before in
+    let N = c in
+    let W = c in
+    let P = c in
+    let S = c in
     let e =
-    scan-none S.args.old.now S.args.new.now S.requires W.whole.result W.whole.ensures S.args.from
-    P.past-blocks.result N.next-change.result P.past-blocks.ensures.1 N.next-change.ensures
-    c.if2.true in
+    scan-none S.args.old.now S.args.new.now S.requires W.whole-w.result W.whole-w.ensures S.args.from
+    P.past_blocks-near.result N.next_change-at.result P.past_blocks-near.ensures.1 N.next_change-at.ensures
+    c.if-end-at.true in
     (sym (ap (λ (r : Pair). r.at) e), sym (ap (λ (r : Pair). r.size) e))
 
-run-end-requires : tie.Need-run-end-requires
+run-end-requires : tie.Need-run_end-stop-requires
 run-end-requires c κs =
-    let N = c.before in
-    let W = N.before in
-    let S = W.before.before.before.before.before in
-    let k = kept_whole _ _ _ S.requires W.whole.ensures in
+    let N = c in
+    let W = c in
+    let S = c in
+    let k = kept_whole _ _ _ S.requires W.whole-w.ensures in
     let size = length_before _ _ _ k in
-    (k, omega (arith, c.if2.false), N.next-change.ensures.change (omega (arith, size, c.if2.false)))
+    (k, omega (arith, c.if-end-at.false), N.next_change-at.ensures.change (omega (arith, size, c.if-end-at.false)))
 
-sub-t10 : tie.Need-overflow-sub-t10
-sub-t10 c = omega (arith, c.run-end.ensures.low)
+sub-t10 : tie.Need-overflow_sub-result
+sub-t10 c = omega (arith, c.run_end-stop.ensures.low)
 
-returns-3 : tie.Need-returns-3
+returns-3 : tie.Need-returns
 returns-3 c =
-    let N = c.before.before in
-    let W = N.before in
-    let P = W.before in
-    let S = P.before.before.before.before in
+    let N = c in
+    let W = c in
+    let P = c in
+    let S = c in
     let e =
-    scan-some S.args.old.now S.args.new.now S.requires W.whole.result W.whole.ensures S.args.from
-    P.past-blocks.result N.next-change.result P.past-blocks.ensures.1 N.next-change.ensures
-    c.run-end.result c.run-end.ensures in
+    scan-some S.args.old.now S.args.new.now S.requires W.whole-w.result W.whole-w.ensures S.args.from
+    P.past_blocks-near.result N.next_change-at.result P.past_blocks-near.ensures.1 N.next_change-at.ensures
+    c.run_end-stop.result c.run_end-stop.ensures in
     (sym (ap (λ (r : Pair). r.at) e), sym (ap (λ (r : Pair). r.size) e))
 
-pub next-within-spec : {M : Type 1} → statement M
-next-within-spec =
+pub next_within_spec : {M : Type 1} → statement M
+next_within_spec =
     tie.close
     (tie.spec
     returns

@@ -10,50 +10,50 @@ use Rattle.changes_next.proofs.Steps.{block-passed}
 use Rattle.changes_next.proofs.past_blocks.Statement.{statement}
 use Rattle.changes_next.proofs.past_blocks.Tie as tie
 
-abbrev invariant-loop : tie.invariant-loop
+abbrev invariant-loop : tie.invariant-loop-i
 invariant-loop old new from end i₀ i = (i ≤ length new) × (rest old new from ≡ rest old new i)
 
-abbrev decreases-loop : tie.decreases-loop
+abbrev decreases-loop : tie.decreases-loop-i
 decreases-loop old new from end i₀ i = length new - i
 
-loop-holds : tie.Need-loop-init invariant-loop decreases-loop
-loop-holds c = (c.before.before.requires.1, refl)
+loop-holds : tie.Need-loop-i-init invariant-loop decreases-loop
+loop-holds c = (c.requires.1, refl)
 
-sub-loop : tie.Need-overflow-sub-loop invariant-loop decreases-loop
-sub-loop c = c.loop.invariant.0
+sub-loop : tie.Need-overflow_sub-end invariant-loop decreases-loop
+sub-loop c = c.loop-i.invariant.0
 
-same-block-requires : tie.Need-same-block-requires invariant-loop decreases-loop
+same-block-requires : tie.Need-same_block-requires invariant-loop decreases-loop
 same-block-requires c κs =
-    let l = c.before.before.before.before.requires.0 in
-    (omega (arith, l, c.loop-test.true), omega (arith, c.loop-test.true))
+    let l = c.requires.0 in
+    (omega (arith, l, c.loop-i-test.true), omega (arith, c.loop-i-test.true))
 
-returns : tie.Need-returns invariant-loop decreases-loop
-returns c = c.before.before.before.loop.invariant
+returns : tie.Need-returns-then-not-same_block invariant-loop decreases-loop
+returns c = c.loop-i.invariant
 
-add-i : tie.Need-overflow-add-i invariant-loop decreases-loop
-add-i c = omega (arith, c.before.before.loop-test.true)
+add-i : tie.Need-overflow_add-i invariant-loop decreases-loop
+add-i c = omega (arith, c.loop-i-test.true)
 
-loop-less : tie.Need-loop-smaller invariant-loop decreases-loop
-loop-less c = omega (arith, c.before.before.loop-test.true)
+loop-less : tie.Need-loop-i-smaller invariant-loop decreases-loop
+loop-less c = omega (arith, c.loop-i-test.true)
 
-loop-again : tie.Need-loop-preserved invariant-loop decreases-loop
+loop-again : tie.Need-loop-i-preserved invariant-loop decreases-loop
 loop-again c =
-    let L = c.before.before.before in
-    let S = L.before.before.before in
+    let L = c in
+    let S = c in
     let A = S.args in
     let l = S.requires.0 in (
-      omega (arith, c.before.before.loop-test.true),
-      L.loop.invariant.1
-          ∙ block-passed A.old.now A.new.now L.loop.i 64 l
-          (omega (arith, l, c.before.before.loop-test.true))
-          (was-yes c.before.same_block.ensures c.if1.false),
+      omega (arith, c.loop-i-test.true),
+      L.loop-i.invariant.1
+          ∙ block-passed A.old.now A.new.now L.loop-i.i 64 l
+          (omega (arith, l, c.loop-i-test.true))
+          (was-yes c.same_block.ensures c.if-not-same_block.false),
     )
 
-returns-2 : tie.Need-returns-2 invariant-loop decreases-loop
-returns-2 c = c.before.loop.invariant
+returns-2 : tie.Need-returns invariant-loop decreases-loop
+returns-2 c = c.loop-i.invariant
 
-pub past-blocks-spec : {M : Type 1} → statement M
-past-blocks-spec =
+pub past_blocks_spec : {M : Type 1} → statement M
+past_blocks_spec =
     tie.close
     (tie.spec
     invariant-loop

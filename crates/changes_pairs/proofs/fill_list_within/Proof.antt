@@ -13,79 +13,79 @@ use Rattle.changes_windows.proofs.Scanning.{changes-fit, changes-whole, whole-by
 use Rattle.changes_pairs.proofs.fill_list_within.Statement.{statement}
 use Rattle.changes_pairs.proofs.fill_list_within.Tie as tie
 
-measure-within-requires : tie.Need-measure-within-requires
+measure-within-requires : tie.Need-measure_within-tally-requires
 measure-within-requires c κs = search rules
 
-mul-if1 : tie.Need-overflow-mul-if1
+mul-if1 : tie.Need-overflow_mul-pairs
 mul-if1 c =
-    let S = c.before.before.before.before in
-    omega (arith, c.measure-within.ensures.few, S.requires.1)
+    let S = c in
+    omega (arith, c.measure_within-tally.ensures.few, S.requires.1)
 
-write-pairs-within-requires : tie.Need-write-pairs-within-requires
+write-pairs-within-requires : tie.Need-write_pairs_within-requires
 write-pairs-within-requires c κs =
-    let M = c.before.before in
-    let S = M.before.before.before.before in (
+    let M = c in
+    let S = c in (
       S.requires.0,
       S.requires.1,
       omega (
         arith,
         length-pair_bytes
             (runs 0 (before S.args.w S.args.work.now S.args.new.now) S.args.new.now),
-        M.measure-within.ensures.counted,
-        c.before.if1.true,
+        M.measure_within-tally.ensures.counted,
+        c.if-pairs-list.true,
       ),
     )
 
-cast-result : tie.Need-overflow-cast-result
+cast-result : tie.Need-overflow_cast-result
 cast-result c =
-    let M = c.before.before.before.before.before in
-    omega (arith, M.measure-within.ensures.few, M.before.before.before.before.requires.1)
+    let M = c in
+    omega (arith, M.measure_within-tally.ensures.few, M.requires.1)
 
-same_length : tie.Need-same-length
+same_length : tie.Need-shape_of-list-then-pairs-list
 same_length c = search rules
 
-returns : tie.Need-returns
+returns : tie.Need-returns-then-pairs-list
 returns c =
-    let W = c.before.before in
-    let T = W.before.before in
-    let M = T.before in
-    let S = M.before.before.before.before in
+    let W = c in
+    let T = c in
+    let M = c in
+    let S = c in
     let list = S.args.list.now in
     let old = before S.args.w S.args.work.now S.args.new.now in
     let new = S.args.new.now in
     let fits : changes_in (length list) old new ≡ runs 0 old new =
-    changes-fit (length list) old new (omega (arith, M.measure-within.ensures.counted, T.if1.true)) in (
-      M.measure-within.ensures.counted ∙ ap (λ (l : List Pair). length l) (sym fits),
-      W.write-pairs-within.ensures ∙ ap (λ (l : List Pair). store list 0 (pair_bytes l)) (sym fits),
+    changes-fit (length list) old new (omega (arith, M.measure_within-tally.ensures.counted, T.if-pairs-list.true)) in (
+      M.measure_within-tally.ensures.counted ∙ ap (λ (l : List Pair). length l) (sym fits),
+      W.write_pairs_within.ensures ∙ ap (λ (l : List Pair). store list 0 (pair_bytes l)) (sym fits),
     )
 
-put-pair-requires : tie.Need-put-pair-requires
+put-pair-requires : tie.Need-put_pair-requires
 put-pair-requires c κs =
-    let S = c.before.before.before.before.before.before in
+    let S = c in
     (omega (arith, S.requires.2), omega arith, omega (arith, S.requires.1))
 
-same-length-2 : tie.Need-same-length-2
+same-length-2 : tie.Need-shape_of-list
 same-length-2 c = search rules
 
-returns-2 : tie.Need-returns-2
+returns-2 : tie.Need-returns
 returns-2 c =
-    let P = c.before.before in
-    let T = P.before.before in
-    let M = T.before in
-    let S = M.before.before.before.before in
+    let P = c in
+    let T = c in
+    let M = c in
+    let S = c in
     let list = S.args.list.now in
     let old = before S.args.w S.args.work.now S.args.new.now in
     let new = S.args.new.now in
     let fails : changes_in (length list) old new ≡ whole (length new) =
-    changes-whole (length list) old new (omega (arith, M.measure-within.ensures.counted, T.if1.false)) in (
+    changes-whole (length list) old new (omega (arith, M.measure_within-tally.ensures.counted, T.if-pairs-list.false)) in (
       ap (λ (l : List Pair). length l) (sym fails),
-      P.put-pair.ensures
+      P.put_pair.ensures
           ∙ ap (store list 0) (whole-bytes (length new))
           ∙ ap (λ (l : List Pair). store list 0 (pair_bytes l)) (sym fails),
     )
 
-pub fill-list-within-spec : {M : Type 1} → statement M
-fill-list-within-spec =
+pub fill_list_within_spec : {M : Type 1} → statement M
+fill_list_within_spec =
     tie.close
     (tie.spec
     measure-within-requires

@@ -7,57 +7,57 @@ use borrow.Author.Rules.{rules}
 use Rattle.changes_reach.proofs.of_add.Statement.{statement}
 use Rattle.changes_reach.proofs.of_add.Tie as tie
 
-mode-known-requires : tie.Need-mode-known-requires
+mode-known-requires : tie.Need-mode_known-requires
 mode-known-requires c κs = search rules
 
-seek-requires : tie.Need-seek-requires
+seek-requires : tie.Need-seek-sought-requires
 seek-requires c κs = search rules
 
-enum-known-sought : tie.Need-enum-known-sought
+enum-known-sought : tie.Need-enum_known-sought
 enum-known-sought c = search rules
 
 none-requires : tie.Need-none-requires
 none-requires c κs = search rules
 
-enum-known-sought-2 : tie.Need-enum-known-sought-2
+enum-known-sought-2 : tie.Need-enum_known-sought-in-At-1
 enum-known-sought-2 c = search rules
 
-of-found-requires : tie.Need-of-found-requires
+of-found-requires : tie.Need-of_found-requires
 of-found-requires c κs =
-    let K = c.before.before.before.before in
-    let S = K.before.before.before.before in
-    let k = K.mode-known in
+    let K = c in
+    let S = c in
+    let k = K.mode_known in
     let r =
-    reached-is S.args.image.now S.args.key.now k.result c.before.before.before.seek.ensures
-    c.before.sought2.given.1 in
+    reached-is S.args.image.now S.args.key.now k.result c.seek-sought.ensures
+    c.sought-in-At-1.given.1 in
     (r.opened, r.within)
 
-returns : tie.Need-returns
+returns : tie.Need-returns-in-Refused
 returns c =
-    let K = c.before.before.before.before.before in
-    let A = K.before.before.before.before.args in
+    let K = c in
+    let A = K.args in
     let r =
-    refused-is A.image.now A.key.now K.mode-known.result c.before.before.before.before.seek.ensures
-    c.before.before.sought.given.1 in (
+    refused-is A.image.now A.key.now K.mode_known.result c.seek-sought.ensures
+    c.sought-1.given.1 in (
       c.none.ensures (length A.image.now),
-      add-stopped A.image.now A.key.now A.bytes.now A.mode K.mode-known.result c.none.result
-          K.mode-known.ensures (λ z. r.1 (r.0 ∙ z)),
+      add-stopped A.image.now A.key.now A.bytes.now A.mode K.mode_known.result c.none.result
+          K.mode_known.ensures (λ z. r.1 (r.0 ∙ z)),
     )
 
-returns-2 : tie.Need-returns-2
+returns-2 : tie.Need-returns-in-At
 returns-2 c =
-    let F = c.before in
-    let K = F.before.before.before.before in
-    let A = K.before.before.before.before.args in
+    let F = c in
+    let K = c in
+    let A = K.args in
     let r =
-    reached-is A.image.now A.key.now K.mode-known.result F.before.before.before.seek.ensures
-    F.before.sought2.given.1 in (
-      c.of-found.ensures.0,
-      c.of-found.ensures.1 A.key.now A.bytes.now A.mode (sym r.ended) refl,
+    reached-is A.image.now A.key.now K.mode_known.result F.seek-sought.ensures
+    F.sought-in-At-1.given.1 in (
+      c.of_found.ensures.0,
+      c.of_found.ensures.1 A.key.now A.bytes.now A.mode (sym r.ended) refl,
     )
 
-pub of-add-spec : {M : Type 1} → statement M
-of-add-spec =
+pub of_add_spec : {M : Type 1} → statement M
+of_add_spec =
     tie.close
     (tie.spec
     mode-known-requires

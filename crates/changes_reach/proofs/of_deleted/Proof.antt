@@ -19,39 +19,39 @@ use borrow.Author.Rules.{rules}
 use Rattle.changes_reach.proofs.of_deleted.Statement.{statement}
 use Rattle.changes_reach.proofs.of_deleted.Tie as tie
 
-enum-known-found : tie.Need-enum-known-found
+enum-known-found : tie.Need-enum_known-found
 enum-known-found c = search rules
 
 none-requires : tie.Need-none-requires
 none-requires c κs = search rules
 
-returns : tie.Need-returns
+returns : tie.Need-returns-in_default
 returns c =
-    let A = c.before.before.before.args in (
+    let A = c.args in (
       c.none.ensures (length A.image.now),
       delete-none A.image.now c.none.result (probe_of A.found)
-          (other-met A.found c.before.match.keys2),
+          (other-met A.found c.in_default.keys2),
     )
 
-offset-of-requires : tie.Need-offset-of-requires
+offset-of-requires : tie.Need-offset_of-o-requires
 offset-of-requires c κs =
-    let S = c.before.before.before.before in
-    (S.requires.0, met-within c.before.found.given.1 S.requires.1)
+    let S = c in
+    (S.requires.0, met-within c.found-1.given.1 S.requires.1)
 
-message-sound-requires : tie.Need-message-sound-requires
+message-sound-requires : tie.Need-message_sound-requires
 message-sound-requires c κs = search rules
 
-none-requires-2 : tie.Need-none-requires-2
+none-requires-2 : tie.Need-none-requires-then-not-message_sound
 none-requires-2 c κs = search rules
 
-abbrev start : tie.After-offset-of → tie.Start
+abbrev start : tie.After-offset_of-o → tie.Start
 start O = O.before.before.before.before.before
 
-abbrev slot_of : tie.After-offset-of → ℕ
-slot_of O = O.before.before.found.given.0.0.0
+abbrev slot_of : tie.After-offset_of-o → ℕ
+slot_of O = O.found-1.given.0.0.0
 
 -- of a point that is present, where its message is sound
-present : (O : tie.After-offset-of) (w : Windows)
+present : (O : tie.After-offset_of-o) (w : Windows)
     → let A : tie.Start = start O in
     (message_sound (layout_of A.args.image.now) A.args.image.now (offset_in A.args.image.now (slot_of O))
     ≡ true
@@ -59,47 +59,47 @@ present : (O : tie.After-offset-of) (w : Windows)
     → DeleteOnly A.args.image.now (probe_of A.args.found) w
 present O w h key e =
     let S = start O in
-    let m = O.before.before.found.given in
-    let l = met-within m.1 S.pre.1 in
+    let m = O.found-1.given in
+    let l = met-within m.1 S.requires.1 in
     delete-present S.args.image.now w (slot_of O)
-    (omega (arith, l, layout-slots S.args.image.now S.args.shape S.pre.0.shape))
-    (opened-room S.args.image.now (opened-facts S.args.image.now S.pre.0.accepted))
+    (omega (arith, l, layout-slots S.args.image.now S.args.shape S.requires.0.shape))
+    (opened-room S.args.image.now (opened-facts S.args.image.now S.requires.0.accepted))
     h key (e ∙ met-is m.1)
 
-returns-2 : tie.Need-returns-2
+returns-2 : tie.Need-returns-then-not-message_sound
 returns-2 c =
-    let T = c.before in
-    let O = T.before.before in
+    let T = c in
+    let O = c.before.before.before in
     let S = start O in (
-      c.none2.ensures (length S.args.image.now),
-      present O c.none2.result (λ s. absurd (not-both
+      c.none-then-not-message_sound.ensures (length S.args.image.now),
+      present O c.none-then-not-message_sound.result (λ s. absurd (not-both
           (message_sound (layout_of S.args.image.now) S.args.image.now
           (offset_in S.args.image.now (slot_of O))) s
-          (ap (message_sound (layout_of S.args.image.now) S.args.image.now) (sym O.offset-of.ensures)
-          ∙ was-no T.before.message-sound.ensures T.if1.true))),
+          (ap (message_sound (layout_of S.args.image.now) S.args.image.now) (sym O.offset_of-o.ensures)
+          ∙ was-no T.message_sound.ensures T.if-not-message_sound.true))),
     )
 
-of-walk-requires : tie.Need-of-walk-requires
+of-walk-requires : tie.Need-of_walk-requires
 of-walk-requires c κs =
     let O = c.before.before in
     let S = start O in (
-      S.pre.0,
-      met-within O.before.before.found.given.1 S.pre.1,
-      was-yes c.before.message-sound.ensures c.if1.false,
+      S.requires.0,
+      met-within O.found-1.given.1 S.requires.1,
+      was-yes c.message_sound.ensures c.if-not-message_sound.false,
     )
 
-returns-3 : tie.Need-returns-3
+returns-3 : tie.Need-returns
 returns-3 c =
     let O = c.before.before.before in
     let S = start O in (
-      c.of-walk.ensures.0,
-      present O c.of-walk.result
-          (λ s. subst (λ (a : ℕ). Walk S.args.image.now (slot_of O) a c.of-walk.result) O.offset-of.ensures
-          c.of-walk.ensures.1),
+      c.of_walk.ensures.0,
+      present O c.of_walk.result
+          (λ s. subst (λ (a : ℕ). Walk S.args.image.now (slot_of O) a c.of_walk.result) O.offset_of-o.ensures
+          c.of_walk.ensures.1),
     )
 
-pub of-deleted-spec : {M : Type 1} → statement M
-of-deleted-spec =
+pub of_deleted_spec : {M : Type 1} → statement M
+of_deleted_spec =
     tie.close
     (tie.spec
     enum-known-found

@@ -13,49 +13,49 @@ use borrow.Author.Rules.{rules}
 use Rattle.changes_reach.proofs.of_found.Statement.{statement}
 use Rattle.changes_reach.proofs.of_found.Tie as tie
 
-enum-known-found : tie.Need-enum-known-found
+enum-known-found : tie.Need-enum_known-found
 enum-known-found c = search rules
 
-of-present-requires : tie.Need-of-present-requires
+of-present-requires : tie.Need-of_present-requires
 of-present-requires c κs =
-    let S = c.before.before.before.before in
-    (S.requires.0, met-within c.before.found.given.1 S.requires.1)
+    let S = c in
+    (S.requires.0, met-within c.found-1.given.1 S.requires.1)
 
-enum-known-found-2 : tie.Need-enum-known-found-2
+enum-known-found-2 : tie.Need-enum_known-found-in-Empty-1
 enum-known-found-2 c = search rules
 
 new-requires : tie.Need-new-requires
 new-requires c κs = search rules
 
-of-entry-requires : tie.Need-of-entry-requires
+of-entry-requires : tie.Need-of_entry-requires
 of-entry-requires c κs =
-    let S = c.before.before.before.before.before in
+    let S = c in
     let img = S.args.image.now in (
       S.requires.0,
-      empty-within c.before.before.found2.given.1 S.requires.1,
+      empty-within c.found-in-Empty-1.given.1 S.requires.1,
       ap (message_sound (layout_of img) img) c.new.ensures ∙ none-sound (layout_of img) img,
     )
 
-enum_told : tie.Need-enum-told
+enum_told : tie.Need-enum_told-1
 enum_told c = search rules
 
 none-requires : tie.Need-none-requires
 none-requires c κs = search rules
 
-returns : tie.Need-returns
+returns : tie.Need-returns-in-Met
 returns c =
-    let A = c.before.before.before.before.before.args in
-    let m = c.before.before.found.given in (
-      c.of-present.ensures.0,
-      λ key bytes mode e len. add-present A.image.now A.m c.of-present.result m.0.0.0
-          c.of-present.ensures.1 key bytes mode (e ∙ met-is m.1) len,
+    let A = c.args in
+    let m = c.found-1.given in (
+      c.of_present.ensures.0,
+      λ key bytes mode e len. add-present A.image.now A.m c.of_present.result m.0.0.0
+          c.of_present.ensures.1 key bytes mode (e ∙ met-is m.1) len,
     )
 
-returns-2 : tie.Need-returns-2
+returns-2 : tie.Need-returns-in-Empty
 returns-2 c =
-    let N = c.before in
-    let A = N.before.before.before.before.before.args in
-    let m = N.before.before.found2.given in
+    let N = c in
+    let A = N.args in
+    let m = N.found-in-Empty-1.given in
     let w = c.of_entry.result in (
       c.of_entry.ensures.0,
       λ key bytes mode e len. add-new A.image.now A.m w m.0.0.0
@@ -63,17 +63,17 @@ returns-2 c =
           key bytes mode (e ∙ empty-is m.1) len,
     )
 
-returns-3 : tie.Need-returns-3
+returns-3 : tie.Need-returns-in-Exhausted
 unfolding probe_of
 returns-3 c =
-    let A = c.before.before.before.before.args in (
+    let A = c.args in (
       c.none.ensures (length A.image.now),
       λ key bytes mode e len. add_none A.image.now A.m c.none.result key bytes mode
-          (e ∙ ap probe_of c.before.enum_told.given.1) len,
+          (e ∙ ap probe_of c.enum_told-1.given.1) len,
     )
 
-pub of-found-spec : {M : Type 1} → statement M
-of-found-spec =
+pub of_found_spec : {M : Type 1} → statement M
+of_found_spec =
     tie.close
     (tie.spec
     enum-known-found

@@ -9,5 +9,8 @@ returns : tie.Need-returns
 unfolding list_allowed work_allowed
 returns c = refl
 
-pub slices-allowed-spec : {M : Type 1} → statement M
-slices-allowed-spec = tie.close (tie.spec returns)
+pub slices_allowed_spec : {M : Type 1} → statement M
+slices_allowed_spec =
+    tie.close
+    (tie.spec
+    returns)

@@ -7,31 +7,36 @@ use Rattle.check_entries.proofs.Turns.{ends-false, ends-true}
 use Rattle.check_entries.proofs.entry_sound.Statement.{statement}
 use Rattle.check_entries.proofs.entry_sound.Tie as tie
 
-ends-here-requires : tie.Need-ends-here-requires
+ends-here-requires : tie.Need-ends_here-requires
 ends-here-requires c κs = search rules
 
-returns : tie.Need-returns
+returns : tie.Need-returns-then-not-ends_here
 returns c =
-    let A = c.before.before.before.args in
+    let A = c.args in
     ends-false (layout_of A.image.now) A.image.now A.i.0
-    (was-no c.before.ends-here.ensures c.if1.true)
+    (was-no c.ends_here.ensures c.if-not-ends_here.true)
 
-offset-of-requires : tie.Need-offset-of-requires
+offset-of-requires : tie.Need-offset_of-requires
 offset-of-requires c κs = search rules
 
-message-sound-requires : tie.Need-message-sound-requires
+message-sound-requires : tie.Need-message_sound-requires
 message-sound-requires c κs = search rules
 
-returns-2 : tie.Need-returns-2
+returns-2 : tie.Need-returns
 returns-2 c =
-    let E = c.before.before in
-    let A = E.before.before.before.args in
-    let o = c.before.offset-of in
+    let E = c in
+    let A = E.args in
+    let o = c.offset_of in
     ends-true (layout_of A.image.now) A.image.now A.i.0
-    (was-yes E.before.ends-here.ensures E.if1.false)
-    c.message-sound.result o.result.0 o.ensures c.message-sound.ensures
+    (was-yes E.ends_here.ensures E.if-not-ends_here.false)
+    c.message_sound.result o.result.0 o.ensures c.message_sound.ensures
 
-pub entry-sound-spec : {M : Type 1} → statement M
-entry-sound-spec =
+pub entry_sound_spec : {M : Type 1} → statement M
+entry_sound_spec =
     tie.close
-    (tie.spec ends-here-requires returns offset-of-requires message-sound-requires returns-2)
+    (tie.spec
+    ends-here-requires
+    returns
+    offset-of-requires
+    message-sound-requires
+    returns-2)

@@ -10,83 +10,83 @@ use Rattle.check_entries.proofs.Turns.{Passed, passed_start, passed_on, passed_o
 use Rattle.check_entries.proofs.pass_entries.Statement.{statement}
 use Rattle.check_entries.proofs.pass_entries.Tie as tie
 
-abbrev invariant-loop : tie.invariant-loop
+abbrev invariant-loop : tie.invariant-loop-i
 invariant-loop image shape slots count₀ i₀ count i = Passed (layout_of image) image slots count i
 
-abbrev decreases-loop : tie.decreases-loop
+abbrev decreases-loop : tie.decreases-loop-i
 decreases-loop image shape slots count₀ i₀ count i = slots - i
 
-loop-holds : tie.Need-loop-init invariant-loop decreases-loop
+loop-holds : tie.Need-loop-i-init invariant-loop decreases-loop
 loop-holds c =
-    let A = c.before.args in
+    let A = c.args in
     passed_start (layout_of A.image.now) A.image.now A.shape.slots
 
-new-requires : tie.Need-new-requires invariant-loop decreases-loop
+new-requires : tie.Need-new-at-requires invariant-loop decreases-loop
 new-requires c κs = tt
 
-is-taken-requires : tie.Need-is-taken-requires invariant-loop decreases-loop
+is-taken-requires : tie.Need-is_taken-requires invariant-loop decreases-loop
 is-taken-requires c κs =
-    let S = c.before.before.before.before in
-    (S.requires, omega (arith, c.new.ensures, c.before.loop-test.true))
+    let S = c in
+    (S.requires, omega (arith, c.new-at.ensures, c.loop-i-test.true))
 
-entry-sound-requires : tie.Need-entry-sound-requires invariant-loop decreases-loop
+entry-sound-requires : tie.Need-entry_sound-requires invariant-loop decreases-loop
 entry-sound-requires c κs =
-    let N = c.before.before in
-    (N.before.before.before.before.requires, omega (arith, N.new.ensures, N.before.loop-test.true))
+    let N = c in
+    (N.requires, omega (arith, N.new-at.ensures, N.loop-i-test.true))
 
-returns : tie.Need-returns invariant-loop decreases-loop
+returns : tie.Need-returns-then-not-entry_sound invariant-loop decreases-loop
 returns c =
-    let T = c.before.before in
-    let N = T.before.before in
-    let L = N.before.before in
-    let A = L.before.before.args in
-    passed-fails (layout_of A.image.now) A.image.now A.shape.slots L.loop.count L.loop.i
-    L.loop.invariant
-    N.before.loop-test.true N.new.result.0 N.new.ensures
-    (sym T.before.is-taken.ensures ∙ T.if1.true) (was-no c.before.entry-sound.ensures c.if2.true)
+    let T = c in
+    let N = c in
+    let L = c in
+    let A = L.args in
+    passed-fails (layout_of A.image.now) A.image.now A.shape.slots L.loop-i.count L.loop-i.i
+    L.loop-i.invariant
+    N.loop-i-test.true N.new-at.result.0 N.new-at.ensures
+    (sym T.is_taken.ensures ∙ T.if-is_taken.true) (was-no c.entry_sound.ensures c.if-not-entry_sound.true)
 
-add-count : tie.Need-overflow-add-count invariant-loop decreases-loop
+add-count : tie.Need-overflow_add-count invariant-loop decreases-loop
 add-count c =
-    let L = c.before.before.before.before.before.before in
-    let w = L.loop.invariant in
-    let S = L.before.before in
+    let L = c in
+    let w = L.loop-i.invariant in
+    let S = c in
     omega (arith, w.low, w.few, (header S.args.image.now S.args.shape S.requires).slots-high)
 
-add-i : tie.Need-overflow-add-i invariant-loop decreases-loop
+add-i : tie.Need-overflow_add-i invariant-loop decreases-loop
 add-i c =
-    let L = c.before.before.before.before in
-    let S = L.before.before in
-    omega (arith, L.loop.invariant.low, (header S.args.image.now S.args.shape S.requires).slots-high)
+    let L = c in
+    let S = c in
+    omega (arith, L.loop-i.invariant.low, (header S.args.image.now S.args.shape S.requires).slots-high)
 
-loop-less : tie.Need-loop-smaller invariant-loop decreases-loop
-loop-less c = omega (arith, c.before.before.before.loop-test.true)
+loop-less : tie.Need-loop-i-smaller invariant-loop decreases-loop
+loop-less c = omega (arith, c.loop-i-test.true)
 
-loop-again : tie.Need-loop-preserved invariant-loop decreases-loop
+loop-again : tie.Need-loop-i-preserved invariant-loop decreases-loop
 loop-again c =
-    let N = c.before.before in
-    let L = N.before.before in
-    let A = L.before.before.args in
+    let N = c in
+    let L = c in
+    let A = L.args in
     let img = A.image.now in
     let g = layout_of img in
     let n = A.shape.slots in
-    let l = N.before.loop-test.true in
-    by-either c.if1.branch
-    (λ w. subst (λ (k : ℕ). Passed g img n k (L.loop.i + 1)) (sym w.3)
-    (passed_on g img n L.loop.count L.loop.i L.loop.invariant l N.new.result.0 N.new.ensures
-    (sym c.before.is-taken.ensures ∙ w.0.taken) (was-yes w.1.ensures w.2.left)))
-    (λ w. subst (λ (k : ℕ). Passed g img n k (L.loop.i + 1)) (sym w.1)
-    (passed_over g img n L.loop.count L.loop.i L.loop.invariant l N.new.result.0 N.new.ensures
-    (sym c.before.is-taken.ensures ∙ w.0.left)))
+    let l = N.loop-i-test.true in
+    by-either c.if-is_taken.branch
+    (λ w. subst (λ (k : ℕ). Passed g img n k (L.loop-i.i + 1)) (sym w.3)
+    (passed_on g img n L.loop-i.count L.loop-i.i L.loop-i.invariant l N.new-at.result.0 N.new-at.ensures
+    (sym c.is_taken.ensures ∙ w.0.taken) (was-yes w.1.ensures w.2.left)))
+    (λ w. subst (λ (k : ℕ). Passed g img n k (L.loop-i.i + 1)) (sym w.1)
+    (passed_over g img n L.loop-i.count L.loop-i.i L.loop-i.invariant l N.new-at.result.0 N.new-at.ensures
+    (sym c.is_taken.ensures ∙ w.0.left)))
 
-returns-2 : tie.Need-returns-2 invariant-loop decreases-loop
+returns-2 : tie.Need-returns invariant-loop decreases-loop
 returns-2 c =
-    let L = c.before in
-    let A = L.before.before.args in
-    passed-all (layout_of A.image.now) A.image.now A.shape.slots L.loop.count L.loop.i L.loop.invariant
-    c.loop-test.false
+    let L = c in
+    let A = L.args in
+    passed-all (layout_of A.image.now) A.image.now A.shape.slots L.loop-i.count L.loop-i.i L.loop-i.invariant
+    c.loop-i-test.false
 
-pub pass-entries-spec : {M : Type 1} → statement M
-pass-entries-spec =
+pub pass_entries_spec : {M : Type 1} → statement M
+pass_entries_spec =
     tie.close
     (tie.spec
     invariant-loop

@@ -5,75 +5,75 @@ use Rattle.check_marks.proofs.Claims.{Claiming, claiming-start, claiming-on, cla
 use Rattle.check_marks.proofs.claim.Statement.{statement}
 use Rattle.check_marks.proofs.claim.Tie as tie
 
-abbrev invariant-loop : tie.invariant-loop
+abbrev invariant-loop : tie.invariant-loop-q
 invariant-loop map₀ from to q₀ map q = Claiming map₀ map from to q
 
-abbrev decreases-loop : tie.decreases-loop
+abbrev decreases-loop : tie.decreases-loop-q
 decreases-loop map₀ from to q₀ map q = to - q
 
-loop-holds : tie.Need-loop-init invariant-loop decreases-loop
-loop-holds c = claiming-start _ _ _ c.before.requires.0
+loop-holds : tie.Need-loop-q-init invariant-loop decreases-loop
+loop-holds c = claiming-start _ _ _ c.requires.0
 
-sub-lesser : tie.Need-overflow-sub-lesser invariant-loop decreases-loop
+sub-lesser : tie.Need-overflow_sub-to invariant-loop decreases-loop
 sub-lesser c = omega arith
 
-add-lesser : tie.Need-overflow-add-lesser invariant-loop decreases-loop
+add-lesser : tie.Need-overflow_add-low invariant-loop decreases-loop
 add-lesser c = omega arith
 
-lesser-requires : tie.Need-lesser-requires invariant-loop decreases-loop
+lesser-requires : tie.Need-lesser-high-requires invariant-loop decreases-loop
 lesser-requires c κs = tt
 
-mask-requires : tie.Need-mask-requires invariant-loop decreases-loop
-mask-requires c κs = omega (arith, c.lesser.ensures)
+mask-requires : tie.Need-mask-bits-requires invariant-loop decreases-loop
+mask-requires c κs = omega (arith, c.lesser-high.ensures)
 
-mul-held : tie.Need-overflow-mul-held invariant-loop decreases-loop
+mul-held : tie.Need-offset_bounds-map-cell invariant-loop decreases-loop
 mul-held c = omega arith
 
-slice-read-held : tie.Need-slice-read-held invariant-loop decreases-loop
-slice-read-held c = omega (arith, c.before.before.before.before.loop.invariant.size)
+slice-read-held : tie.Need-bounds-map-cell invariant-loop decreases-loop
+slice-read-held c = omega (arith, c.loop-q.invariant.size)
 
-same_length : tie.Need-same-length invariant-loop decreases-loop
-same_length c = c.before.before.before.before.before.loop.invariant.size
+same_length : tie.Need-shape_of-map-then-held-bits-ne0 invariant-loop decreases-loop
+same_length c = c.loop-q.invariant.size
 
-returns : tie.Need-returns invariant-loop decreases-loop
+returns : tie.Need-returns-then-held-bits-ne0 invariant-loop decreases-loop
 returns c =
-    let L = c.before.before.before.before.before in
-    let S = L.before.before in
-    let M = c.before.before in
-    claiming-met _ _ _ _ L.loop.q L.loop.invariant c.before.before.before.before.loop-test.true S.requires.1
-    M.before.lesser.result M.mask.result M.before.lesser.ensures M.mask.ensures c.if1.true
+    let L = c in
+    let S = c in
+    let M = c in
+    claiming-met _ _ _ _ L.loop-q.q L.loop-q.invariant c.loop-q-test.true S.requires.1
+    M.lesser-high.result M.mask-bits.result M.lesser-high.ensures M.mask-bits.ensures c.if-held-bits-ne0.true
 
-mul-map : tie.Need-overflow-mul-map invariant-loop decreases-loop
+mul-map : tie.Need-offset_bounds-map-cell-in-loop-q invariant-loop decreases-loop
 mul-map c = omega arith
 
-slice-write-map : tie.Need-slice-write-map invariant-loop decreases-loop
-slice-write-map c = omega (arith, c.before.before.before.before.before.loop.invariant.size)
+slice-write-map : tie.Need-bounds-map-cell-in-loop-q invariant-loop decreases-loop
+slice-write-map c = omega (arith, c.loop-q.invariant.size)
 
-sub-q : tie.Need-overflow-sub-q invariant-loop decreases-loop
-sub-q c = omega (arith, c.before.before.before.lesser.ensures)
+sub-q : tie.Need-overflow_sub-q invariant-loop decreases-loop
+sub-q c = omega (arith, c.lesser-high.ensures)
 
-add-q : tie.Need-overflow-add-q invariant-loop decreases-loop
-add-q c = omega (arith, c.before.before.before.lesser.ensures)
+add-q : tie.Need-overflow_add-q invariant-loop decreases-loop
+add-q c = omega (arith, c.lesser-high.ensures)
 
-loop-less : tie.Need-loop-smaller invariant-loop decreases-loop
-loop-less c = omega (arith, c.before.before.before.lesser.ensures)
+loop-less : tie.Need-loop-q-smaller invariant-loop decreases-loop
+loop-less c = omega (arith, c.lesser-high.ensures)
 
-loop-again : tie.Need-loop-preserved invariant-loop decreases-loop
+loop-again : tie.Need-loop-q-preserved invariant-loop decreases-loop
 loop-again c =
-    let L = c.before.before.before.before.before in
-    let S = L.before.before in
-    let M = c.before.before in
-    claiming-on _ _ _ _ L.loop.q L.loop.invariant c.before.before.before.before.loop-test.true S.requires.1
-    M.before.lesser.result M.mask.result M.before.lesser.ensures M.mask.ensures c.if1.false
+    let L = c in
+    let S = c in
+    let M = c in
+    claiming-on _ _ _ _ L.loop-q.q L.loop-q.invariant c.loop-q-test.true S.requires.1
+    M.lesser-high.result M.mask-bits.result M.lesser-high.ensures M.mask-bits.ensures c.if-held-bits-ne0.false
 
-same-length-2 : tie.Need-same-length-2 invariant-loop decreases-loop
-same-length-2 c = c.before.loop.invariant.size
+same-length-2 : tie.Need-shape_of-map invariant-loop decreases-loop
+same-length-2 c = c.loop-q.invariant.size
 
-returns-2 : tie.Need-returns-2 invariant-loop decreases-loop
-returns-2 c = claiming-end _ _ _ _ c.before.loop.q c.before.loop.invariant c.loop-test.false
+returns-2 : tie.Need-returns invariant-loop decreases-loop
+returns-2 c = claiming-end _ _ _ _ c.loop-q.q c.loop-q.invariant c.loop-q-test.false
 
-pub claim-spec : {M : Type 1} → statement M
-claim-spec =
+pub claim_spec : {M : Type 1} → statement M
+claim_spec =
     tie.close
     (tie.spec
     invariant-loop

@@ -6,21 +6,21 @@ use borrow.Author.Rules.{rules}
 use Rattle.check_order.proofs.first_width.Statement.{statement}
 use Rattle.check_order.proofs.first_width.Tie as tie
 
-sub-result : tie.Need-overflow-sub-result
+sub-result : tie.Need-overflow_sub-result
 sub-result c = search rules
 
-div-result : tie.Need-nonzero-div-result
+div-result : tie.Need-nonzero_div-result-2
 div-result c = search rules
 
-add-result : tie.Need-overflow-add-result
+add-result : tie.Need-overflow_add-result
 add-result c =
     let S = c in
     omega (arith, div-le_self S.args.points (S.args.room - S.args.room / 8), S.requires.1)
 
-div-result-2 : tie.Need-nonzero-div-result-2
+div-result-2 : tie.Need-nonzero_div-result-3
 div-result-2 c = search rules
 
-add-result-2 : tie.Need-overflow-add-result-2
+add-result-2 : tie.Need-overflow_add-result-2
 add-result-2 c =
     let A = c.args in
     omega (arith, div-le_self A.span (A.points / (A.room - A.room / 8) + 1), c.requires.0)
@@ -30,6 +30,13 @@ returns c =
     let A = c.args in
     (omega arith, omega (arith, div-le_self A.span (A.points / (A.room - A.room / 8) + 1), c.requires.0))
 
-pub first-width-spec : {M : Type 1} → statement M
-first-width-spec =
-    tie.close (tie.spec sub-result div-result add-result div-result-2 add-result-2 returns)
+pub first_width_spec : {M : Type 1} → statement M
+first_width_spec =
+    tie.close
+    (tie.spec
+    sub-result
+    div-result
+    add-result
+    div-result-2
+    add-result-2
+    returns)

@@ -11,33 +11,39 @@ use borrow.Author.Rules.{rules}
 use Rattle.check_overlap.proofs.seen_apart.Statement.{statement}
 use Rattle.check_overlap.proofs.seen_apart.Tie as tie
 
-returns : tie.Need-returns
+returns : tie.Need-returns-then-bound-shape
 returns c e = absurd (not-both false e refl)
 
 -- the bound, which is not below the number of slots
-every : (c : tie.Else1)
-    → let A = c.before.before.before.before.args in A.bound ≡ A.shape.slots
+every : (c : tie.Else-bound-shape)
+    → let A = c.args in A.bound ≡ A.shape.slots
 every c =
-    let S = c.before.before.before.before in
-    omega (arith, c.if1.false, S.requires.0.low)
+    let S = c in
+    omega (arith, c.if-bound-shape.false, S.requires.0.low)
 
-none-meet-requires : tie.Need-none-meet-requires
+none-meet-requires : tie.Need-none_meet-requires
 none-meet-requires c κs =
-    let S = c.before.before.before.before.before in
+    let S = c in
     let A = S.args in
     let e : A.bound ≡ A.shape.slots = every c.before in
     (subst (Checked A.image.now A.shape) e S.requires.0, S.requires.1, S.requires.2)
 
-same_length : tie.Need-same-length
+same_length : tie.Need-shape_of-room
 same_length c = search rules
 
-returns-2 : tie.Need-returns-2
+returns-2 : tie.Need-returns
 returns-2 c e =
-    let P = c.before.before in
-    let E = P.before.before in
-    let A = E.before.before.before.before.args in
+    let P = c in
+    let E = c.before.before.before.before in
+    let A = E.args in
     let img = A.image.now in
-    subst (λ (n : ℕ). n ≡ first_meeting (layout_of img) img n) (sym (every E)) (sym (P.none-meet.ensures e))
+    subst (λ (n : ℕ). n ≡ first_meeting (layout_of img) img n) (sym (every E)) (sym (P.none_meet.ensures e))
 
-pub seen-apart-spec : {M : Type 1} → statement M
-seen-apart-spec = tie.close (tie.spec returns none-meet-requires same_length returns-2)
+pub seen_apart_spec : {M : Type 1} → statement M
+seen_apart_spec =
+    tie.close
+    (tie.spec
+    returns
+    none-meet-requires
+    same_length
+    returns-2)

@@ -13,68 +13,68 @@ use Rattle.message_write.proofs.Steps.{head-space, inserted-steps}
 use Rattle.columns_absent.proofs.insert_records.Statement.{statement}
 use Rattle.columns_absent.proofs.insert_records.Tie as tie
 
-abbrev start-at-read-u32-arg : tie.After-read-u32-arg → tie.Start
-start-at-read-u32-arg c = c.before.before.before.before
+abbrev start-at-read-u32-arg : tie.After-shared_slice_known-2-1 → tie.Start
+start-at-read-u32-arg c = c.before.before.before
 
-read-u32-requires : tie.Need-read-u32-requires
+read-u32-requires : tie.Need-read_u32-requires
 read-u32-requires c κs = omega (arith, (opened-facts _ (start-at-read-u32-arg c).requires.0.accepted).size_low)
 
-cast-new : tie.Need-overflow-cast-new
+cast-new : tie.Need-overflow_cast-read_u32
 cast-new c = search rules
 
-new-requires : tie.Need-new-requires
+new-requires : tie.Need-new-free-requires
 new-requires c κs = search rules
 
-place-records-requires : tie.Need-place-records-requires
+place-records-requires : tie.Need-place_records-requires
 place-records-requires c κs = search rules
 
-abbrev new-at-place : tie.After-place-records → tie.After-new
+abbrev new-at-place : tie.After-place_records → tie.After-new-free
 new-at-place c = c.before.before
 
-abbrev start-at-new : tie.After-new → tie.Start
-start-at-new c = c.before.before.before.before.before.before
+abbrev start-at-new : tie.After-new-free → tie.Start
+start-at-new c = c.before.before.before.before.before
 
-abbrev start-at-place : tie.After-place-records → tie.Start
-start-at-place c = start-at-new (new-at-place c)
+abbrev start-at-place : tie.After-place_records → tie.Start
+start-at-place c = c.before.before.before.before.before.before.before
 
 -- with the columns placed
-head : (c : tie.After-place-records) → SameHead (start-at-place c).args.image.now c.place-records.new.0
+head : (c : tie.After-place_records) → SameHead (start-at-place c).args.image.now c.place_records.new.0
 head c =
     let S = start-at-place c in
     let A = S.args in
-    head-space S.pre.0 c.place-records.new.0 (columns A.width A.records.now)
-    (omega (arith, length-stored A.width A.records.now S.pre.4, S.pre.3.room)) c.place-records.ensures
+    head-space S.requires.0 c.place_records.new.0 (columns A.width A.records.now)
+    (omega (arith, length-stored A.width A.records.now S.requires.4, S.requires.3.room)) c.place_records.ensures
 
-free : (c : tie.After-new) → c.new.result.0 ≡ field (start-at-new c).args.image.now free_field
-free c = c.new.ensures ∙ c.before.read_u32.ensures
+free : (c : tie.After-new-free) → c.new-free.result.0 ≡ field (start-at-new c).args.image.now free_field
+free c = c.new-free.ensures ∙ c.read_u32.ensures
 
 enter-requires : tie.Need-enter-requires
 enter-requires c κs =
     let P = c.before.before.before in
     let S = start-at-place P in
-    let f = opened-facts S.args.image.now S.pre.0.accepted in (
-      same-open (head P) S.pre.0,
-      S.pre.1,
-      S.pre.2,
+    let f = opened-facts S.args.image.now S.requires.0.accepted in (
+      same-open (head P) S.requires.0,
+      S.requires.1,
+      S.requires.2,
       omega (arith, free (new-at-place P), f.free-high, f.size-high),
     )
 
-same_length : tie.Need-same-length
+same_length : tie.Need-shape_of-image
 same_length c = search rules
 
-abbrev place-at-slice-known3 : tie.After-slice-known3 → tie.After-place-records
+abbrev place-at-slice-known3 : tie.After-slice_known-3-1 → tie.After-place_records
 place-at-slice-known3 c = c.before.before.before.before.before.before
 
 returns : tie.Need-returns
 returns c =
     let P = place-at-slice-known3 c in
     let A = (start-at-place P).args in
-    inserted-steps A.image.now P.place-records.last.0 c.before.before.enter.new.0 A.key.now
+    inserted-steps A.image.now P.place_records.last.0 c.enter.new.0 A.key.now
     (columns A.width A.records.now) A.slot.0 _
-    P.place-records.ensures (head P).layout (free (new-at-place P)) c.before.before.enter.ensures
+    P.place_records.ensures (head P).layout (free (new-at-place P)) c.enter.ensures
 
-pub insert-records-spec : {M : Type 1} → statement M
-insert-records-spec =
+pub insert_records_spec : {M : Type 1} → statement M
+insert_records_spec =
     tie.close
     (tie.spec
     read-u32-requires

@@ -43,54 +43,54 @@ refused c p q r e h z = (h ∙ sym (ap (number c) e), sym (settled-no r c.args.i
 long : (c : tie.Start) → length (text c) ≡ 1 + length c.args.records.now
 long c = length-stored c.args.width c.args.records.now c.requires.4
 
-enum-known-found : tie.Need-enum-known-found
+enum-known-found : tie.Need-enum_known-found
 enum-known-found c = search rules
 
-returns : tie.Need-returns
+returns : tie.Need-returns-in_default
 returns c =
     let S = c.before.before.before.before in
-    refused S _ _ 10 (other-empty S.args.found c.match.keys2 S.requires.3)
+    refused S _ _ 10 (other-empty S.args.found c.in_default.keys2 S.requires.3)
     (sym (point-10-exhausted _ _ (text S) 2 refl)) (λ z. omega arith)
 
 -- ---- an empty slot was met
 
-abbrev start-at-found : tie.After-found → tie.Start
+abbrev start-at-found : tie.In-Empty-2 → tie.Start
 start-at-found c = c.before.before.before.before.before
 
-read-u32-requires : tie.Need-read-u32-requires
+read-u32-requires : tie.Need-read_u32-requires
 read-u32-requires c κs =
-    omega (arith, (opened-facts _ (start-at-found c.before.before).requires.0.accepted).size_low)
+    omega (arith, (opened-facts _ (start-at-found c.before).requires.0.accepted).size_low)
 
-cast-if1 : tie.Need-overflow-cast-if1
+cast-if1 : tie.Need-overflow_cast-read_u32
 cast-if1 c = search rules
 
-same_length : tie.Need-same-length
+same_length : tie.Need-shape_of-image-then-slots-read_u32
 same_length c = search rules
 
-returns-2 : tie.Need-returns-2
+returns-2 : tie.Need-returns-then-slots-read_u32
 returns-2 c =
-    let F = c.before.before.before.before in
+    let F = c.before.before.before in
     let S = start-at-found F in
     let img = S.args.image.now in
     let full : (layout_of img).N ≤ field img points_field =
-    omega (arith, c.if1.true, c.before.read_u32.ensures, layout-slots img S.args.shape S.pre.0.shape) in
-    refused S _ _ 10 (empty-is F.found.given.1)
+    omega (arith, c.if-slots-read_u32.true, c.read_u32.ensures, layout-slots img S.args.shape S.requires.0.shape) in
+    refused S _ _ 10 (empty-is F.found-1.given.1)
     (sym (point-10-full (layout_of img) img (text S) 2 _ refl (le-ltb (field img points_field) (layout_of img).N full)))
     (λ z. omega arith)
 
 -- ---- C is below N
 
-abbrev found-at-else1 : tie.Else1 → tie.After-found
-found-at-else1 c = c.before.before.before.before
+abbrev found-at-else1 : tie.Else-slots-read_u32 → tie.In-Empty-2
+found-at-else1 c = c.before.before.before
 
-abbrev start-at-else1 : tie.Else1 → tie.Start
-start-at-else1 c = start-at-found (found-at-else1 c)
+abbrev start-at-else1 : tie.Else-slots-read_u32 → tie.Start
+start-at-else1 c = c.before.before.before.before.before.before.before.before
 
-abbrev slot_at : tie.Else1 → ℕ
-slot_at c = (found-at-else1 c).found.given.0.0.0
+abbrev slot_at : tie.Else-slots-read_u32 → ℕ
+slot_at c = (found-at-else1 c).found-1.given.0.0.0
 
 -- the number is that of 12 and 13
-placing : (c : tie.Else1)
+placing : (c : tie.Else-slots-read_u32)
     → let S : tie.Start = start-at-else1 c in
     let img : Bytes = S.args.image.now in
     number S (empty (slot_at c)) ≡ place_number (layout_of img) img (some (text S))
@@ -99,56 +99,56 @@ placing c =
     let S = start-at-else1 c in
     let img = S.args.image.now in
     let less : field img points_field < (layout_of img).N =
-    omega (arith, c.if1.false, c.before.read_u32.ensures, layout-slots img S.args.shape S.pre.0.shape) in
+    omega (arith, c.if-slots-read_u32.false, c.read_u32.ensures, layout-slots img S.args.shape S.requires.0.shape) in
     point-fresh (layout_of img) img (text S) 2 _ refl (lt-ltb (field img points_field) (layout_of img).N less)
 
-add-room-number : tie.Need-overflow-add-room-number
+add-room-number : tie.Need-overflow_add-records
 add-room-number c = search rules
 
-room-number-requires : tie.Need-room-number-requires
+room-number-requires : tie.Need-room_number-number-requires
 room-number-requires c κs = search rules
 
-same-length-2 : tie.Need-same-length-2
+same-length-2 : tie.Need-shape_of-image-then-number-ne0
 same-length-2 c = search rules
 
-abbrev else1-at-room : tie.After-room-number → tie.Else1
-else1-at-room c = c.before.before
+abbrev else1-at-room : tie.After-room_number-number → tie.Else-slots-read_u32
+else1-at-room c = c.before
 
 -- as the code has asked for it
-asked : (c : tie.After-room-number)
+asked : (c : tie.After-room_number-number)
     → let S : tie.Start = start-at-else1 (else1-at-room c) in
     let img : Bytes = S.args.image.now in
-    c.room-number.result ≡ place_number (layout_of img) img (some (text S))
-asked c = let S = start-at-else1 (else1-at-room c) in c.room-number.ensures (text S) (long S)
+    c.room_number-number.result ≡ place_number (layout_of img) img (some (text S))
+asked c = let S = start-at-else1 (else1-at-room c) in c.room_number-number.ensures (text S) (long S)
 
-returns-3 : tie.Need-returns-3
+returns-3 : tie.Need-returns-then-number-ne0
 returns-3 c =
     let R = c.before in
     let E = else1-at-room R in
-    refused (start-at-else1 E) _ _ R.room-number.result (empty-is (found-at-else1 E).found.given.1)
-    (asked R ∙ sym (placing E)) c.if2.true
+    refused (start-at-else1 E) _ _ R.room_number-number.result (empty-is (found-at-else1 E).found-1.given.1)
+    (asked R ∙ sym (placing E)) c.if-number-ne0.true
 
-insert-records-requires : tie.Need-insert-records-requires
+insert-records-requires : tie.Need-insert_records-requires
 insert-records-requires c κs =
-    let Z = c.before in
-    let R = Z.before in
+    let Z = c in
+    let R = c.before.before in
     let E = else1-at-room R in
     let S = start-at-else1 E in
-    let fits = place-fits S.pre.0 (text S) (sym (asked R) ∙ Z.if2.false) in (
-      S.pre.0,
-      empty-within (found-at-else1 E).found.given.1 S.pre.1,
-      S.pre.2,
+    let fits = place-fits S.requires.0 (text S) (sym (asked R) ∙ Z.if-number-ne0.false) in (
+      S.requires.0,
+      empty-within (found-at-else1 E).found-1.given.1 S.requires.1,
+      S.requires.2,
       record { small = omega (arith, long S, fits.small); room = omega (arith, long S, fits.room) },
-      S.pre.4,
+      S.requires.4,
     )
 
-same-length-3 : tie.Need-same-length-3
+same-length-3 : tie.Need-shape_of-image
 same-length-3 c = search rules
 
-abbrev else2-at-end : tie.After-slice-known2 → tie.Else2
+abbrev else2-at-end : tie.After-slice_known-2-1 → tie.Else-number-ne0
 else2-at-end c = c.before.before.before.before
 
-returns-4 : tie.Need-returns-4
+returns-4 : tie.Need-returns
 unfolding added_at fresh_text
 returns-4 c =
     let Z = else2-at-end c in
@@ -156,15 +156,15 @@ returns-4 c =
     let E = else1-at-room R in
     let S = start-at-else1 E in
     let img = S.args.image.now in
-    let is = empty-is (found-at-else1 E).found.given.1 in (
-      sym Z.if2.left ∙ asked R ∙ sym (ap (number S) is ∙ placing E),
-      c.before.before.insert-records.ensures
+    let is = empty-is (found-at-else1 E).found-1.given.1 in (
+      sym Z.if-number-ne0.left ∙ asked R ∙ sym (ap (number S) is ∙ placing E),
+      c.insert_records.ensures
           ∙ sym (settled-yes 0 img (after S (empty (slot_at E))) refl)
           ∙ ap (settled 0 img) (sym (ap (after S) is)),
     )
 
-pub store-absent-spec : {M : Type 1} → statement M
-store-absent-spec =
+pub store_absent_spec : {M : Type 1} → statement M
+store_absent_spec =
     tie.close
     (tie.spec
     enum-known-found

@@ -15,72 +15,72 @@ use Rattle.columns_fetch.proofs.Filled.{fills-part, fills-short, fills-all}
 use Rattle.columns_fetch.proofs.fill.Statement.{statement}
 use Rattle.columns_fetch.proofs.fill.Tie as tie
 
-whole-columns-requires : tie.Need-whole-columns-requires
+whole-columns-requires : tie.Need-whole_columns-requires
 whole-columns-requires c κs = search rules
 
 refused-requires : tie.Need-refused-requires
 refused-requires c κs = search rules
 
-returns : tie.Need-returns
+returns : tie.Need-returns-then-not-whole_columns
 returns c =
-    let T = c.before in
-    let W = T.before in
-    let A = W.before.before.before.args in
+    let T = c in
+    let W = c in
+    let A = W.args in
     fills-part A.stored.now A.out.now _ _ c.refused.ensures
-    (was-no W.whole-columns.ensures T.if1.true)
+    (was-no W.whole_columns.ensures T.if-not-whole_columns.true)
 
 -- ---- whole columns are stored
 
-abbrev start-at-else1 : tie.Else1 → tie.Start
+abbrev start-at-else1 : tie.Else-not-whole_columns → tie.Start
 start-at-else1 c = c.before.before.before.before
 
-whole : (c : tie.Else1) → whole_columns (start-at-else1 c).args.stored.now ≡ true
-whole c = was-yes c.before.whole-columns.ensures c.if1.false
+whole : (c : tie.Else-not-whole_columns) → whole_columns (start-at-else1 c).args.stored.now ≡ true
+whole c = was-yes c.whole_columns.ensures c.if-not-whole_columns.false
 
-some_stored : (c : tie.Else1) → 1 ≤ length (start-at-else1 c).args.stored.now
+some_stored : (c : tie.Else-not-whole_columns) → 1 ≤ length (start-at-else1 c).args.stored.now
 some_stored c = omega (arith, length-read _ (whole c))
 
-sub-bytes : tie.Need-overflow-sub-bytes
+sub-bytes : tie.Need-overflow_sub-bytes
 sub-bytes c = some_stored c
 
-refused-requires-2 : tie.Need-refused-requires-2
+refused-requires-2 : tie.Need-refused-requires-then-out-bytes
 refused-requires-2 c κs = search rules
 
-returns-2 : tie.Need-returns-2
+returns-2 : tie.Need-returns-then-out-bytes
 returns-2 c =
-    let T = c.before in
-    let A = (start-at-else1 T.before).args in
-    fills-short A.stored.now A.out.now _ _ c.refused2.ensures (whole T.before) T.if2.true
+    let T = c in
+    let A = (start-at-else1 c.before.before).args in
+    fills-short A.stored.now A.out.now _ _ c.refused-then-out-bytes.ensures (whole T.before) T.if-out-bytes.true
 
-sub-read-columns : tie.Need-overflow-sub-read-columns
+sub-read-columns : tie.Need-slice_bounds-read_columns-count
 sub-read-columns c = search rules
 
-part-read-columns-start : tie.Need-slice-bounds-read-columns-start
+part-read-columns-start : tie.Need-slice_bounds-read_columns-start
 part-read-columns-start c = search rules
 
-part-read-columns-end : tie.Need-slice-bounds-read-columns-end
+part-read-columns-end : tie.Need-slice_bounds-read_columns-end
 part-read-columns-end c = search rules
 
-read-columns-requires : tie.Need-read-columns-requires
+read-columns-requires : tie.Need-read_columns-requires
 read-columns-requires c κs =
     let E = c.before.before in
     let A = (start-at-else1 E).args in
     let m = length A.stored.now - 1 - 0 in
     (whole E, omega (arith, length-take-le m A.out.now (omega arith), some_stored E))
 
-same_length : tie.Need-same-length
+same_length : tie.Need-shape_of-out
 same_length c = search rules
 
-abbrev else2-at-slice-known2 : tie.After-slice-known2 → tie.Else2
+abbrev else2-at-slice-known2 : tie.After-slice_known-2-1 → tie.Else-out-bytes
 else2-at-slice-known2 c = c.before.before.before.before
 
-returns-3 : tie.Need-returns-3
+returns-3 : tie.Need-returns
 returns-3 c =
     let E = (else2-at-slice-known2 c).before in
     let A = (start-at-else1 E).args in
     let stored = A.stored.now in
     let out = A.out.now in
-    let R = c.before.before.read-columns in
+    let R = c.read_columns in
     let long = length-read stored (whole E) in
     fills-all stored out (whole E) (omega arith) _
     (store-lent out 0 (length stored - 1) R.new.0 (ap length R.ensures ∙ omega (arith, long))

@@ -47,32 +47,32 @@ inside c =
       high = (head-range c.requires.0).1;
     }
 
-at-requires : tie.Need-at-requires
+at-requires : tie.Need-at-at-requires
 at-requires c κs = search rules
 
-add-old : tie.Need-overflow-add-old
-add-old c = omega (arith, c.at.ensures, inside c.before.before.before)
+add-old : tie.Need-overflow_add-old
+add-old c = omega (arith, c.at-at.ensures, inside c.before.before.before)
 
-abbrev start-at-length-at-arg : tie.After-length-at-arg → tie.Start
-start-at-length-at-arg c = c.before.before.before.before
+abbrev start-at-length-at-arg : tie.After-at-at → tie.Start
+start-at-length-at-arg c = c.before.before.before
 
-length-at-requires : tie.Need-length-at-requires
+length-at-requires : tie.Need-length_at-requires
 length-at-requires c κs =
     let S = start-at-length-at-arg c in
-    (S.pre.0, omega (arith, (inside S).end))
+    (S.requires.0, omega (arith, (inside S).end))
 
-abbrev start-at-length-at : tie.After-length-at → tie.Start
-start-at-length-at c = c.before.before.before.before.before
+abbrev start-at-length-at : tie.After-length_at → tie.Start
+start-at-length-at c = c.before.before.before.before
 
 -- the same of the numbers that the code has read
-ends : (c : tie.After-length-at)
+ends : (c : tie.After-length_at)
     → let A = (start-at-length-at c).args in
-    Inside A.image.now c.before.before.at.result c.length_at.result A.shape.head
+    Inside A.image.now c.at-at.result c.length_at.result A.shape.head
     (1 + length A.records.now)
 ends c =
     let i = inside (start-at-length-at c) in
     let m = c.length_at.ensures in
-    let at = c.before.before.at.ensures in
+    let at = c.at-at.ensures in
     record {
       end = omega (arith, m, at, i.end);
       short = omega (arith, m, i.short);
@@ -82,94 +82,94 @@ ends c =
       high = i.high;
     }
 
-add-old-2 : tie.Need-overflow-add-old-2
+add-old-2 : tie.Need-overflow_add-old-2
 add-old-2 c = omega (arith, ends c)
 
-add-end : tie.Need-overflow-add-end
+add-end : tie.Need-overflow_add-end
 add-end c = omega (arith, ends c)
 
-add-end-2 : tie.Need-overflow-add-end-2
+add-end-2 : tie.Need-overflow_add-end-2
 add-end-2 c = search rules
 
-add-end-3 : tie.Need-overflow-add-end-3
+add-end-3 : tie.Need-overflow_add-end-3
 add-end-3 c = omega (arith, ends c)
 
-sub-write-records : tie.Need-overflow-sub-write-records
+sub-write-records : tie.Need-slice_bounds-write_records-count
 sub-write-records c = search rules
 
-part-write-records-start : tie.Need-slice-bounds-write-records-start
+part-write-records-start : tie.Need-slice_bounds-write_records-start
 part-write-records-start c = search rules
 
-part-write-records-end : tie.Need-slice-bounds-write-records-end
+part-write-records-end : tie.Need-slice_bounds-write_records-end
 part-write-records-end c = omega (arith, ends c)
 
-abbrev start-at-write-records-arg : tie.After-write-records-arg → tie.Start
-start-at-write-records-arg c = c.before.before.before.before.before.before
+abbrev start-at-write-records-arg : tie.After-write_records-arg-1 → tie.Start
+start-at-write-records-arg c = c.before.before.before.before.before
 
-abbrev slice-known-at-write-records-arg : tie.After-write-records-arg → tie.After-slice-known
-slice-known-at-write-records-arg c = c.before.before.before.before.before
+abbrev slice-known-at-write-records-arg : tie.After-write_records-arg-1 → tie.After-slice_known-1
+slice-known-at-write-records-arg c = c.before.before.before.before
 
-write-records-requires : tie.Need-write-records-requires
+write-records-requires : tie.Need-write_records-requires
 write-records-requires c κs =
     let e = ends c.before in
     let S = start-at-write-records-arg c in
     let A = S.args in
-    let at = c.before.before.before.at.result in
+    let at = c.at-at.result in
     let i = inside S in
     let tells =
-    length-tells A.image.now A.shape S.pre.0 A.o.0 (1 + length A.records.now)
-    (λ k. omega (arith, (slice-known-at-write-records-arg c).slice-known.given k)) (omega (arith, i.end))
+    length-tells A.image.now A.shape S.requires.0 A.o.0 (1 + length A.records.now)
+    (λ k. omega (arith, (slice-known-at-write-records-arg c).slice_known-1.given k)) (omega (arith, i.end))
     (omega (arith, i.short))
     in (
       tells,
       mid_len at (at + A.shape.head + (1 + length A.records.now)) A.image.now (omega arith) ∙ omega arith,
-      S.pre.4,
+      S.requires.4,
     )
 
-abbrev length-at-at-slice-known2 : tie.After-slice-known2 → tie.After-length-at
+abbrev length-at-at-slice-known2 : tie.After-slice_known-2-1 → tie.After-length_at
 length-at-at-slice-known2 c = c.before.before.before.before
 
-sub-zero : tie.Need-overflow-sub-zero
+sub-zero : tie.Need-slice_bounds-zero-count
 sub-zero c = omega (arith, ends (length-at-at-slice-known2 c))
 
-part-zero-start : tie.Need-slice-bounds-zero-start
+part-zero-start : tie.Need-slice_bounds-zero-start
 part-zero-start c = omega (arith, ends (length-at-at-slice-known2 c))
 
-part-zero-end : tie.Need-slice-bounds-zero-end
+part-zero-end : tie.Need-slice_bounds-zero-end
 part-zero-end c = omega (arith, ends (length-at-at-slice-known2 c))
 
 zero-requires : tie.Need-zero-requires
 zero-requires c κs = search rules
 
-same_length : tie.Need-same-length
+same_length : tie.Need-shape_of-image
 same_length c = search rules
 
-abbrev write-records-at-slice-known3 : tie.After-slice-known3 → tie.After-write-records
+abbrev write-records-at-slice-known3 : tie.After-slice_known-3-1 → tie.After-write_records
 write-records-at-slice-known3 c = c.before.before.before.before.before.before
 
-abbrev length-at-at-write-records : tie.After-write-records → tie.After-length-at
+abbrev length-at-at-write-records : tie.After-write_records → tie.After-length_at
 length-at-at-write-records c = c.before.before
 
 returns : tie.Need-returns
 returns c =
-    let z = c.before.before.zero in
+    let z = c.zero in
     let P = write-records-at-slice-known3 c in
     let L = length-at-at-write-records P in
-    let at = L.before.before.at in
+    let at = L.at-at in
     let S = start-at-length-at L in
     let A = S.args in
     let img = A.image.now in
     let recs = A.records.now in
     let i = inside S in
     overwrite-known (layout_of img) img (columns A.width recs) (1 + length recs) A.shape.head
-    (length-stored A.width recs S.pre.4) (head-width S.pre.0) P.write-records.last.0
-    (P.write-records.ensures ∙ ap (λ (w : ℕ). message w (columns A.width recs)) (width_is S.pre.0))
-    A.o.0 L.length_at.result S.pre.2 L.length_at.ensures (ends L).short
+    (length-stored A.width recs S.requires.4) (head-width S.requires.0) P.write_records.last.0
+    (P.write_records.ensures ∙ ap (λ (w : ℕ). message w (columns A.width recs)) (width_is S.requires.0))
+    A.o.0 L.length_at.result S.requires.2 L.length_at.ensures (ends L).short
     (omega (arith, L.length_at.ensures, i.end))
     z.new.0 at.result at.ensures z.ensures
 
-pub overwrite-records-spec : {M : Type 1} → statement M
-overwrite-records-spec =
+pub overwrite_records_spec : {M : Type 1} → statement M
+overwrite_records_spec =
     tie.close
     (tie.spec
     at-requires

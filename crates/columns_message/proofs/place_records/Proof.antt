@@ -35,63 +35,63 @@ known c =
       room = c.requires.1.room;
     }
 
-abbrev start-at-read-u32-arg : tie.After-read-u32-arg → tie.Start
-start-at-read-u32-arg c = c.before.before.before.before
+abbrev start-at-read-u32-arg : tie.After-area-1 → tie.Start
+start-at-read-u32-arg c = c.before.before.before
 
-read-u32-requires : tie.Need-read-u32-requires
+read-u32-requires : tie.Need-read_u32-free-requires
 read-u32-requires c κs = omega (arith, (known (start-at-read-u32-arg c)).opened.size_low)
 
-cast-free : tie.Need-overflow-cast-free
+cast-free : tie.Need-overflow_cast-free
 cast-free c = search rules
 
-add-end : tie.Need-overflow-add-end
+add-end : tie.Need-overflow_add-end
 add-end c = search rules
 
-add-end-2 : tie.Need-overflow-add-end-2
+add-end-2 : tie.Need-overflow_add-end-2
 add-end-2 c = search rules
 
-add-end-3 : tie.Need-overflow-add-end-3
+add-end-3 : tie.Need-overflow_add-end-3
 add-end-3 c = search rules
 
-sub-write-records : tie.Need-overflow-sub-write-records
+sub-write-records : tie.Need-slice_bounds-write_records-count
 sub-write-records c = search rules
 
-part-write-records-start : tie.Need-slice-bounds-write-records-start
+part-write-records-start : tie.Need-slice_bounds-write_records-start
 part-write-records-start c = search rules
 
-part-write-records-end : tie.Need-slice-bounds-write-records-end
+part-write-records-end : tie.Need-slice_bounds-write_records-end
 part-write-records-end c = search rules
 
-abbrev start-at-read-u32 : tie.After-read-u32 → tie.Start
-start-at-read-u32 c = c.before.before.before.before.before
+abbrev start-at-read-u32 : tie.After-read_u32-free → tie.Start
+start-at-read-u32 c = c.before.before.before.before
 
-write-records-requires : tie.Need-write-records-requires
+write-records-requires : tie.Need-write_records-requires
 write-records-requires c κs =
     let S = start-at-read-u32 c.before in
     let A = S.args in
     let k = known S in
-    let x = c.before.read_u32 in
+    let x = c.read_u32-free in
     let end = x.result + A.shape.head + (1 + length A.records.now) in (
       k.small,
       mid_len x.result end A.image.now (omega (arith, x.ensures, k.room)) ∙ omega arith,
-      S.pre.2,
+      S.requires.2,
     )
 
 new-requires : tie.Need-new-requires
 new-requires c κs = search rules
 
-abbrev write-records-at-new : tie.After-new → tie.After-write-records
+abbrev write-records-at-new : tie.After-new → tie.After-write_records
 write-records-at-new c = c.before.before.before.before
 
-abbrev read-u32-at-write-records : tie.After-write-records → tie.After-read-u32
+abbrev read-u32-at-write-records : tie.After-write_records → tie.After-read_u32-free
 read-u32-at-write-records c = c.before.before
 
-set-free-requires : tie.Need-set-free-requires
+set-free-requires : tie.Need-set_free-requires
 set-free-requires c κs =
     let P = write-records-at-new c in
-    let w = P.write-records in
+    let w = P.write_records in
     let R = read-u32-at-write-records P in
-    let x = R.read_u32 in
+    let x = R.read_u32-free in
     let S = start-at-read-u32 R in
     let A = S.args in
     let k = known S in
@@ -99,14 +99,14 @@ set-free-requires c κs =
     let end = x.result + A.shape.head + (1 + length A.records.now) in
     let kept = same_len_mid x.result (end - x.result) A.image.now w.last.0 w.kept.0 in (
       omega (arith, kept, f.size_low),
-      omega (arith, c.new.ensures, x.ensures, area-field S.pre.0, f.free-low),
+      omega (arith, c.new.ensures, x.ensures, area-field S.requires.0, f.free-low),
       omega (arith, c.new.ensures, x.ensures, k.room, f.size-high),
     )
 
-same_length : tie.Need-same-length
+same_length : tie.Need-shape_of-image
 same_length c = search rules
 
-abbrev new-at-slice-known3 : tie.After-slice-known3 → tie.After-new
+abbrev new-at-slice-known3 : tie.After-slice_known-3-1 → tie.After-new
 new-at-slice-known3 c = c.before.before.before
 
 returns : tie.Need-returns
@@ -118,15 +118,15 @@ returns c =
     let A = S.args in
     let img = A.image.now in
     let recs = A.records.now in
-    c.before.before.set_free.ensures
+    c.set_free.ensures
     ∙ ap (set_free A.shape.area.0 _) N.new.ensures
     ∙ place-known (layout_of img) img (columns A.width recs) (1 + length recs) A.shape.head
-    (length-stored A.width recs S.pre.2) (known S).is-head P.write-records.last.0
-    (P.write-records.ensures ∙ ap (λ (w : ℕ). message w (columns A.width recs)) (width_is S.pre.0))
-    R.read_u32.result A.shape.area.0 R.read_u32.ensures (shape-area S.pre.0)
+    (length-stored A.width recs S.requires.2) (known S).is-head P.write_records.last.0
+    (P.write_records.ensures ∙ ap (λ (w : ℕ). message w (columns A.width recs)) (width_is S.requires.0))
+    R.read_u32-free.result A.shape.area.0 R.read_u32-free.ensures (shape-area S.requires.0)
 
-pub place-records-spec : {M : Type 1} → statement M
-place-records-spec =
+pub place_records_spec : {M : Type 1} → statement M
+place_records_spec =
     tie.close
     (tie.spec
     read-u32-requires

@@ -32,91 +32,91 @@ fits c =
     let long = length-stored A.width A.records.now c.requires.4 in
     record { small = omega (arith, long, c.requires.3.small); room = omega (arith, long, c.requires.3.room) }
 
-abbrev start-at-read-u32-arg : tie.After-read-u32-arg → tie.Start
-start-at-read-u32-arg c = c.before.before.before
+abbrev start-at-read-u32-arg : tie.After-shared_slice_known-1 → tie.Start
+start-at-read-u32-arg c = c.before.before
 
-read-u32-requires : tie.Need-read-u32-requires
+read-u32-requires : tie.Need-read_u32-requires
 read-u32-requires c κs = omega (arith, (opened-facts _ (start-at-read-u32-arg c).requires.0.accepted).size_low)
 
-cast-new : tie.Need-overflow-cast-new
+cast-new : tie.Need-overflow_cast-read_u32
 cast-new c = search rules
 
-new-requires : tie.Need-new-requires
+new-requires : tie.Need-new-free-requires
 new-requires c κs = search rules
 
-abbrev start-at-retire-arg : tie.After-retire-arg → tie.Start
-start-at-retire-arg c = c.before.before.before.before.before.before
+abbrev start-at-retire-arg : tie.After-retire-arg-1 → tie.Start
+start-at-retire-arg c = c.before.before.before.before.before
 
 retire-requires : tie.Need-retire-requires
 retire-requires c κs =
     let S = start-at-retire-arg c in
-    omega (arith, head-width S.pre.0, head-fits S.pre.0 S.args.o.0 S.pre.2)
+    omega (arith, head-width S.requires.0, head-fits S.requires.0 S.args.o.0 S.requires.2)
 
 abbrev start-at-retire : tie.After-retire → tie.Start
-start-at-retire c = c.before.before.before.before.before.before.before
+start-at-retire c = c.before.before.before.before.before.before
 
-place-records-requires : tie.Need-place-records-requires
+place-records-requires : tie.Need-place_records-requires
 place-records-requires c κs =
     let R = c.before.before.before in
     let S = start-at-retire R in
     let o = S.args.o.0 in
-    let same = head-retire S.pre.0 R.retire.new.0 o S.pre.2 R.retire.ensures in
-    let free = retired-free S.pre.0 R.retire.new.0 o S.pre.2 R.retire.ensures in (
-      same-open same S.pre.0,
-      record { small = S.pre.3.small; room = omega (arith, free, same.size, S.pre.3.room) },
-      S.pre.4,
+    let same = head-retire S.requires.0 R.retire.new.0 o S.requires.2 R.retire.ensures in
+    let free = retired-free S.requires.0 R.retire.new.0 o S.requires.2 R.retire.ensures in (
+      same-open same S.requires.0,
+      record { small = S.requires.3.small; room = omega (arith, free, same.size, S.requires.3.room) },
+      S.requires.4,
     )
 
 -- ---- with the columns placed
 
-abbrev retire-at-place : tie.After-place-records → tie.After-retire
+abbrev retire-at-place : tie.After-place_records → tie.After-retire
 retire-at-place c = c.before.before.before.before
 
-abbrev start-at-place : tie.After-place-records → tie.Start
-start-at-place c = start-at-retire (retire-at-place c)
+abbrev start-at-place : tie.After-place_records → tie.Start
+start-at-place c = c.before.before.before.before.before.before.before.before.before.before
 
 -- the text has none of the old one before it
-placed : (c : tie.After-place-records)
+placed : (c : tie.After-place_records)
     → let S : tie.Start = start-at-place c in
     let img₁ : Bytes = (retire-at-place c).retire.new.0 in
-    c.place-records.new.0
+    c.place_records.new.0
     ≡ take_space (layout_of img₁) img₁ (part img₁ (S.args.o.0 + S.args.shape.head) 0 ++ text S)
 placed c =
     let S = start-at-place c in
     let img₁ = (retire-at-place c).retire.new.0 in
-    c.place-records.ensures
+    c.place_records.ensures
     ∙ ap (take_space (layout_of img₁) img₁) (sym (text-none img₁ (S.args.o.0 + S.args.shape.head) (text S)))
 
 below : (c : tie.Start) → c.args.o.0 + c.args.shape.head + 0 ≤ field c.args.image.now free_field
 below c = omega (arith, head-end c.requires.0 c.args.o.0 c.requires.2)
 
-same : (c : tie.After-place-records) → SameHead (start-at-place c).args.image.now c.place-records.new.0
+same : (c : tie.After-place_records) → SameHead (start-at-place c).args.image.now c.place_records.new.0
 same c =
     let S = start-at-place c in
     let old = (retire-at-place c).retire in
-    head-relocated S.pre.0 old.last.0 S.args.o.0 S.pre.2 old.ensures
-    c.place-records.new.0 (text S) (S.args.o.0 + S.args.shape.head) 0 refl
+    head-relocated S.requires.0 old.last.0 S.args.o.0 S.requires.2 old.ensures
+    c.place_records.new.0 (text S) (S.args.o.0 + S.args.shape.head) 0 refl
     (below S) (fits S) (placed c)
 
 -- X before
-abbrev new-at-place : tie.After-place-records → tie.After-new
-new-at-place c = (retire-at-place c).before.before
+abbrev new-at-place : tie.After-place_records → tie.After-new-free
+new-at-place c = c.before.before.before.before.before.before
 
-set-offset-requires : tie.Need-set-offset-requires
+set-offset-requires : tie.Need-set_offset-requires
 set-offset-requires c κs =
     let P = c.before.before.before in
     let S = start-at-place P in
     let x = new-at-place P in
-    let f = opened-facts _ S.pre.0.accepted in (
-      placed-opened P.place-records.new.0 S.args.shape (same-open (same P) S.pre.0),
-      S.pre.1,
-      omega (arith, x.new.ensures, x.before.read_u32.ensures, f.free-high, f.size-high),
+    let f = opened-facts _ S.requires.0.accepted in (
+      placed-opened P.place_records.new.0 S.args.shape (same-open (same P) S.requires.0),
+      S.requires.1,
+      omega (arith, x.new-free.ensures, x.read_u32.ensures, f.free-high, f.size-high),
     )
 
-same_length : tie.Need-same-length
+same_length : tie.Need-shape_of-image
 same_length c = search rules
 
-abbrev place-at-end : tie.After-slice-known4 → tie.After-place-records
+abbrev place-at-end : tie.After-slice_known-4-1 → tie.After-place_records
 place-at-end c = c.before.before.before.before.before.before
 
 returns : tie.Need-returns
@@ -127,16 +127,16 @@ returns c =
     let img = A.image.now in
     let old = (retire-at-place P).retire in
     let x = new-at-place P in
-    let entry = c.before.before.set-offset in
-    relocated-steps S.pre.0 old.last.0 A.o.0 S.pre.2 old.ensures P.place-records.last.0 (text S)
+    let entry = c.set_offset in
+    relocated-steps S.requires.0 old.last.0 A.o.0 S.requires.2 old.ensures P.place_records.last.0 (text S)
     (A.o.0 + A.shape.head) 0 refl (below S) (fits S) (placed P)
-    entry.new.0 A.slot.0 x.new.result.0 S.pre.1 (x.new.ensures ∙ x.before.read_u32.ensures)
+    entry.new.0 A.slot.0 x.new-free.result.0 S.requires.1 (x.new-free.ensures ∙ x.read_u32.ensures)
     entry.ensures
     ∙ ap (relocated (layout_of img) img A.slot.0 A.o.0 (key_in img A.slot.0))
     (text-none img (A.o.0 + A.shape.head) (text S))
 
-pub relocate-records-spec : {M : Type 1} → statement M
-relocate-records-spec =
+pub relocate_records_spec : {M : Type 1} → statement M
+relocate_records_spec =
     tie.close
     (tie.spec
     read-u32-requires

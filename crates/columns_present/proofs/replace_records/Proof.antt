@@ -43,31 +43,31 @@ in_place c m =
     let img : Bytes = c.args.image.now in
     not (eqb c.args.o.0 0) && leb m (held (layout_of img) img c.args.o.0)
 
-add-m : tie.Need-overflow-add-m
+add-m : tie.Need-overflow_add-m
 add-m c = search rules
 
-abbrev start-at-holds-arg : tie.After-holds-arg → tie.Start
-start-at-holds-arg c = c.before.before.before
+abbrev start-at-holds-arg : tie.After-shared_slice_known-1 → tie.Start
+start-at-holds-arg c = c.before.before
 
 holds-requires : tie.Need-holds-requires
 holds-requires c κs =
     let S = start-at-holds-arg c in
-    (S.pre.0, head-fits S.pre.0 S.args.o.0 S.pre.2)
+    (S.requires.0, head-fits S.requires.0 S.args.o.0 S.requires.2)
 
 -- ---- the columns fit where the old message stands
 
-abbrev start-at-then1 : tie.Then1 → tie.Start
-start-at-then1 c = c.before.before.before.before.before
+abbrev start-at-then1 : tie.Then-holds → tie.Start
+start-at-then1 c = c.before.before.before.before
 
-nothing : (c : tie.Then1) → placed (start-at-then1 c) ≡ none
+nothing : (c : tie.Then-holds) → placed (start-at-then1 c) ≡ none
 nothing c =
     let S = start-at-then1 c in
     let A = S.args in
     let img = A.image.now in
     replaced-none (layout_of img) img A.slot.0 A.o.0 (key_in img A.slot.0) (text S)
-    (ap (in_place S) (long S) ∙ sym c.before.holds.ensures ∙ c.if1.true)
+    (ap (in_place S) (long S) ∙ sym c.holds.ensures ∙ c.if-holds.true)
 
-overwrite-records-requires : tie.Need-overwrite-records-requires
+overwrite-records-requires : tie.Need-overwrite_records-requires
 overwrite-records-requires c κs =
     let T = c.before in
     let S = start-at-then1 T in
@@ -75,84 +75,84 @@ overwrite-records-requires c κs =
     let img = A.image.now in
     let there =
     replaced-held (layout_of img) img A.slot.0 A.o.0 (key_in img A.slot.0) (text S) (nothing T) in
-    (S.pre.0, S.pre.2, omega (arith, there.0), omega (arith, there.1, long S), S.pre.3)
+    (S.requires.0, S.requires.2, omega (arith, there.0), omega (arith, there.1, long S), S.requires.3)
 
-same_length : tie.Need-same-length
+same_length : tie.Need-shape_of-image-then-holds
 same_length c = search rules
 
-abbrev then1-at-end : tie.After-slice-known2 → tie.Then1
+abbrev then1-at-end : tie.After-slice_known-then-holds-1 → tie.Then-holds
 then1-at-end c = c.before.before.before.before
 
-returns : tie.Need-returns
+returns : tie.Need-returns-then-holds
 returns c =
     let T = then1-at-end c in
     let S = start-at-then1 T in
     let A = S.args in
     let img = A.image.now in
     let g = layout_of img in
-    let new = c.before.before.overwrite-records in
+    let new = c.overwrite_records in
     place-nothing g img (placed S) (after S) (nothing T) new.new.0
     (new.ensures
     ∙ sym (replaced-written g img A.slot.0 A.o.0 (key_in img A.slot.0) (text S) (nothing T)))
 
 -- ---- they do not, or there is no offset, so that all of them are placed
 
-room-number-requires : tie.Need-room-number-requires
+room-number-requires : tie.Need-room_number-number-requires
 room-number-requires c κs = search rules
 
-abbrev start-at-else1 : tie.Else1 → tie.Start
-start-at-else1 c = c.before.before.before.before.before
+abbrev start-at-else1 : tie.Else-holds → tie.Start
+start-at-else1 c = c.before.before.before.before
 
-longer : (c : tie.Else1) → placed (start-at-else1 c) ≡ some (text (start-at-else1 c))
+longer : (c : tie.Else-holds) → placed (start-at-else1 c) ≡ some (text (start-at-else1 c))
 longer c =
     let S = start-at-else1 c in
     let A = S.args in
     let img = A.image.now in
     replaced-some (layout_of img) img A.slot.0 A.o.0 (key_in img A.slot.0) (text S)
-    (ap (in_place S) (long S) ∙ sym c.before.holds.ensures ∙ c.if1.false)
+    (ap (in_place S) (long S) ∙ sym c.holds.ensures ∙ c.if-holds.false)
 
-abbrev else1-at-room : tie.After-room-number → tie.Else1
-else1-at-room c = c.before.before
+abbrev else1-at-room : tie.After-room_number-number → tie.Else-holds
+else1-at-room c = c.before
 
 -- 12 and 13, as the code has asked them
-asked : (c : tie.After-room-number)
+asked : (c : tie.After-room_number-number)
     → let S : tie.Start = start-at-else1 (else1-at-room c) in
     let img : Bytes = S.args.image.now in
-    c.room-number.result ≡ place_number (layout_of img) img (some (text S))
-asked c = let S = start-at-else1 (else1-at-room c) in c.room-number.ensures (text S) (long S)
+    c.room_number-number.result ≡ place_number (layout_of img) img (some (text S))
+asked c = let S = start-at-else1 (else1-at-room c) in c.room_number-number.ensures (text S) (long S)
 
-same-length-2 : tie.Need-same-length-2
+same-length-2 : tie.Need-shape_of-image-then-number-ne0
 same-length-2 c = search rules
 
-returns-2 : tie.Need-returns-2
+returns-2 : tie.Need-returns-then-number-ne0
 returns-2 c =
     let R = c.before in
     let E = else1-at-room R in
     let S = start-at-else1 E in
     let img = S.args.image.now in
-    place-refused (layout_of img) img (placed S) (after S) (text S) (longer E) R.room-number.result (asked R)
-    c.if2.true
+    place-refused (layout_of img) img (placed S) (after S) (text S) (longer E) R.room_number-number.result (asked R)
+    c.if-number-ne0.true
 
-relocate-records-requires : tie.Need-relocate-records-requires
+relocate-records-requires : tie.Need-relocate_records-requires
 relocate-records-requires c κs =
-    let Z = c.before in
-    let R = Z.before in
+    let Z = c in
+    let R = c.before.before in
     let S = start-at-else1 (else1-at-room R) in
-    let fits = place-fits S.pre.0 (text S) (sym (asked R) ∙ Z.if2.false) in (
-      S.pre.0,
-      S.pre.1,
-      S.pre.2,
+    let fits = place-fits S.requires.0 (text S) (sym (asked R) ∙ Z.if-number-ne0.false) in (
+      S.requires.0,
+      S.requires.1,
+      S.requires.2,
       record { small = omega (arith, long S, fits.small); room = omega (arith, long S, fits.room) },
-      S.pre.3,
+      S.requires.3,
     )
 
-same-length-3 : tie.Need-same-length-3
+same-length-3 : tie.Need-shape_of-image
 same-length-3 c = search rules
 
-abbrev else2-at-end : tie.After-slice-known3 → tie.Else2
+abbrev else2-at-end : tie.After-slice_known-2-1 → tie.Else-number-ne0
 else2-at-end c = c.before.before.before.before
 
-returns-3 : tie.Need-returns-3
+returns-3 : tie.Need-returns
 returns-3 c =
     let Z = else2-at-end c in
     let R = Z.before in
@@ -161,14 +161,14 @@ returns-3 c =
     let A = S.args in
     let img = A.image.now in
     let g = layout_of img in
-    let new = c.before.before.relocate-records in
-    place-done g img (placed S) (after S) (text S) (longer E) R.room-number.result (asked R) Z.if2.left
+    let new = c.relocate_records in
+    place-done g img (placed S) (after S) (text S) (longer E) R.room-number.result (asked R) Z.if-number-ne0.left
     new.new.0
     (new.ensures
     ∙ sym (renewed-moved g img A.slot.0 A.o.0 (key_in img A.slot.0) (text S) 2 (text S) (longer E)))
 
-pub replace-records-spec : {M : Type 1} → statement M
-replace-records-spec =
+pub replace_records_spec : {M : Type 1} → statement M
+replace_records_spec =
     tie.close
     (tie.spec
     add-m

@@ -19,53 +19,53 @@ use Rattle.columns_present.proofs.store_present.Tie as tie
 abbrev text : tie.Start → Bytes
 text c = columns c.args.width c.args.records.now
 
-offset-of-requires : tie.Need-offset-of-requires
+offset-of-requires : tie.Need-offset_of-o-requires
 offset-of-requires c κs = search rules
 
-message-sound-requires : tie.Need-message-sound-requires
+message-sound-requires : tie.Need-message_sound-requires
 message-sound-requires c κs = search rules
 
-same_length : tie.Need-same-length
+same_length : tie.Need-shape_of-image-then-not-message_sound
 same_length c = search rules
 
-abbrev start-at-sound : tie.After-message-sound → tie.Start
-start-at-sound c = c.before.before.before.before.before.before
+abbrev start-at-sound : tie.After-message_sound → tie.Start
+start-at-sound c = c.before.before.before.before
 
-abbrev offset-at-sound : tie.After-message-sound → tie.After-offset-of
-offset-at-sound c = c.before.before
+abbrev offset-at-sound : tie.After-message_sound → tie.After-offset_of-o
+offset-at-sound c = c.before
 
-returns : tie.Need-returns
+returns : tie.Need-returns-then-not-message_sound
 returns c =
     let M = c.before in
     let S = start-at-sound M in
     let img = S.args.image.now in
     let g = layout_of img in
-    let unsound = was-no M.message-sound.ensures c.if1.true in (
+    let unsound = was-no M.message_sound.ensures c.if-not-message_sound.true in (
       sym
           (point-11 g img (text S) 2 S.args.slot.0 refl
-          (ap (message_sound g img) (sym (offset-at-sound M).offset-of.ensures) ∙ unsound)),
+          (ap (message_sound g img) (sym (offset-at-sound M).offset_of-o.ensures) ∙ unsound)),
       sym (settled-no 11 img _ (λ z. omega arith)),
     )
 
 -- the message passed question 11
-sound : (c : tie.Else1)
+sound : (c : tie.Else-not-message_sound)
     → let img : Bytes = (start-at-sound c.before).args.image.now in
-    message_sound (layout_of img) img (offset-at-sound c.before).offset-of.result.0 ≡ true
-sound c = was-yes c.before.message-sound.ensures c.if1.false
+    message_sound (layout_of img) img (offset-at-sound c.before).offset_of-o.result.0 ≡ true
+sound c = was-yes c.message_sound.ensures c.if-not-message_sound.false
 
-replace-records-requires : tie.Need-replace-records-requires
+replace-records-requires : tie.Need-replace_records-requires
 replace-records-requires c κs =
     let E = c.before in
-    let S = start-at-sound E.before in
-    (S.pre.0, S.pre.1, sound E, S.pre.2)
+    let S = start-at-sound c.before.before in
+    (S.requires.0, S.requires.1, sound E, S.requires.2)
 
-same-length-2 : tie.Need-same-length-2
+same-length-2 : tie.Need-shape_of-image
 same-length-2 c = search rules
 
-abbrev else1-at-end : tie.After-slice-known2 → tie.Else1
+abbrev else1-at-end : tie.After-slice_known-2-1 → tie.Else-not-message_sound
 else1-at-end c = c.before.before.before.before
 
-returns-2 : tie.Need-returns-2
+returns-2 : tie.Need-returns
 unfolding added_at
 returns-2 c =
     let E = else1-at-end c in
@@ -73,8 +73,8 @@ returns-2 c =
     let A = S.args in
     let img = A.image.now in
     let g = layout_of img in
-    let eo = (offset-at-sound E.before).offset-of.ensures in
-    let d = c.before.before.replace-records in (
+    let eo = (offset-at-sound E.before).offset_of-o.ensures in
+    let d = c.replace_records in (
       d.ensures.0
           ∙ ap (λ (o : ℕ). place_number g img (renewed_text g img o (text S) 2)) eo
           ∙ sym
@@ -84,8 +84,8 @@ returns-2 c =
           (renewed_at g img A.slot.0 o (key_in img A.slot.0) (text S) 2)) eo,
     )
 
-pub store-present-spec : {M : Type 1} → statement M
-store-present-spec =
+pub store_present_spec : {M : Type 1} → statement M
+store_present_spec =
     tie.close
     (tie.spec
     offset-of-requires

@@ -14,35 +14,35 @@ module _ (c : tie.Start) where
   column-at : 1 + c.args.j * c.args.n + c.args.r < length c.args.stored.now
   column-at = column-place _ _ c.requires.0 c.requires.1 c.requires.2
 
-mul-out : tie.Need-overflow-mul-out
+mul-out : tie.Need-overflow_mul-out
 mul-out c = omega (arith, column-at c)
 
-add-out : tie.Need-overflow-add-out
+add-out : tie.Need-overflow_add-out
 add-out c = omega (arith, column-at c)
 
-add-out-2 : tie.Need-overflow-add-out-2
+add-out-2 : tie.Need-overflow_add-out-2
 add-out-2 c = omega (arith, column-at c)
 
-shared-slice-read-out : tie.Need-shared-slice-read-out
+shared-slice-read-out : tie.Need-bounds-stored-j
 shared-slice-read-out c = column-at c.before
 
-mul-out-2 : tie.Need-overflow-mul-out-2
+mul-out-2 : tie.Need-overflow_mul-out-2
 mul-out-2 c = omega (arith, record-at c.before)
 
-add-out-3 : tie.Need-overflow-add-out-3
+add-out-3 : tie.Need-overflow_add-out-3
 add-out-3 c = omega (arith, record-at c.before)
 
-slice-write-out : tie.Need-slice-write-out
+slice-write-out : tie.Need-bounds-out-r
 slice-write-out c = record-at c.before
 
-same_length : tie.Need-same-length
+same_length : tie.Need-shape_of-out
 same_length c = search rules
 
 returns : tie.Need-returns
 returns c = search rules
 
-pub read-byte-spec : {M : Type 1} → statement M
-read-byte-spec =
+pub read_byte_spec : {M : Type 1} → statement M
+read_byte_spec =
     tie.close
     (tie.spec
     mul-out

@@ -8,37 +8,37 @@ use Rattle.law_columns.proofs.Steps as steps
 use Rattle.columns_read.proofs.read_one.Statement.{statement}
 use Rattle.columns_read.proofs.read_one.Tie as tie
 
-abbrev invariant-loop : tie.invariant-loop
+abbrev invariant-loop : tie.invariant-loop-r
 invariant-loop out₀ stored width n a e j r₀ out r = RunTo width n out stored a e j 1 r
 
-abbrev decreases-loop : tie.decreases-loop
+abbrev decreases-loop : tie.decreases-loop-r
 decreases-loop out₀ stored width n a e j r₀ out r = e - r
 
-loop-holds : tie.Need-loop-init invariant-loop decreases-loop
-loop-holds c = steps.reached-first _ _ _ _ _ _ _ _ c.before.before.requires.1 (omega arith)
+loop-holds : tie.Need-loop-r-init invariant-loop decreases-loop
+loop-holds c = steps.reached-first _ _ _ _ _ _ _ _ c.requires.1 (omega arith)
 
-read-byte-requires : tie.Need-read-byte-requires invariant-loop decreases-loop
-read-byte-requires c κs = (c.before.before.loop.invariant.begun.0.sized, omega arith, omega arith)
+read-byte-requires : tie.Need-read_byte-requires invariant-loop decreases-loop
+read-byte-requires c κs = (c.loop-r.invariant.begun.0.sized, omega arith, omega arith)
 
-add_r : tie.Need-overflow-add-r invariant-loop decreases-loop
+add_r : tie.Need-overflow_add-r invariant-loop decreases-loop
 add_r c = omega arith
 
-loop-less : tie.Need-loop-smaller invariant-loop decreases-loop
+loop-less : tie.Need-loop-r-smaller invariant-loop decreases-loop
 loop-less c = omega arith
 
-loop-again : tie.Need-loop-preserved invariant-loop decreases-loop
+loop-again : tie.Need-loop-r-preserved invariant-loop decreases-loop
 loop-again c =
-    let B = c.before.before in
-    steps.read_one _ B.before.before.before.loop.invariant (omega arith) refl _ B.read_byte.ensures
+    let B = c in
+    steps.read_one _ B.loop-r.invariant (omega arith) refl _ B.read_byte.ensures
 
-same_length : tie.Need-same-length invariant-loop decreases-loop
-same_length c = omega (arith, c.before.loop.invariant.begun.0.sized.records-length)
+same_length : tie.Need-shape_of-out invariant-loop decreases-loop
+same_length c = omega (arith, c.loop-r.invariant.begun.0.sized.records-length)
 
 returns : tie.Need-returns invariant-loop decreases-loop
-returns c = steps.reached-all c.before.loop.invariant (omega arith)
+returns c = steps.reached-all c.loop-r.invariant (omega arith)
 
-pub read-one-spec : {M : Type 1} → statement M
-read-one-spec =
+pub read_one_spec : {M : Type 1} → statement M
+read_one_spec =
     tie.close
     (tie.spec
     invariant-loop

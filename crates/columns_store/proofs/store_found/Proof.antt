@@ -12,39 +12,39 @@ use Rattle.table_search.proofs.Taken.{other-met, met-is, met-within, met-key}
 use Rattle.columns_store.proofs.store_found.Statement.{statement}
 use Rattle.columns_store.proofs.store_found.Tie as tie
 
-enum-known-found : tie.Need-enum-known-found
+enum-known-found : tie.Need-enum_known-found
 enum-known-found c = search rules
 
-abbrev start-at-store-absent-arg : tie.After-store-absent-arg → tie.Start
+abbrev start-at-store-absent-arg : tie.After-store_absent-arg-1 → tie.Start
 start-at-store-absent-arg c = c.before.before.before.before.before
 
-store-absent-requires : tie.Need-store-absent-requires
+store-absent-requires : tie.Need-store_absent-requires
 store-absent-requires c κs =
     let S = start-at-store-absent-arg c in
-    (S.pre.0, S.pre.1, S.pre.3, other-met S.args.found c.before.match.keys2, S.pre.4)
+    (S.requires.0, S.requires.1, S.requires.3, other-met S.args.found c.in_default.keys2, S.requires.4)
 
-same_length : tie.Need-same-length
+same_length : tie.Need-shape_of-image-in_default
 same_length c = search rules
 
-returns : tie.Need-returns
-returns c = c.before.before.store-absent.ensures
+returns : tie.Need-returns-in_default
+returns c = c.store_absent.ensures
 
-abbrev start-at-found : tie.After-found → tie.Start
+abbrev start-at-found : tie.In-Met-2 → tie.Start
 start-at-found c = c.before.before.before.before.before
 
-store-present-requires : tie.Need-store-present-requires
+store-present-requires : tie.Need-store_present-requires
 store-present-requires c κs =
     let F = c.before.before in
     let S = start-at-found F in
-    (S.pre.0, met-within F.found.given.1 S.pre.1, S.pre.4)
+    (S.requires.0, met-within F.found-1.given.1 S.requires.1, S.requires.4)
 
-same-length-2 : tie.Need-same-length-2
+same-length-2 : tie.Need-shape_of-image
 same-length-2 c = search rules
 
-abbrev found-at-end : tie.After-slice-known3 → tie.After-found
+abbrev found-at-end : tie.After-slice_known-2-1 → tie.In-Met-2
 found-at-end c = c.before.before.before.before.before
 
-returns-2 : tie.Need-returns-2
+returns-2 : tie.Need-returns
 returns-2 c =
     let F = found-at-end c in
     let S = start-at-found F in
@@ -52,16 +52,16 @@ returns-2 c =
     let img = A.image.now in
     let g = layout_of img in
     let text = columns A.width A.records.now in
-    let p = c.before.before.store-present in
-    let met' = F.found.given.1 in (
+    let p = c.store_present in
+    let met' = F.found-1.given.1 in (
       p.ensures.0 ∙ ap (λ (s : Probe). first_no (point_asks g img s text 2)) (sym (met-is met')),
       p.ensures.1
           ∙ ap₂ (λ (s : Probe) (key : Bytes). settled p.result img (added_at g img s key text 2))
-          (sym (met-is met')) (met-key img met' S.pre.2),
+          (sym (met-is met')) (met-key img met' S.requires.2),
     )
 
-pub store-found-spec : {M : Type 1} → statement M
-store-found-spec =
+pub store_found_spec : {M : Type 1} → statement M
+store_found_spec =
     tie.close
     (tie.spec
     enum-known-found

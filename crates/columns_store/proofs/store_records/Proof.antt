@@ -15,92 +15,92 @@ use Rattle.columns_store.proofs.Stored.{stores-refused, stores-19, stores-found}
 use Rattle.columns_store.proofs.store_records.Statement.{statement}
 use Rattle.columns_store.proofs.store_records.Tie as tie
 
-seek-requires : tie.Need-seek-requires
+seek-requires : tie.Need-seek-sought-requires
 seek-requires c κs = search rules
 
-enum-known-sought : tie.Need-enum-known-sought
+enum-known-sought : tie.Need-enum_known-sought
 enum-known-sought c = search rules
 
-enum-known-sought-2 : tie.Need-enum-known-sought-2
+enum-known-sought-2 : tie.Need-enum_known-sought-in-At-1
 enum-known-sought-2 c = search rules
 
-whole-records-requires : tie.Need-whole-records-requires
+whole-records-requires : tie.Need-whole_records-requires
 whole-records-requires c κs = search rules
 
-same_length : tie.Need-same-length
+same_length : tie.Need-shape_of-image-then-not-whole_records
 same_length c = search rules
 
 -- ---- the header is accepted, and the key searched
 
-abbrev start-at-sought2 : tie.After-sought2 → tie.Start
-start-at-sought2 c = c.before.before.before.before.before.before.before
+abbrev start-at-sought2 : tie.In-At-2 → tie.Start
+start-at-sought2 c = c.before.before.before.before.before.before
 
-reached : (c : tie.After-sought2)
+reached : (c : tie.In-At-2)
     → let A = (start-at-sought2 c).args in
-    let s = c.sought2.given.0 in
+    let s = c.sought-in-At-1.given.0 in
     Reached A.image.now A.key.now true s.0 s.1.0 s.1.1.0
 reached c =
     let A = (start-at-sought2 c).args in
-    reached-is A.image.now A.key.now true c.before.before.seek.ensures c.sought2.given.1
+    reached-is A.image.now A.key.now true c.seek-sought.ensures c.sought-in-At-1.given.1
 
-abbrev sought2-at-whole : tie.After-whole-records → tie.After-sought2
+abbrev sought2-at-whole : tie.After-whole_records → tie.In-At-2
 sought2-at-whole c = c.before.before
 
-returns : tie.Need-returns
+returns : tie.Need-returns-then-not-whole_records
 returns c =
     let W = c.before in
     let Q = sought2-at-whole W in
     let A = (start-at-sought2 Q).args in
     stores-19 A.image.now A.key.now A.records.now A.width (reached Q).asked
-    (was-no W.whole-records.ensures c.if1.true)
+    (was-no W.whole_records.ensures c.if-not-whole_records.true)
 
-whole : (c : tie.Else1)
+whole : (c : tie.Else-not-whole_records)
     → let A = (start-at-sought2 (sought2-at-whole c.before)).args in
     whole_records A.width (length A.records.now) ≡ true
-whole c = was-yes c.before.whole-records.ensures c.if1.false
+whole c = was-yes c.whole_records.ensures c.if-not-whole_records.false
 
-store-found-requires : tie.Need-store-found-requires
+store-found-requires : tie.Need-store_found-requires
 store-found-requires c κs =
     let E = c.before in
-    let Q = sought2-at-whole E.before in
+    let Q = sought2-at-whole c.before.before in
     let A = (start-at-sought2 Q).args in
     let r = reached Q in
     let met = search-key A.image.now A.key.now _ r.opened in
     let met' = subst (MetKey A.image.now A.key.now) (sym r.ended) met in
     (r.opened, r.within, met', reached-key r, whole E)
 
-same-length-2 : tie.Need-same-length-2
+same-length-2 : tie.Need-shape_of-image-in-Refused
 same-length-2 c = search rules
 
 -- ---- refused before the search
 
-abbrev start-at-sought : tie.After-sought → tie.Start
-start-at-sought c = c.before.before.before.before.before.before.before
+abbrev start-at-sought : tie.In-Refused-2 → tie.Start
+start-at-sought c = c.before.before.before.before.before.before
 
-returns-2 : tie.Need-returns-2
+returns-2 : tie.Need-returns-in-Refused
 returns-2 c =
     let Q = c.before in
     let A = (start-at-sought Q).args in
-    let r = refused-is A.image.now A.key.now true Q.before.before.seek.ensures Q.sought.given.1 in
+    let r = refused-is A.image.now A.key.now true Q.seek-sought.ensures Q.sought-1.given.1 in
     stores-refused A.image.now A.key.now A.records.now A.width _ r.0 r.1
 
-same-length-3 : tie.Need-same-length-3
+same-length-3 : tie.Need-shape_of-image-else-not-whole_records
 same-length-3 c = search rules
 
-abbrev else1-at-end : tie.After-slice-known2 → tie.Else1
+abbrev else1-at-end : tie.After-slice_known-in-At-1 → tie.Else-not-whole_records
 else1-at-end c = c.before.before.before.before
 
-returns-3 : tie.Need-returns-3
+returns-3 : tie.Need-returns-else-not-whole_records
 returns-3 c =
     let E = else1-at-end c in
     let Q = sought2-at-whole E.before in
     let A = (start-at-sought2 Q).args in
-    let d = c.before.before.Store-found in
+    let d = c.Store-found in
     stores-found A.image.now A.key.now A.records.now A.width (reached Q).asked (whole E) d.result
     d.new.0 _ (reached Q).ended d.ensures.0 d.ensures.1
 
-pub store-records-spec : {M : Type 1} → statement M
-store-records-spec =
+pub store_records_spec : {M : Type 1} → statement M
+store_records_spec =
     tie.close
     (tie.spec
     seek-requires

@@ -9,26 +9,31 @@ use Rattle.law_columns.proofs.Turned.{nothing_stored}
 use Rattle.columns_width.proofs.whole_columns.Statement.{statement}
 use Rattle.columns_width.proofs.whole_columns.Tie as tie
 
-returns : tie.Need-returns
-returns c = sym (nothing_stored c.before.before.args.stored.now (omega arith))
+returns : tie.Need-returns-then-end-eq0
+returns c = sym (nothing_stored c.args.stored.now (omega arith))
 
-width-of-requires : tie.Need-width-of-requires
+width-of-requires : tie.Need-width_of-requires
 width-of-requires c κs = search rules
 
-sub-whole-records : tie.Need-overflow-sub-whole-records
+sub-whole-records : tie.Need-overflow_sub-end
 sub-whole-records c = search rules
 
-whole-records-requires : tie.Need-whole-records-requires
+whole-records-requires : tie.Need-whole_records-requires
 whole-records-requires c κs = search rules
 
-returns-2 : tie.Need-returns-2
+returns-2 : tie.Need-returns
 unfolding whole_columns
 returns-2 c =
-    let stored = c.before.before.before.before.args.stored.now in
-    c.whole-records.ensures
-    ∙ ap (λ (W : ℕ). whole_records W (length stored - 1)) c.before.width_of_lem.ensures
+    let stored = c.args.stored.now in
+    c.whole_records.ensures
+    ∙ ap (λ (W : ℕ). whole_records W (length stored - 1)) c.width_of.ensures
 
-pub whole-columns-spec : {M : Type 1} → statement M
-whole-columns-spec =
+pub whole_columns_spec : {M : Type 1} → statement M
+whole_columns_spec =
     tie.close
-    (tie.spec returns width-of-requires sub-whole-records whole-records-requires returns-2)
+    (tie.spec
+    returns
+    width-of-requires
+    sub-whole-records
+    whole-records-requires
+    returns-2)

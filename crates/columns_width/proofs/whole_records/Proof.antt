@@ -7,16 +7,21 @@ use Rattle.spec_columns.specs.Columns.{whole_records}
 use Rattle.columns_width.proofs.whole_records.Statement.{statement}
 use Rattle.columns_width.proofs.whole_records.Tie as tie
 
-returns : tie.Need-returns
+returns : tie.Need-returns-then-width-lt1
 unfolding whole_records
-returns c = sym (rw (lt-leb 1 c.before.args.width (omega arith)))
+returns c = sym (rw (lt-leb 1 c.args.width (omega arith)))
 
-rem-result : tie.Need-nonzero-rem-result
+rem-result : tie.Need-nonzero_rem-result
 rem-result c = search rules
 
-returns-2 : tie.Need-returns-2
+returns-2 : tie.Need-returns
 unfolding whole_records
-returns-2 c = sym (rw (le-leb 1 c.before.args.width (omega arith)))
+returns-2 c = sym (rw (le-leb 1 c.args.width (omega arith)))
 
-pub whole-records-spec : {M : Type 1} → statement M
-whole-records-spec = tie.close (tie.spec returns rem-result returns-2)
+pub whole_records_spec : {M : Type 1} → statement M
+whole_records_spec =
+    tie.close
+    (tie.spec
+    returns
+    rem-result
+    returns-2)

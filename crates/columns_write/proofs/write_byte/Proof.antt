@@ -14,35 +14,35 @@ module _ (c : tie.Start) where
   column-at : 1 + c.args.j * c.args.n + c.args.r < length c.args.space.now
   column-at = column-place _ _ c.requires.0 c.requires.1 c.requires.2
 
-mul-space : tie.Need-overflow-mul-space
+mul-space : tie.Need-overflow_mul-space
 mul-space c = omega (arith, record-at c)
 
-add-space : tie.Need-overflow-add-space
+add-space : tie.Need-overflow_add-space
 add-space c = omega (arith, record-at c)
 
-shared-slice-read-space : tie.Need-shared-slice-read-space
+shared-slice-read-space : tie.Need-bounds-records-r
 shared-slice-read-space c = record-at c.before
 
-mul-space-2 : tie.Need-overflow-mul-space-2
+mul-space-2 : tie.Need-overflow_mul-space-2
 mul-space-2 c = omega (arith, column-at c.before)
 
-add-space-2 : tie.Need-overflow-add-space-2
+add-space-2 : tie.Need-overflow_add-space-2
 add-space-2 c = omega (arith, column-at c.before)
 
-add-space-3 : tie.Need-overflow-add-space-3
+add-space-3 : tie.Need-overflow_add-space-3
 add-space-3 c = omega (arith, column-at c.before)
 
-slice-write-space : tie.Need-slice-write-space
+slice-write-space : tie.Need-bounds-space-j
 slice-write-space c = column-at c.before
 
-same_length : tie.Need-same-length
+same_length : tie.Need-shape_of-space
 same_length c = search rules
 
 returns : tie.Need-returns
 returns c = search rules
 
-pub write-byte-spec : {M : Type 1} → statement M
-write-byte-spec =
+pub write_byte_spec : {M : Type 1} → statement M
+write_byte_spec =
     tie.close
     (tie.spec
     mul-space

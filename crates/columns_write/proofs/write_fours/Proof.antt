@@ -9,41 +9,41 @@ use Rattle.law_columns.proofs.Steps.{reached-first, written_one}
 use Rattle.columns_write.proofs.write_fours.Statement.{statement}
 use Rattle.columns_write.proofs.write_fours.Tie as tie
 
-abbrev invariant-loop : tie.invariant-loop
+abbrev invariant-loop : tie.invariant-loop-r
 invariant-loop space₀ records width n a e j r₀ space r = RunTo width n records space a e j 1 r
 
-abbrev decreases-loop : tie.decreases-loop
+abbrev decreases-loop : tie.decreases-loop-r
 decreases-loop space₀ records width n a e j r₀ space r = e - r
 
-loop-holds : tie.Need-loop-init invariant-loop decreases-loop
-loop-holds c = let S = c.before.before in reached-first _ _ _ _ _ _ _ _ S.requires.1 (omega arith)
+loop-holds : tie.Need-loop-r-init invariant-loop decreases-loop
+loop-holds c = let S = c in reached-first _ _ _ _ _ _ _ _ S.requires.1 (omega arith)
 
-sub-loop : tie.Need-overflow-sub-loop invariant-loop decreases-loop
+sub-loop : tie.Need-overflow_sub-e invariant-loop decreases-loop
 sub-loop c = omega arith
 
 -- k records further
-abbrev Further : tie.At-loop invariant-loop decreases-loop → List ℕ → ℕ → Type 0
+abbrev Further : tie.At-loop-r invariant-loop decreases-loop → List ℕ → ℕ → Type 0
 Further L space k =
-    let A = L.before.before.before.args in
-    RunTo A.width A.n A.records.now space A.a A.e A.j 1 (L.loop.r + k)
+    let A = L.args in
+    RunTo A.width A.n A.records.now space A.a A.e A.j 1 (L.loop-r.r + k)
 
-module _ (c : tie.After-write-byte invariant-loop decreases-loop) where
+module _ (c : tie.After-write_byte invariant-loop decreases-loop) where
   one : Further c.before.before.before c.write_byte.new.0 1
-  one = written_one _ c.before.before.before.loop.invariant (omega arith) refl _ c.write_byte.ensures
+  one = written_one _ c.loop.invariant (omega arith) refl _ c.write_byte.ensures
 
-module _ (c : tie.After-write-byte2 invariant-loop decreases-loop) where
+module _ (c : tie.After-write_byte-in-loop-r invariant-loop decreases-loop) where
   two : let B = c.before.before.before.before in
       Further B.before.before.before c.write-byte2.new.0 2
   two = written_one _ (one c.before.before.before.before) (omega arith) (omega arith) _ c.write-byte2.ensures
 
-module _ (c : tie.After-write-byte3 invariant-loop decreases-loop) where
+module _ (c : tie.After-write_byte-in-loop-r-2 invariant-loop decreases-loop) where
   three : let C = c.before.before.before.before in
       let B = C.before.before.before.before in
       Further B.before.before.before c.write-byte3.new.0 3
   three =
       written_one _ (two c.before.before.before.before) (omega arith) (omega arith) _ c.write-byte3.ensures
 
-module _ (c : tie.After-write-byte4 invariant-loop decreases-loop) where
+module _ (c : tie.After-write_byte-in-loop-r-3 invariant-loop decreases-loop) where
   four : let D = c.before.before.before.before in
       let C = D.before.before.before.before in
       let B = C.before.before.before.before in
@@ -52,47 +52,47 @@ module _ (c : tie.After-write-byte4 invariant-loop decreases-loop) where
       let D = c.before.before.before.before in
       let C = D.before.before.before.before in
       let B = C.before.before.before.before in
-      let more = B.before.before.loop-test.true in
+      let more = B.loop-test.true in
       written_one _ (three D) (omega (arith, more)) (omega arith) _ c.write-byte4.ensures
 
-write-byte-requires : tie.Need-write-byte-requires invariant-loop decreases-loop
-write-byte-requires c κs = (c.before.before.loop.invariant.begun.0.sized, omega arith, omega arith)
+write-byte-requires : tie.Need-write_byte-requires invariant-loop decreases-loop
+write-byte-requires c κs = (c.loop-r.invariant.begun.0.sized, omega arith, omega arith)
 
-add-write-byte : tie.Need-overflow-add-write-byte invariant-loop decreases-loop
+add-write-byte : tie.Need-overflow_add-r invariant-loop decreases-loop
 add-write-byte c = omega arith
 
-write-byte-requires-2 : tie.Need-write-byte-requires-2 invariant-loop decreases-loop
+write-byte-requires-2 : tie.Need-write_byte-requires-in-loop-r invariant-loop decreases-loop
 write-byte-requires-2 c κs = ((one c.before.before.before).begun.0.sized, omega arith, omega arith)
 
-add-write-byte-2 : tie.Need-overflow-add-write-byte-2 invariant-loop decreases-loop
+add-write-byte-2 : tie.Need-overflow_add-r-in-loop-r invariant-loop decreases-loop
 add-write-byte-2 c = omega arith
 
-write-byte-requires-3 : tie.Need-write-byte-requires-3 invariant-loop decreases-loop
+write-byte-requires-3 : tie.Need-write_byte-requires-in-loop-r-2 invariant-loop decreases-loop
 write-byte-requires-3 c κs = ((two c.before.before.before).begun.0.sized, omega arith, omega arith)
 
-add-write-byte-3 : tie.Need-overflow-add-write-byte-3 invariant-loop decreases-loop
+add-write-byte-3 : tie.Need-overflow_add-r-in-loop-r-2 invariant-loop decreases-loop
 add-write-byte-3 c = omega arith
 
-write-byte-requires-4 : tie.Need-write-byte-requires-4 invariant-loop decreases-loop
+write-byte-requires-4 : tie.Need-write_byte-requires-in-loop-r-3 invariant-loop decreases-loop
 write-byte-requires-4 c κs = ((three c.before.before.before).begun.0.sized, omega arith, omega arith)
 
-add_r : tie.Need-overflow-add-r invariant-loop decreases-loop
+add_r : tie.Need-overflow_add-r-in-loop-r-3 invariant-loop decreases-loop
 add_r c = omega arith
 
-loop-less : tie.Need-loop-smaller invariant-loop decreases-loop
+loop-less : tie.Need-loop-r-smaller invariant-loop decreases-loop
 loop-less c = omega arith
 
-loop-again : tie.Need-loop-preserved invariant-loop decreases-loop
+loop-again : tie.Need-loop-r-preserved invariant-loop decreases-loop
 loop-again c = four c.before.before
 
-same_length : tie.Need-same-length invariant-loop decreases-loop
-same_length c = omega (arith, c.before.loop.invariant.begun.0.sized.stored-length)
+same_length : tie.Need-shape_of-space invariant-loop decreases-loop
+same_length c = omega (arith, c.loop-r.invariant.begun.0.sized.stored-length)
 
 returns : tie.Need-returns invariant-loop decreases-loop
-returns c = c.before.loop.invariant
+returns c = c.loop-r.invariant
 
-pub write-fours-spec : {M : Type 1} → statement M
-write-fours-spec =
+pub write_fours_spec : {M : Type 1} → statement M
+write_fours_spec =
     tie.close
     (tie.spec
     invariant-loop

@@ -8,40 +8,40 @@ use Rattle.law_columns.proofs.Steps.{reached-all, written_one}
 use Rattle.columns_write.proofs.write_run.Statement.{statement}
 use Rattle.columns_write.proofs.write_run.Tie as tie
 
-abbrev invariant-loop : tie.invariant-loop
+abbrev invariant-loop : tie.invariant-loop-rest
 invariant-loop space₀ records width n a e j rest₀ space rest = RunTo width n records space a e j 1 rest
 
-abbrev decreases-loop : tie.decreases-loop
+abbrev decreases-loop : tie.decreases-loop-rest
 decreases-loop space₀ records width n a e j rest₀ space rest = e - rest
 
-write-fours-requires : tie.Need-write-fours-requires invariant-loop decreases-loop
-write-fours-requires c κs = c.before.before.before.requires
+write-fours-requires : tie.Need-write_fours-rest-requires invariant-loop decreases-loop
+write-fours-requires c κs = c.requires
 
-loop-holds : tie.Need-loop-init invariant-loop decreases-loop
-loop-holds c = c.before.before.write-fours.ensures
+loop-holds : tie.Need-loop-rest-init invariant-loop decreases-loop
+loop-holds c = c.write_fours-rest.ensures
 
-write-byte-requires : tie.Need-write-byte-requires invariant-loop decreases-loop
-write-byte-requires c κs = (c.before.before.loop.invariant.begun.0.sized, omega arith, omega arith)
+write-byte-requires : tie.Need-write_byte-requires invariant-loop decreases-loop
+write-byte-requires c κs = (c.loop-rest.invariant.begun.0.sized, omega arith, omega arith)
 
-add-rest : tie.Need-overflow-add-rest invariant-loop decreases-loop
+add-rest : tie.Need-overflow_add-rest invariant-loop decreases-loop
 add-rest c = omega arith
 
-loop-less : tie.Need-loop-smaller invariant-loop decreases-loop
+loop-less : tie.Need-loop-rest-smaller invariant-loop decreases-loop
 loop-less c = omega arith
 
-loop-again : tie.Need-loop-preserved invariant-loop decreases-loop
+loop-again : tie.Need-loop-rest-preserved invariant-loop decreases-loop
 loop-again c =
-    let B = c.before.before in
-    written_one _ B.before.before.before.loop.invariant (omega arith) refl _ B.write_byte.ensures
+    let B = c in
+    written_one _ B.loop-rest.invariant (omega arith) refl _ B.write_byte.ensures
 
-same_length : tie.Need-same-length invariant-loop decreases-loop
-same_length c = omega (arith, c.before.loop.invariant.begun.0.sized.stored-length)
+same_length : tie.Need-shape_of-space invariant-loop decreases-loop
+same_length c = omega (arith, c.loop-rest.invariant.begun.0.sized.stored-length)
 
 returns : tie.Need-returns invariant-loop decreases-loop
-returns c = reached-all c.before.loop.invariant (omega arith)
+returns c = reached-all c.loop-rest.invariant (omega arith)
 
-pub write-run-spec : {M : Type 1} → statement M
-write-run-spec =
+pub write_run_spec : {M : Type 1} → statement M
+write_run_spec =
     tie.close
     (tie.spec
     invariant-loop

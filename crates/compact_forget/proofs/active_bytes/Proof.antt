@@ -14,36 +14,36 @@ use Rattle.compact_stages.proofs.Entries.{vacant-taken, active-vacant, active-qu
 use Rattle.compact_forget.proofs.active_bytes.Statement.{statement}
 use Rattle.compact_forget.proofs.active_bytes.Tie as tie
 
-is-vacant-requires : tie.Need-is-vacant-requires
+is-vacant-requires : tie.Need-is_vacant-requires
 is-vacant-requires c κs = search rules
 
-returns : tie.Need-returns
+returns : tie.Need-returns-then-is_vacant
 returns c =
-    let A = c.before.before.before.args in
-    sym (active-vacant A.image.now A.i.0 (sym c.before.is-vacant.ensures ∙ c.if1.true))
+    let A = c.args in
+    sym (active-vacant A.image.now A.i.0 (sym c.is_vacant.ensures ∙ c.if-is_vacant.true))
 
-offset-of-requires : tie.Need-offset-of-requires
+offset-of-requires : tie.Need-offset_of-at-requires
 offset-of-requires c κs = search rules
 
-is-active-requires : tie.Need-is-active-requires
+is-active-requires : tie.Need-is_active-requires
 is-active-requires c κs =
-    let E = c.before in
-    let S = E.before.before.before in
+    let E = c in
+    let S = c in
     let img = S.args.image.now in
     omega (
       arith,
-      c.offset-of.ensures,
+      c.offset_of-at.ensures,
       head-range S.requires.0,
-      S.requires.2 (vacant-taken img S.args.i.0 (sym E.before.is-vacant.ensures ∙ E.if1.false)),
+      S.requires.2 (vacant-taken img S.args.i.0 (sym E.is_vacant.ensures ∙ E.if-is_vacant.false)),
     )
 
-returns-2 : tie.Need-returns-2
+returns-2 : tie.Need-returns-then-not-is_active
 returns-2 c =
-    let O = c.before.before in
-    let A = O.before.before.before.before.args in
+    let O = c in
+    let A = O.args in
     let img = A.image.now in
     sym (active-quiet img A.i.0
-    (ap (is_active img) (sym O.offset-of.ensures) ∙ was-no c.before.is-active.ensures c.if2.true))
+    (ap (is_active img) (sym O.offset_of-at.ensures) ∙ was-no c.is_active.ensures c.if-not-is_active.true))
 
 -- what is known once the message is known to be active
 module _ (c : tie.Else2) where
@@ -69,28 +69,28 @@ module _ (c : tie.Else2) where
   active-yes =
       ap (is_active img) (sym O.offset-of.ensures) ∙ was-yes c.before.is-active.ensures c.if2.false
 
-length-at-requires : tie.Need-length-at-requires
+length-at-requires : tie.Need-length_at-requires
 length-at-requires c κs =
     let A = S c in
-    (A.pre.0, omega (arith, (O c).offset-of.ensures, A.pre.2 (vacant-taken (img c) (i c) (slot-some c))))
+    (A.requires.0, omega (arith, (O c).offset-of.ensures, A.requires.2 (vacant-taken (img c) (i c) (slot-some c))))
 
 -- head and length together
-sum_is : (c : tie.After-length-at)
+sum_is : (c : tie.After-length_at)
     → (S c.before).args.shape.head + c.length_at.result ≡ active_in (img c.before) (i c.before)
 sum_is c =
-    let E = c.before in
+    let E = c in
     ap₂ ◌+◌ (shape-head (S E).requires.0)
     (c.length_at.ensures ∙ ap (length_at (layout_of (img E)) (img E)) (O E).offset-of.ensures)
     ∙ sym (active-is (img E) (i E) (slot-some E) (active-yes E))
 
-add-result : tie.Need-overflow-add-result
-add-result c = omega (arith, sum_is c.before, (S c.before.before).pre.3)
+add-result : tie.Need-overflow_add-result
+add-result c = omega (arith, sum_is c.before, (S c.before.before).requires.3)
 
-returns-3 : tie.Need-returns-3
+returns-3 : tie.Need-returns
 returns-3 c = sum_is c.before
 
-pub active-bytes-spec : {M : Type 1} → statement M
-active-bytes-spec =
+pub active_bytes_spec : {M : Type 1} → statement M
+active_bytes_spec =
     tie.close
     (tie.spec
     is-vacant-requires

@@ -13,7 +13,7 @@ use Rattle.compact_sweep.proofs.window.Tie as tie
 
 fill-requires : tie.Need-fill-requires
 fill-requires c κs =
-    let S = c.before.before.before.before in
+    let S = c in
     let A = S.args in
     let img = S.requires.0.0 in
     let st = S.requires.0.1 in (
@@ -26,20 +26,27 @@ fill-requires c κs =
 moves-requires : tie.Need-moves-requires
 moves-requires c κs = search rules
 
-same_length : tie.Need-same-length
+same_length : tie.Need-shape_of-image
 same_length c = search rules
 
-same-length-2 : tie.Need-same-length-2
+same-length-2 : tie.Need-shape_of-chart
 same-length-2 c = search rules
 
 returns : tie.Need-returns
 returns c =
-    let M = c.before.before in
-    let F = M.before.before.before.before.before in
-    let A = F.before.before.before.before.before.args in
+    let M = c in
+    let F = c in
+    let A = F.args in
     λ img st.
     subst (λ (n : ℕ). Stage (layout_of img) img M.moves.new.0 (A.lo + 4 * n) M.moves.result)
     F.fill.auto.1.1.0 (M.moves.ensures img st)
 
-pub window-spec : {M : Type 1} → statement M
-window-spec = tie.close (tie.spec fill-requires moves-requires same_length same-length-2 returns)
+pub window_spec : {M : Type 1} → statement M
+window_spec =
+    tie.close
+    (tie.spec
+    fill-requires
+    moves-requires
+    same_length
+    same-length-2
+    returns)

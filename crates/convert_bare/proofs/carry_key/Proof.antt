@@ -36,83 +36,83 @@ ends S =
     )
 
 start-requires : tie.Need-start-requires
-start-requires c κs = let S = c.before.before in
+start-requires c κs = let S = c in
     omega (arith, spot S.args.source.now S.args.shape S.args.i.0 S.requires.0 S.requires.2)
 
-at-requires : tie.Need-at-requires
+at-requires : tie.Need-at-a-requires
 at-requires c κs = search rules
 
-add-e : tie.Need-overflow-add-e
-add-e c = let S = c.before.before.before.before in
+add-e : tie.Need-overflow_add-e
+add-e c = let S = c in
     omega (arith, spot S.args.source.now S.args.shape S.args.i.0 S.requires.0 S.requires.2)
 
-add-e-2 : tie.Need-overflow-add-e-2
-add-e-2 c = let S = c.before.before.before.before in
+add-e-2 : tie.Need-overflow_add-e-2
+add-e-2 c = let S = c in
     let src = S.args.source.now in
     let p = spot src S.args.shape S.args.i.0 S.requires.0 S.requires.2 in
-    omega (arith, p, (header src S.args.shape S.requires.0).size-high, c.at.ensures, c.before.start.ensures)
+    omega (arith, p, (header src S.args.shape S.requires.0).size-high, c.at-a.ensures, c.start.ensures)
 
-key-of-requires : tie.Need-key-of-requires
+key-of-requires : tie.Need-key_of-key-requires
 key-of-requires c κs = search rules
 
-sub-write-entry : tie.Need-overflow-sub-write-entry
+sub-write-entry : tie.Need-slice_bounds-write_entry-count
 sub-write-entry c = search rules
 
-part-write-entry-start : tie.Need-slice-bounds-write-entry-start
+part-write-entry-start : tie.Need-slice_bounds-write_entry-start
 part-write-entry-start c = search rules
 
-part-write-entry-end : tie.Need-slice-bounds-write-entry-end
-part-write-entry-end c = let A = c.before in
-    let S = A.before.before.before.before in
-    omega (arith, ends S, A.at.ensures, A.before.start.ensures)
+part-write-entry-end : tie.Need-slice_bounds-write_entry-end
+part-write-entry-end c = let A = c in
+    let S = c.before.before.before.before.before in
+    omega (arith, ends S, A.at-a.ensures, A.start.ensures)
 
 new-requires : tie.Need-new-requires
 new-requires c κs = search rules
 
-write-entry-requires : tie.Need-write-entry-requires
-write-entry-requires c κs = let K = c.before.before in
-    let A = K.before in
-    let S = A.before.before.before.before in
+write-entry-requires : tie.Need-write_entry-requires
+write-entry-requires c κs = let K = c in
+    let A = c in
+    let S = c.before.before.before.before.before.before.before in
     let src = S.args.source.now in
     let s = S.args.shape in
-    let a = A.at.result in
-    let size : length K.key_of.result.now ≡ s.keylen =
-    ap length K.key_of.ensures
+    let a = A.at-a.result in
+    let size : length K.key_of-key.result.now ≡ s.keylen =
+    ap length K.key_of-key.ensures
     ∙ length-key (layout_of src) src (room src S.requires.0.accepted) S.args.i.0 (low S)
     ∙ layout-key src s S.requires.0.shape in (
       mid_len a (a + (s.keylen + 4)) S.args.target.now
-          (omega (arith, ends S, A.at.ensures, A.before.start.ensures))
+          (omega (arith, ends S, A.at-a.ensures, A.start.ensures))
           ∙ omega (arith, size),
       omega (arith, c.new.ensures),
     )
 
-same_length : tie.Need-same-length
+same_length : tie.Need-shape_of-target
 same_length c = search rules
 
 returns : tie.Need-returns
-returns c = let W = c.before.before in
-    let N = W.before in
-    let A = N.before.before.before in
-    let S = A.before.before.before.before in
+returns c = let W = c in
+    let N = c in
+    let A = c in
+    let S = c.before.before.before.before.before.before.before.before.before.before in
     let src = S.args.source.now in
     let g = layout_of src in
     let s = S.args.shape in
     let i = S.args.i.0 in
-    let a = A.at.result in
+    let a = A.at-a.result in
     let t = S.args.target.now in
     let r = room src S.requires.0.accepted in
     let is = S.requires.0.shape in
-    let v : W.write-entry.new.0 ≡ bare_slot g src i =
-    W.write-entry.ensures
-    ∙ ap₂ slot_bytes N.before.before.key_of.ensures N.new.ensures
+    let v : W.write_entry.new.0 ≡ bare_slot g src i =
+    W.write_entry.ensures
+    ∙ ap₂ slot_bytes N.key_of-key.ensures N.new.ensures
     ∙ bare-slot g src r i (low S) in
-    let size : length W.write-entry.new.0 ≡ a + (s.keylen + 4) - a =
+    let size : length W.write_entry.new.0 ≡ a + (s.keylen + 4) - a =
     ap length v ∙ omega (arith, length-bare_slot g src r i (low S), slot-room src s is) in
-    store-lent t a (a + (s.keylen + 4)) W.write-entry.new.0 size
-    ∙ ap₂ (store t) (A.at.ensures ∙ A.before.start.ensures ∙ sym (slot-place src s is i)) v
+    store-lent t a (a + (s.keylen + 4)) W.write_entry.new.0 size
+    ∙ ap₂ (store t) (A.at-a.ensures ∙ A.start.ensures ∙ sym (slot-place src s is i)) v
 
-pub carry-key-spec : {M : Type 1} → statement M
-carry-key-spec =
+pub carry_key_spec : {M : Type 1} → statement M
+carry_key_spec =
     tie.close
     (tie.spec
     start-requires

@@ -12,22 +12,22 @@ use borrow.Author.Rules.{rules}
 use Rattle.convert_bare.proofs.carry_scramble.Statement.{statement}
 use Rattle.convert_bare.proofs.carry_scramble.Tie as tie
 
-sub-numbers : tie.Need-overflow-sub-numbers
-sub-numbers c = let S = c.before.before.before in
+sub-numbers : tie.Need-overflow_sub-numbers
+sub-numbers c = let S = c in
     omega (arith, (header S.args.source.now S.args.shape S.requires.0).first)
 
-add-numbers : tie.Need-overflow-add-numbers
-add-numbers c = let S = c.before.before.before in
+add-numbers : tie.Need-overflow_add-numbers
+add-numbers c = let S = c in
     omega (arith, (header S.args.source.now S.args.shape S.requires.0).last)
 
-cast-numbers : tie.Need-overflow-cast-numbers
+cast-numbers : tie.Need-overflow_cast-numbers
 cast-numbers c = search rules
 
-mul-carry : tie.Need-overflow-mul-carry
+mul-carry : tie.Need-overflow_mul-numbers
 mul-carry c = search rules
 
 carry-requires : tie.Need-carry-requires
-carry-requires c κs = let S = c.before.before.before.before in
+carry-requires c κs = let S = c in
     let src = S.args.source.now in
     let f = header src S.args.shape S.requires.0 in
     let r = room src S.requires.0.accepted in (
@@ -36,18 +36,25 @@ carry-requires c κs = let S = c.before.before.before.before in
       omega (arith, f.last),
     )
 
-same_length : tie.Need-same-length
+same_length : tie.Need-shape_of-target
 same_length c = search rules
 
 returns : tie.Need-returns
 unfolding scramble shape_of
-returns c = let S = c.before.before.before.before.before.before.before in
+returns c = let S = c in
     let src = S.args.source.now in
-    c.before.before.carry.ensures
+    c.carry.ensures
     ∙ ap (λ (n : ℕ). store S.args.target.now scramble_start (part src scramble_start n))
     (ap (λ (s : Shape). 4 * (s.last - s.first + 1)) S.requires.0.shape)
 
-pub carry-scramble-spec : {M : Type 1} → statement M
-carry-scramble-spec =
+pub carry_scramble_spec : {M : Type 1} → statement M
+carry_scramble_spec =
     tie.close
-    (tie.spec sub-numbers add-numbers cast-numbers mul-carry carry-requires same_length returns)
+    (tie.spec
+    sub-numbers
+    add-numbers
+    cast-numbers
+    mul-carry
+    carry-requires
+    same_length
+    returns)

@@ -27,72 +27,72 @@ long S =
 
 carry-requires : tie.Need-carry-requires
 carry-requires c κs =
-    let Z = c.before.before.before in
-    let l = long Z.before.before.before.before in
+    let Z = c in
+    let l = long c.before.before.before.before.before.before.before in
     (omega (arith, l.0), omega (arith, l.1, Z.zero.auto), omega arith)
 
-carry-version-requires : tie.Need-carry-version-requires
+carry-version-requires : tie.Need-carry_version-requires
 carry-version-requires c κs =
-    let C = c.before.before.before in
-    let Z = C.before.before.before.before in
-    let l = long Z.before.before.before.before in
+    let C = c in
+    let Z = c in
+    let l = long c.before.before.before.before.before.before.before.before.before.before.before in
     (l.0, omega (arith, l.1, Z.zero.auto, C.carry.auto))
 
-carry-scramble-requires : tie.Need-carry-scramble-requires
+carry-scramble-requires : tie.Need-carry_scramble-requires
 carry-scramble-requires c κs = search rules
 
-carry-keys-requires : tie.Need-carry-keys-requires
+carry-keys-requires : tie.Need-carry_keys-requires
 carry-keys-requires c κs = search rules
 
-set-free-requires : tie.Need-set-free-requires
+set-free-requires : tie.Need-set_free-requires
 set-free-requires c κs =
-    let K = c.before.before.before in
-    let R = K.before.before.before.before in
-    let H = R.before.before.before.before in
-    let C = H.before.before.before.before in
-    let Z = C.before.before.before.before in
-    let S = Z.before.before.before.before in
+    let K = c in
+    let R = c in
+    let H = c in
+    let C = c in
+    let Z = c in
+    let S = c.before.before.before.before.before.before.before.before.before.before.before.before.before.before.before.before.before.before.before.before.before.before.before.before.before in
     let f = header S.args.source.now S.args.shape S.requires.0 in (
       omega (
         arith,
         (long S).1,
         Z.zero.auto,
         C.carry.auto,
-        H.carry-version.auto,
-        R.carry-scramble.auto,
-        K.carry-keys.auto,
+        H.carry_version.auto,
+        R.carry_scramble.auto,
+        K.carry_keys.auto,
       ),
       omega arith,
       omega (arith, f.area, f.size-high),
     )
 
-same_length : tie.Need-same-length
+same_length : tie.Need-shape_of-target
 same_length c = search rules
 
 returns : tie.Need-returns
 unfolding bare_image
 returns c =
-    let F = c.before.before in
-    let K = F.before.before.before.before in
-    let R = K.before.before.before.before in
-    let H = R.before.before.before.before in
-    let C = H.before.before.before.before in
-    let Z = C.before.before.before.before in
-    let S = Z.before.before.before.before in
+    let F = c in
+    let K = c in
+    let R = c in
+    let H = c in
+    let C = c in
+    let Z = c in
+    let S = c in
     let src = S.args.source.now in
     let g = layout_of src in
     F.set_free.ensures
     ∙ ap₂ (λ (d : ℕ) (t : Bytes). set_free d t d) (shape-area S.requires.0)
-    (K.carry-keys.ensures
+    (K.carry_keys.ensures
     ∙ ap (λ (t : Bytes). store t table_start (bare_slots g src g.N 0))
-    (R.carry-scramble.ensures
+    (R.carry_scramble.ensures
     ∙ ap (λ (t : Bytes). store t scramble_start (scramble src))
-    (H.carry-version.ensures
+    (H.carry_version.ensures
     ∙ ap (λ (t : Bytes). store t version_field (other_version (major_of src)))
     (C.carry.ensures ∙ ap (λ (t : Bytes). store t 0 (part src 0 free_field)) Z.zero.ensures))))
 
-pub write-bare-spec : {M : Type 1} → statement M
-write-bare-spec =
+pub write_bare_spec : {M : Type 1} → statement M
+write_bare_spec =
     tie.close
     (tie.spec
     zero-requires

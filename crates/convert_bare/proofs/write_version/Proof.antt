@@ -19,42 +19,42 @@ three (x ∷ y ∷ []) a b c h = absurd (omega arith)
 three (x ∷ y ∷ z ∷ []) a b c h = refl
 three (x ∷ y ∷ z ∷ w ∷ l) a b c h = absurd (omega arith)
 
-slice-write-part : tie.Need-slice-write-part
+slice-write-part : tie.Need-bounds-part-0
 slice-write-part c = search rules
 
-slice-write-part-2 : tie.Need-slice-write-part-2
+slice-write-part-2 : tie.Need-bounds-part-1
 slice-write-part-2 c = search rules
 
-slice-write-part-3 : tie.Need-slice-write-part-3
+slice-write-part-3 : tie.Need-bounds-part-2
 slice-write-part-3 c = search rules
 
-same_length : tie.Need-same-length
+same_length : tie.Need-shape_of-part-then-major-eq-WIDE_MAJOR
 same_length c = search rules
 
-returns : tie.Need-returns
+returns : tie.Need-returns-then-major-eq-WIDE_MAJOR
 unfolding other_version wide
-returns c = let S = c.before in
-    three S.args.part.now 1 0 2 S.requires ∙ sym (rw c.if1.true refl)
+returns c = let S = c in
+    three S.args.part.now 1 0 2 S.requires ∙ sym (rw c.if-major-eq-WIDE_MAJOR.true refl)
 
-slice-write-part-4 : tie.Need-slice-write-part-4
+slice-write-part-4 : tie.Need-bounds-part-0-2
 slice-write-part-4 c = search rules
 
-slice-write-part-5 : tie.Need-slice-write-part-5
+slice-write-part-5 : tie.Need-bounds-part-1-2
 slice-write-part-5 c = search rules
 
-slice-write-part-6 : tie.Need-slice-write-part-6
+slice-write-part-6 : tie.Need-bounds-part-2-2
 slice-write-part-6 c = search rules
 
-same-length-2 : tie.Need-same-length-2
+same-length-2 : tie.Need-shape_of-part
 same-length-2 c = search rules
 
-returns-2 : tie.Need-returns-2
+returns-2 : tie.Need-returns
 unfolding other_version wide
-returns-2 c = let S = c.before in
-    three S.args.part.now 2 0 0 S.requires ∙ sym (rw (ne_eqb _ 2 c.if1.false) refl)
+returns-2 c = let S = c in
+    three S.args.part.now 2 0 0 S.requires ∙ sym (rw (ne_eqb _ 2 c.if-major-eq-WIDE_MAJOR.false) refl)
 
-pub write-version-spec : {M : Type 1} → statement M
-write-version-spec =
+pub write_version_spec : {M : Type 1} → statement M
+write_version_spec =
     tie.close
     (tie.spec
     slice-write-part

@@ -47,22 +47,22 @@ whole S a =
       shape-head S.requires.source,
     )
 
-is-active-requires : tie.Need-is-active-requires
-is-active-requires c κs = omega (arith, inside c.before.before, head-range c.before.before.requires.source)
+is-active-requires : tie.Need-is_active-requires
+is-active-requires c κs = omega (arith, inside c.before.before, head-range c.requires.source)
 
-returns : tie.Need-returns
+returns : tie.Need-returns-then-not-is_active
 unfolding carried_to
-returns c = sym (rw (was-no c.before.is-active.ensures c.if1.true) refl)
+returns c = sym (rw (was-no c.is_active.ensures c.if-not-is_active.true) refl)
 
-text-start-requires : tie.Need-text-start-requires
+text-start-requires : tie.Need-text_start-requires
 text-start-requires c κs =
     let S = c.before.before.before.before in
     (omega (arith, inside S), omega (arith, head-range S.requires.source))
 
-at-requires : tie.Need-at-requires
+at-requires : tie.Need-at-at-requires
 at-requires c κs = search rules
 
-length-at-requires : tie.Need-length-at-requires
+length-at-requires : tie.Need-length_at-m-requires
 length-at-requires c κs =
     let S = c.before.before.before.before.before.before in
     (S.requires.source, (inside S).0)
@@ -73,77 +73,75 @@ record Known (S : tie.Start) (at m : ℕ) : Type 0 where
   pub starts : at ≡ S.args.o.0 + S.args.from.head
   pub long : m ≡ length_at (layout_of S.args.source.now) S.args.source.now S.args.o.0
 
-abbrev start : tie.After-place-text-arg → tie.Start
-start c =
-    let A = c.before.before.before.before in
-    A.before.before.before.before
+abbrev start : tie.After-place_text-arg-1 → tie.Start
+start c = c.before.before.before.before.before.before.before.before
 
-known : (c : tie.After-place-text-arg)
-    → Known (start c) c.before.before.at.result c.before.length_at.result
+known : (c : tie.After-place_text-arg-1)
+    → Known (start c) c.at-at.result c.length_at-m.result
 known c =
-    let T = c.before.before.before in
+    let T = c in
     record {
-      active = was-yes T.before.before.is-active.ensures T.before.if1.false;
-      starts = c.before.before.at.ensures ∙ T.text-start.ensures;
-      long = c.before.length_at.ensures;
+      active = was-yes T.is_active.ensures T.if-not-is_active.false;
+      starts = c.at-at.ensures ∙ T.text_start.ensures;
+      long = c.length_at-m.ensures;
     }
 
-add-place-text : tie.Need-overflow-add-place-text
+add-place-text : tie.Need-overflow_add-at
 add-place-text c =
     let S = start c in
     let k = known c in
     omega (arith, k.starts, k.long, whole S k.active, inside S)
 
-sub-place-text : tie.Need-overflow-sub-place-text
+sub-place-text : tie.Need-slice_bounds-place_text-count
 sub-place-text c = search rules
 
-part-place-text-start : tie.Need-slice-bounds-place-text-start
+part-place-text-start : tie.Need-slice_bounds-place_text-start
 part-place-text-start c = search rules
 
-part-place-text-end : tie.Need-slice-bounds-place-text-end
+part-place-text-end : tie.Need-slice_bounds-place_text-end
 part-place-text-end c =
     let S = start c in
     let k = known c in
     omega (arith, k.starts, k.long, whole S k.active)
 
-place-text-requires : tie.Need-place-text-requires
+place-text-requires : tie.Need-place_text-requires
 place-text-requires c κs =
     let P = c.before in
     let S = start P in
     let k = known P in
-    let at = P.before.before.at.result in
-    let m = P.before.length_at.result in
+    let at = P.at-at.result in
+    let m = P.length_at-m.result in
     let len : length (take (at + m - at) (drop at S.args.source.now)) ≡ m =
     ap length (part-lent S.args.source.now at m)
     ∙ part_length S.args.source.now at m (omega (arith, k.starts, k.long, whole S k.active)) in
-    let fits = S.pre.fits k.active in (
-      S.pre.target,
-      S.pre.there,
+    let fits = S.requires.fits k.active in (
+      S.requires.target,
+      S.requires.there,
       record { small = omega (arith, len, k.long, fits.small); room = omega (arith, len, k.long, fits.room) },
     )
 
-same_length : tie.Need-same-length
+same_length : tie.Need-shape_of-target
 same_length c = search rules
 
-returns-2 : tie.Need-returns-2
+returns-2 : tie.Need-returns
 unfolding text_at carried_to
 returns-2 c =
-    let R = c.before.before in
-    let P = R.before.before in
+    let R = c in
+    let P = c.before.before.before.before in
     let S = start P in
     let k = known P in
     let t = S.args.target.now in
-    let at = P.before.before.at.result in
-    let m = P.before.length_at.result in
-    R.place-text.ensures
+    let at = P.at-at.result in
+    let m = P.length_at-m.result in
+    R.place_text.ensures
     ∙ ap (carried (layout_of t) t S.args.i.0 (key_in t S.args.i.0))
     (part-lent S.args.source.now at m
     ∙ ap₂ (part S.args.source.now)
-    (k.starts ∙ ap (λ (h : ℕ). S.args.o.0 + h) (shape-head S.pre.source)) k.long)
+    (k.starts ∙ ap (λ (h : ℕ). S.args.o.0 + h) (shape-head S.requires.source)) k.long)
     ∙ sym (rw k.active refl)
 
-pub carry-message-spec : {M : Type 1} → statement M
-carry-message-spec =
+pub carry_message_spec : {M : Type 1} → statement M
+carry_message_spec =
     tie.close
     (tie.spec
     is-active-requires

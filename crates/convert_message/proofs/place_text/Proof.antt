@@ -49,80 +49,80 @@ sound S = none-sound (layout_of S.args.target.now) S.args.target.now
 room : (S : tie.Start) → Fits S.args.target.now S.args.to (0 + length S.args.text.now)
 room S = record { small = omega (arith, S.requires.2.small); room = omega (arith, S.requires.2.room) }
 
-read-u32-requires : tie.Need-read-u32-requires
+read-u32-requires : tie.Need-read_u32-requires
 read-u32-requires c κs =
-    let S = c.before.before.before in
+    let S = c in
     omega (arith, (opened-facts _ S.requires.0.accepted).size_low)
 
-cast-new : tie.Need-overflow-cast-new
+cast-new : tie.Need-overflow_cast-read_u32
 cast-new c = search rules
 
-new-requires : tie.Need-new-requires
+new-requires : tie.Need-new-free-requires
 new-requires c κs = search rules
 
-new-requires-2 : tie.Need-new-requires-2
+new-requires-2 : tie.Need-new-requires
 new-requires-2 c κs = search rules
 
-text-start-requires : tie.Need-text-start-requires
+text-start-requires : tie.Need-text_start-requires
 text-start-requires c κs =
-    let S = c.before.before.before.before.before.before.before in
-    (omega (arith, c.new2.ensures), omega (arith, head-range S.requires.0))
+    let S = c in
+    (omega (arith, c.new.ensures), omega (arith, head-range S.requires.0))
 
-abbrev new-at-text-start : tie.After-text-start → tie.After-new
+abbrev new-at-text-start : tie.After-text_start → tie.After-new-free
 new-at-text-start c = c.before.before.before
 
-abbrev start-at-text-start : tie.After-text-start → tie.Start
-start-at-text-start c = (new-at-text-start c).before.before.before.before.before
+abbrev start-at-text-start : tie.After-text_start → tie.Start
+start-at-text-start c = c.before.before.before.before.before.before.before
 
 -- where the (empty) old text would begin
-from_is : (c : tie.After-text-start) → c.text-start.result.0 ≡ 0 + (start-at-text-start c).args.to.head
+from_is : (c : tie.After-text_start) → c.text_start.result.0 ≡ 0 + (start-at-text-start c).args.to.head
 from_is c =
-    c.text-start.ensures
-    ∙ ap (λ (o : ℕ). o + (start-at-text-start c).args.to.head) c.before.new2.ensures
+    c.text_start.ensures
+    ∙ ap (λ (o : ℕ). o + (start-at-text-start c).args.to.head) c.new.ensures
 
-take-space-requires : tie.Need-take-space-requires
+take-space-requires : tie.Need-take_space-requires
 take-space-requires c κs =
     let S = start-at-text-start c in
-    (S.pre.0, omega (arith, from_is c, low S), room S)
+    (S.requires.0, omega (arith, from_is c, low S), room S)
 
-set-offset-requires : tie.Need-set-offset-requires
+set-offset-requires : tie.Need-set_offset-requires
 set-offset-requires c κs =
-    let P = c.before.before.before in
-    let T = P.before in
+    let P = c in
+    let T = c.before.before.before.before in
     let N = new-at-text-start T in
     let S = start-at-text-start T in
     let t = S.args.target.now in
-    let f = opened-facts t S.pre.0.accepted in
+    let f = opened-facts t S.requires.0.accepted in
     let same =
-    head-relocated S.pre.0 t 0 (sound S) (none-retired t) P.take-space.new.0 S.args.text.now
-    T.text-start.result.0 0 (from_is T) (low S) (room S) P.take-space.ensures in (
-      placed-opened P.take-space.new.0 S.args.to (same-open same S.pre.0),
-      S.pre.1,
-      omega (arith, N.new.ensures, N.before.read_u32.ensures, f.free-high, f.size-high),
+    head-relocated S.requires.0 t 0 (sound S) (none-retired t) P.take_space.new.0 S.args.text.now
+    T.text_start.result.0 0 (from_is T) (low S) (room S) P.take_space.ensures in (
+      placed-opened P.take_space.new.0 S.args.to (same-open same S.requires.0),
+      S.requires.1,
+      omega (arith, N.new-free.ensures, N.read_u32.ensures, f.free-high, f.size-high),
     )
 
-same_length : tie.Need-same-length
+same_length : tie.Need-shape_of-target
 same_length c = search rules
 
 returns : tie.Need-returns
 returns c =
-    let E = c.before.before in
-    let P = E.before.before.before.before in
-    let T = P.before in
+    let E = c in
+    let P = c in
+    let T = c.before.before.before.before.before.before.before in
     let N = new-at-text-start T in
     let S = start-at-text-start T in
     let A = S.args in
     let t = A.target.now in
-    relocated-steps S.pre.0 t 0 (sound S) (none-retired t) P.take-space.new.0 A.text.now
-    T.text-start.result.0 0 (from_is T) (low S) (room S) P.take-space.ensures
-    E.set-offset.new.0 A.i.0 N.new.result.0 S.pre.1 (N.new.ensures ∙ N.before.read_u32.ensures)
-    E.set-offset.ensures
+    relocated-steps S.requires.0 t 0 (sound S) (none-retired t) P.take_space.new.0 A.text.now
+    T.text_start.result.0 0 (from_is T) (low S) (room S) P.take_space.ensures
+    E.set_offset.new.0 A.i.0 N.new-free.result.0 S.requires.1 (N.new-free.ensures ∙ N.read_u32.ensures)
+    E.set_offset.ensures
     ∙ ap (λ (old : Bytes). relocated (layout_of t) t A.i.0 0 (key_in t A.i.0) (old ++ A.text.now))
     (part-zero t _)
     ∙ relocated-carried t A.i.0 A.text.now
 
-pub place-text-spec : {M : Type 1} → statement M
-place-text-spec =
+pub place_text_spec : {M : Type 1} → statement M
+place_text_spec =
     tie.close
     (tie.spec
     read-u32-requires

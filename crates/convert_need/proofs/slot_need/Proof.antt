@@ -18,46 +18,46 @@ use Rattle.convert_need.proofs.Needing.{slot-taken, need-vacant, need-quiet, nee
 use Rattle.convert_need.proofs.slot_need.Statement.{statement}
 use Rattle.convert_need.proofs.slot_need.Tie as tie
 
-is-vacant-requires : tie.Need-is-vacant-requires
+is-vacant-requires : tie.Need-is_vacant-requires
 is-vacant-requires c κs = search rules
 
-returns : tie.Need-returns
+returns : tie.Need-returns-then-is_vacant
 returns c =
-    let A = c.before.before.before.args in
-    let n = need-vacant A.source.now A.i.0 (sym c.before.is-vacant.ensures ∙ c.if1.true) in
+    let A = c.args in
+    let n = need-vacant A.source.now A.i.0 (sym c.is_vacant.ensures ∙ c.if-is_vacant.true) in
     (sym n.0, sym n.1)
 
-offset-of-requires : tie.Need-offset-of-requires
+offset-of-requires : tie.Need-offset_of-at-requires
 offset-of-requires c κs = search rules
 
 -- a taken slot's message header lies in the source
-inside : (c : tie.After-offset-of)
-    → let S = c.before.before.before.before in
-    c.offset-of.result.0 + S.args.shape.head ≤ length S.args.source.now
+inside : (c : tie.After-offset_of-at)
+    → let S = c in
+    c.offset_of-at.result.0 + S.args.shape.head ≤ length S.args.source.now
 inside c =
-    let E = c.before in
-    let S = E.before.before.before in
+    let E = c in
+    let S = c in
     let img = S.args.source.now in
     let r = S.requires.0 in
-    let t = slot-taken img S.args.i.0 (sym E.before.is-vacant.ensures ∙ E.if1.false) in
+    let t = slot-taken img S.args.i.0 (sym E.is_vacant.ensures ∙ E.if-is_vacant.false) in
     omega (
       arith,
       message-fits img (opened-facts img r.opened.accepted) (offset_in img S.args.i.0) (r.message t),
-      c.offset-of.ensures,
+      c.offset_of-at.ensures,
       shape-head r.opened,
     )
 
-is-active-requires : tie.Need-is-active-requires
+is-active-requires : tie.Need-is_active-requires
 is-active-requires c κs =
-    omega (arith, inside c, head-range c.before.before.before.before.requires.0.opened)
+    omega (arith, inside c, head-range c.requires.0.opened)
 
-returns-2 : tie.Need-returns-2
+returns-2 : tie.Need-returns-then-not-is_active
 returns-2 c =
-    let O = c.before.before in
-    let A = O.before.before.before.before.args in
+    let O = c in
+    let A = O.args in
     let img = A.source.now in
     let n = need-quiet img A.i.0
-    (ap (is_active img) (sym O.offset-of.ensures) ∙ was-no c.before.is-active.ensures c.if2.true) in
+    (ap (is_active img) (sym O.offset_of-at.ensures) ∙ was-no c.is_active.ensures c.if-not-is_active.true) in
     (sym n.0, sym n.1)
 
 -- what is known once the message is known to be active
@@ -81,19 +81,19 @@ module _ (c : tie.Else2) where
   active-yes =
       ap (is_active img) (sym O.offset-of.ensures) ∙ was-yes c.before.is-active.ensures c.if2.false
 
-length-at-requires : tie.Need-length-at-requires
+length-at-requires : tie.Need-length_at-m-requires
 length-at-requires c κs = ((S c).requires.0.opened, inside (O c))
 
-length-is : (c : tie.After-length-at)
-    → c.length_at.result
+length-is : (c : tie.After-length_at-m)
+    → c.length_at-m.result
     ≡ length_at (layout_of (img c.before)) (img c.before) (offset_in (img c.before) (i c.before))
 length-is c =
-    let E = c.before in
-    c.length_at.ensures ∙ ap (length_at (layout_of (img E)) (img E)) (O E).offset-of.ensures
+    let E = c in
+    c.length_at-m.ensures ∙ ap (length_at (layout_of (img E)) (img E)) (O E).offset-of.ensures
 
-add-bytes : tie.Need-overflow-add-bytes
+add-bytes : tie.Need-overflow_add-bytes
 add-bytes c =
-    let E = c.before in
+    let E = c in
     omega (
       arith,
       length-is c,
@@ -102,14 +102,14 @@ add-bytes c =
       active-length (img E) (S E).args.shape (i E) (S E).requires.0 (slot-some E) (active-yes E),
     )
 
-returns-3 : tie.Need-returns-3
+returns-3 : tie.Need-returns
 returns-3 c =
-    let E = c.before in
+    let E = c in
     let n = need-active (img E) (i E) (slot-some E) (active-yes E) in
     (ap₂ ◌+◌ (S E).requires.1 (length-is c) ∙ sym n.0, ap₂ leb (length-is c) (S E).requires.2 ∙ sym n.1)
 
-pub slot-need-spec : {M : Type 1} → statement M
-slot-need-spec =
+pub slot_need_spec : {M : Type 1} → statement M
+slot_need_spec =
     tie.close
     (tie.spec
     is-vacant-requires

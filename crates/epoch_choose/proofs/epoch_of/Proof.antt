@@ -5,16 +5,21 @@ use Rattle.epoch_choose.proofs.Keys.{epoch-read}
 use Rattle.epoch_choose.proofs.epoch_of.Statement.{statement}
 use Rattle.epoch_choose.proofs.epoch_of.Tie as tie
 
-sub-read-u32 : tie.Need-overflow-sub-read-u32
+sub-read-u32 : tie.Need-overflow_sub-end
 sub-read-u32 c = search rules
 
-read-u32-requires : tie.Need-read-u32-requires
+read-u32-requires : tie.Need-read_u32-requires
 read-u32-requires c κs = search rules
 
 returns : tie.Need-returns
 returns c =
-    let S = c.before.before in
+    let S = c in
     c.read_u32.ensures ∙ epoch-read S.args.key.now S.requires
 
-pub epoch-of-spec : {M : Type 1} → statement M
-epoch-of-spec = tie.close (tie.spec sub-read-u32 read-u32-requires returns)
+pub epoch_of_spec : {M : Type 1} → statement M
+epoch_of_spec =
+    tie.close
+    (tie.spec
+    sub-read-u32
+    read-u32-requires
+    returns)

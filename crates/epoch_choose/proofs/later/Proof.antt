@@ -8,26 +8,32 @@ use Rattle.epoch_choose.proofs.Best.{kept-first, kept-best, kept_new}
 use Rattle.epoch_choose.proofs.later.Statement.{statement}
 use Rattle.epoch_choose.proofs.later.Tie as tie
 
-enum-known-found : tie.Need-enum-known-found
+enum-known-found : tie.Need-enum_known-found
 enum-known-found c = search rules
 
-returns : tie.Need-returns
+returns : tie.Need-returns-in_default
 returns c =
-    let A = c.before.args in
-    kept-first A.best A.i A.epoch (other-met A.best.found c.match.keys2)
+    let A = c.args in
+    kept-first A.best A.i A.epoch (other-met A.best.found c.in_default.keys2)
 
-returns-2 : tie.Need-returns-2
+returns-2 : tie.Need-returns-then-epoch-best
 unfolding is_met
 returns-2 c =
-    let A = c.before.before.before.before.before.args in
-    kept-best A.best A.i A.epoch (ap is_met (met-is c.before.before.before.found.given.1))
-    c.if1.true
+    let A = c.args in
+    kept-best A.best A.i A.epoch (ap is_met (met-is c.found-1.given.1))
+    c.if-epoch-best.true
 
-returns-3 : tie.Need-returns-3
+returns-3 : tie.Need-returns
 unfolding is_met
 returns-3 c =
-    let A = c.before.before.before.before.before.args in
-    kept_new A.best A.i A.epoch (ap is_met (met-is c.before.before.before.found.given.1)) c.if1.false
+    let A = c.args in
+    kept_new A.best A.i A.epoch (ap is_met (met-is c.found-1.given.1)) c.if-epoch-best.false
 
-pub later-spec : {M : Type 1} → statement M
-later-spec = tie.close (tie.spec enum-known-found returns returns-2 returns-3)
+pub later_spec : {M : Type 1} → statement M
+later_spec =
+    tie.close
+    (tie.spec
+    enum-known-found
+    returns
+    returns-2
+    returns-3)

@@ -7,24 +7,24 @@ use Rattle.epoch_choose.proofs.Best.{looked-over, looked-at}
 use Rattle.epoch_choose.proofs.look.Statement.{statement}
 use Rattle.epoch_choose.proofs.look.Tie as tie
 
-is-eligible-requires : tie.Need-is-eligible-requires
-is-eligible-requires c κs = c.before.before.requires.slot
+is-eligible-requires : tie.Need-is_eligible-requires
+is-eligible-requires c κs = c.requires.slot
 
-returns : tie.Need-returns
+returns : tie.Need-returns-then-not-is_eligible
 returns c =
-    let S = c.before.before.before.before in
+    let S = c in
     let A = S.args in
     looked-over A.image.now A.name.now A.t A.i A.best S.requires.kept
-    (was-no c.before.is-eligible.ensures c.if1.true)
+    (was-no c.is_eligible.ensures c.if-not-is_eligible.true)
 
-key-of-requires : tie.Need-key-of-requires
+key-of-requires : tie.Need-key_of-requires
 key-of-requires c κs =
-    let S = c.before.before.before.before in
+    let S = c in
     (S.requires.slot.named.opened, S.requires.slot.below)
 
-epoch-of-requires : tie.Need-epoch-of-requires
+epoch-of-requires : tie.Need-epoch_of-requires
 epoch-of-requires c κs =
-    let S = c.before.before.before.before.before in
+    let S = c in
     let A = S.args in
     key-long A.image.now A.shape A.name.now A.t A.i.0 A.mark S.requires.slot
     c.key_of.result.now c.key_of.ensures
@@ -32,18 +32,18 @@ epoch-of-requires c κs =
 later-requires : tie.Need-later-requires
 later-requires c κs = search rules
 
-returns-2 : tie.Need-returns-2
+returns-2 : tie.Need-returns
 returns-2 c =
-    let E = c.before in
-    let K = E.before in
-    let T = K.before in
-    let S = T.before.before.before.before in
+    let E = c in
+    let K = c in
+    let T = c in
+    let S = c in
     let A = S.args in
     let epoch =
     slot-epoch A.image.now A.shape A.name.now A.t A.i.0 A.mark S.requires.slot
     K.key_of.result.now K.key_of.ensures in
-    looked-at A.image.now A.name.now A.t A.i A.best S.requires.kept E.epoch-of.result
-    (E.epoch-of.ensures ∙ sym epoch) (was-yes T.before.is-eligible.ensures T.if1.false)
+    looked-at A.image.now A.name.now A.t A.i A.best S.requires.kept E.epoch_of.result
+    (E.epoch_of.ensures ∙ sym epoch) (was-yes T.is_eligible.ensures T.if-not-is_eligible.false)
     c.later.result c.later.ensures
 
 pub look_spec : {M : Type 1} → statement M

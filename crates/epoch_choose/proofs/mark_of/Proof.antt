@@ -11,36 +11,42 @@ use Rattle.epoch_choose.proofs.Keys.{part-take}
 use Rattle.epoch_choose.proofs.mark_of.Statement.{statement}
 use Rattle.epoch_choose.proofs.mark_of.Tie as tie
 
-filled-requires : tie.Need-filled-requires
+filled-requires : tie.Need-filled-end-requires
 filled-requires c κs = search rules
 
-returns : tie.Need-returns
+returns : tie.Need-returns-then-end-lt4
 returns c = search rules
 
-slice-aggregate-tail : tie.Need-slice-aggregate-tail
+slice-aggregate-tail : tie.Need-slice_bounds-tail-end
 slice-aggregate-tail c =
-    let F = c.before.before in
-    sym (length-take-le F.filled.result F.before.before.args.name.now F.filled.ensures)
+    let F = c in
+    sym (length-take-le F.filled-end.result F.args.name.now F.filled-end.ensures)
 
-tail-requires : tie.Need-tail-requires
+tail-requires : tie.Need-tail-block-requires
 tail-requires c κs =
-    let F = c.before.before in
-    let l = length-take-le F.filled.result F.before.before.args.name.now F.filled.ensures in
-    omega (arith, l, c.before.if1.false)
+    let F = c in
+    let l = length-take-le F.filled-end.result F.args.name.now F.filled-end.ensures in
+    omega (arith, l, c.if-end-lt4.false)
 
-returns-2 : tie.Need-returns-2
+returns-2 : tie.Need-returns
 returns-2 c =
-    let F = c.before.before.before in
-    let end = F.filled.result in
-    let name = F.before.before.args.name.now in
-    let l : length (take end name) ≡ end = length-take-le end name F.filled.ensures in
+    let F = c in
+    let end = F.filled-end.result in
+    let name = F.args.name.now in
+    let l : length (take end name) ≡ end = length-take-le end name F.filled-end.ensures in
     record {
-      ends = F.filled.ensures;
+      ends = F.filled-end.ensures;
       is = λ h.
-          c.tail.ensures ∙ ap (λ (n : ℕ). little (part (take end name) (n - 4) 4)) l
+          c.tail-block.ensures ∙ ap (λ (n : ℕ). little (part (take end name) (n - 4) 4)) l
           ∙ ap little (part-take name end (end - 4) 4 (omega arith));
     }
 
-pub mark-of-spec : {M : Type 1} → statement M
-mark-of-spec =
-    tie.close (tie.spec filled-requires returns slice-aggregate-tail tail-requires returns-2)
+pub mark_of_spec : {M : Type 1} → statement M
+mark_of_spec =
+    tie.close
+    (tie.spec
+    filled-requires
+    returns
+    slice-aggregate-tail
+    tail-requires
+    returns-2)

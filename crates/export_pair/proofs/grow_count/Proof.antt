@@ -4,13 +4,17 @@ use borrow.Author.Rules.{rules}
 use Rattle.export_pair.proofs.grow_count.Statement.{statement}
 use Rattle.export_pair.proofs.grow_count.Tie as tie
 
-count-pair-requires : tie.Need-count-pair-requires
+count-pair-requires : tie.Need-count_pair-both-requires
 count-pair-requires c κs = search rules
 
 returns : tie.Need-returns
 returns c =
-    let e = c.count-pair.ensures in
+    let e = c.count_pair-both.ensures in
     record { number = e.0; amount = e.1; old = refl; new = refl }
 
-pub grow-count-spec : {M : Type 1} → statement M
-grow-count-spec = tie.close (tie.spec count-pair-requires returns)
+pub grow_count_spec : {M : Type 1} → statement M
+grow_count_spec =
+    tie.close
+    (tie.spec
+    count-pair-requires
+    returns)

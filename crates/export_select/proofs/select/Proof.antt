@@ -7,13 +7,18 @@ use Rattle.export_select.proofs.select.Tie as tie
 select-requires : tie.Need-select-requires
 select-requires c κs = search rules
 
-same_length : tie.Need-same-length
+same_length : tie.Need-shape_of-list
 same_length c = search rules
 
 returns : tie.Need-returns
 returns c =
-    let e = c.before.before.select.ensures in
+    let e = c.select.ensures in
     record { number = e.0; many = e.1.0; listed = e.1.1; image = refl }
 
-pub select-spec : {M : Type 1} → statement M
-select-spec = tie.close (tie.spec select-requires same_length returns)
+pub select_spec : {M : Type 1} → statement M
+select_spec =
+    tie.close
+    (tie.spec
+    select-requires
+    same_length
+    returns)

@@ -7,63 +7,63 @@ use Rattle.export_walk.proofs.Told.{judged, says-refused, says-sound, says_slot,
 use Rattle.export_walk.proofs.check.Statement.{statement}
 use Rattle.export_walk.proofs.check.Tie as tie
 
-check-requires : tie.Need-check-requires
+check-requires : tie.Need-check-found-requires
 check-requires c κs = search rules
 
-enum-known-found : tie.Need-enum-known-found
+enum-known-found : tie.Need-enum_known-found
 enum-known-found c = search rules
 
-enum_told : tie.Need-enum-told
+enum_told : tie.Need-enum_told-1
 enum_told c = search rules
 
-enum-known-found-2 : tie.Need-enum-known-found-2
+enum-known-found-2 : tie.Need-enum_known-found-in-SlotFails-1
 enum-known-found-2 c = search rules
 
 number-requires : tie.Need-number-requires
 number-requires c κs = search rules
 
-cast-slot : tie.Need-overflow-cast-slot
+cast-slot : tie.Need-overflow_cast-slot
 unfolding verdict_in
 cast-slot c =
-    let F = c.before.before.before.before in
-    let A = F.before.before.args in
+    let F = c in
+    let A = F.args in
     omega (
       arith,
       check-slot A.image.now _
-          (sym F.check.ensures ∙ ap verdict_in c.before.before.found2.given.1),
+          (sym F.check-found.ensures ∙ ap verdict_in c.found-in-SlotFails-1.given.1),
       c.number.ensures,
     )
 
-enum-told-2 : tie.Need-enum-told-2
+enum-told-2 : tie.Need-enum_told-in-CountFails
 enum-told-2 c = search rules
 
-returns : tie.Need-returns
+returns : tie.Need-returns-in-Refused
 unfolding verdict_in
 returns c =
-    let F = c.before.before.before in
-    judged (says-refused _ _ (sym (ap verdict_in c.before.found.given.1) ∙ F.check.ensures))
+    let F = c in
+    judged (says-refused _ _ (sym (ap verdict_in c.found-1.given.1) ∙ F.check-found.ensures))
 
-returns-2 : tie.Need-returns-2
+returns-2 : tie.Need-returns-in-Sound
 unfolding verdict_in
 returns-2 c =
-    let F = c.before.before in
-    judged (says-sound _ (sym (ap verdict_in c.enum_told.given.1) ∙ F.check.ensures))
+    let F = c in
+    judged (says-sound _ (sym (ap verdict_in c.enum_told-1.given.1) ∙ F.check-found.ensures))
 
-returns-3 : tie.Need-returns-3
+returns-3 : tie.Need-returns-in-SlotFails
 unfolding verdict_in
 returns-3 c =
-    let F = c.before.before.before.before in
-    judged (says_slot _ _ _ (sym (ap verdict_in c.before.before.found2.given.1) ∙ F.check.ensures)
+    let F = c in
+    judged (says_slot _ _ _ (sym (ap verdict_in c.found-in-SlotFails-1.given.1) ∙ F.check-found.ensures)
     c.number.ensures)
 
-returns-4 : tie.Need-returns-4
+returns-4 : tie.Need-returns-in-CountFails
 unfolding verdict_in
 returns-4 c =
-    let F = c.before.before in
-    judged (says-count _ (sym (ap verdict_in c.enum-told2.given.1) ∙ F.check.ensures))
+    let F = c in
+    judged (says-count _ (sym (ap verdict_in c.enum_told-in-CountFails-1.given.1) ∙ F.check-found.ensures))
 
-pub check-spec : {M : Type 1} → statement M
-check-spec =
+pub check_spec : {M : Type 1} → statement M
+check_spec =
     tie.close
     (tie.spec
     check-requires

@@ -11,65 +11,65 @@ use borrow.Author.Rules.{rules}
 use Rattle.growth_beside.proofs.renewed_number.Statement.{statement}
 use Rattle.growth_beside.proofs.renewed_number.Tie as tie
 
-returns : tie.Need-returns
+returns : tie.Need-returns-then-fits
 returns c =
-    let A = c.before.before.before.before.args in
+    let A = c.args in
     let Q = place_of A.old.now A.new.now A.named.0 A.moved in
     λ text bytes l m.
     sym (renewed-fits Q (layout_of A.new.now) (length A.new.now) A.fits text bytes A.mode
-    c.before.if1.true
-    c.if2.true)
+    c.if-mode-eq-REPLACE.true
+    c.if-fits.true)
 
-room-beside-requires : tie.Need-room-beside-requires
+room-beside-requires : tie.Need-room_beside-requires
 room-beside-requires c κs = search rules
 
-returns-2 : tie.Need-returns-2
+returns-2 : tie.Need-returns-then-mode-eq-REPLACE
 returns-2 c =
-    let A = c.before.before.before.before.before.args in
+    let A = c.args in
     let Q = place_of A.old.now A.new.now A.named.0 A.moved in
     λ text bytes l m.
-    c.room-beside.ensures bytes m
+    c.room_beside.ensures bytes m
     ∙ sym (renewed-more Q (layout_of A.new.now) (length A.new.now) A.fits text bytes A.mode
-    c.before.before.if1.true
-    c.before.if2.false)
+    c.if-mode-eq-REPLACE.true
+    c.if-fits.false)
 
-returns-3 : tie.Need-returns-3
+returns-3 : tie.Need-returns-then-mode-eq-WITHDRAW
 returns-3 c =
-    let A = c.before.before.before.before.args in
+    let A = c.args in
     let Q = place_of A.old.now A.new.now A.named.0 A.moved in
     λ text bytes l m.
     sym (renewed-withdrawn Q (layout_of A.new.now) (length A.new.now) A.fits text bytes A.mode
-    c.if3.true)
+    c.if-mode-eq-WITHDRAW.true)
 
-returns-4 : tie.Need-returns-4
+returns-4 : tie.Need-returns-then-m-eq0
 returns-4 c =
-    let S = c.before.before.before.before.before in
+    let S = c in
     let A = S.args in
     let Q = place_of A.old.now A.new.now A.named.0 A.moved in
     λ text bytes l m.
     sym (renewed-nothing Q (layout_of A.new.now) (length A.new.now) A.fits text bytes A.mode
-    (mode-three A.mode S.requires.4 S.requires.7 c.before.before.if1.false c.before.if3.false)
-    (m ∙ c.if4.true))
+    (mode-three A.mode S.requires.4 S.requires.7 c.if-mode-eq-REPLACE.false c.if-mode-eq-WITHDRAW.false)
+    (m ∙ c.if-m-eq0.true))
 
-add-room-beside : tie.Need-overflow-add-room-beside
+add-room-beside : tie.Need-overflow_add-shown
 add-room-beside c = search rules
 
-room-beside-requires-2 : tie.Need-room-beside-requires-2
+room-beside-requires-2 : tie.Need-room_beside-requires-2
 room-beside-requires-2 c κs = search rules
 
-returns-5 : tie.Need-returns-5
+returns-5 : tie.Need-returns
 returns-5 c =
-    let S = c.before.before.before.before.before.before in
+    let S = c in
     let A = S.args in
     let Q = place_of A.old.now A.new.now A.named.0 A.moved in
     λ text bytes l m.
-    c.room-beside2.ensures (text ++ bytes) (omega (arith, length-append text bytes, l, m))
+    c.room_beside-2.ensures (text ++ bytes) (omega (arith, length-append text bytes, l, m))
     ∙ sym (renewed-longer Q (layout_of A.new.now) (length A.new.now) A.fits text bytes A.mode
-    (mode-three A.mode S.requires.4 S.requires.7 c.before.before.before.if1.false c.before.before.if3.false)
-    (λ z. c.before.if4.false (sym m ∙ z)))
+    (mode-three A.mode S.requires.4 S.requires.7 c.if-mode-eq-REPLACE.false c.if-mode-eq-WITHDRAW.false)
+    (λ z. c.if-m-eq0.false (sym m ∙ z)))
 
-pub renewed-number-spec : {M : Type 1} → statement M
-renewed-number-spec =
+pub renewed_number_spec : {M : Type 1} → statement M
+renewed_number_spec =
     tie.close
     (tie.spec
     returns

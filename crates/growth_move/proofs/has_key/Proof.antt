@@ -16,14 +16,14 @@ use Rattle.table_search.proofs.Taken.{other-met}
 use Rattle.growth_move.proofs.has_key.Statement.{statement}
 use Rattle.growth_move.proofs.has_key.Tie as tie
 
-search-requires : tie.Need-search-requires
+search-requires : tie.Need-search-probed-requires
 search-requires c κs = search rules
 
-enum_told : tie.Need-enum-told
+enum_told : tie.Need-enum_told-1
 enum_told c = search rules
 
-returns : tie.Need-returns
-returns c = sym (ap is_met (sym c.before.search.ensures.0) ∙ other-met _ c.match.keys2)
+returns : tie.Need-returns-in_default
+returns c = sym (ap is_met (sym c.search-probed.ensures.0) ∙ other-met _ c.in_default.keys2)
 
 is-met : (f : Found) → OneOf (0 ∷ []) (tag_of the_type f) → is_met (probe_of f) ≡ true
 unfolding probe_of is_met
@@ -31,8 +31,14 @@ is-met (Met s) h = refl
 is-met (Empty s) h = let z : ◌≡◌ {A = ℕ} 1 0 = h in absurd (omega arith)
 is-met Exhausted h = let z : ◌≡◌ {A = ℕ} 2 0 = h in absurd (omega arith)
 
-returns-2 : tie.Need-returns-2
-returns-2 c = sym (ap is_met (sym c.before.before.search.ensures.0) ∙ is-met _ c.before.match.keys1)
+returns-2 : tie.Need-returns
+returns-2 c = sym (ap is_met (sym c.search-probed.ensures.0) ∙ is-met _ c.in-Met.keys1)
 
-pub has-key-spec : {M : Type 1} → statement M
-has-key-spec = tie.close (tie.spec search-requires enum_told returns returns-2)
+pub has_key_spec : {M : Type 1} → statement M
+has_key_spec =
+    tie.close
+    (tie.spec
+    search-requires
+    enum_told
+    returns
+    returns-2)

@@ -18,44 +18,44 @@ use Rattle.growth_move.proofs.Texts.{taken_none, taken-some, text-is}
 use Rattle.growth_move.proofs.take_in.Statement.{statement}
 use Rattle.growth_move.proofs.take_in.Tie as tie
 
-is-active-requires : tie.Need-is-active-requires
+is-active-requires : tie.Need-is_active-requires
 is-active-requires c κs =
-    let S = c.before.before.before in
+    let S = c in
     omega (arith, message-head S.args.old.now (opened-facts _ S.requires.0.accepted) S.args.o.0 S.requires.1)
 
-slice-aggregate-add : tie.Need-slice-aggregate-add
+slice-aggregate-add : tie.Need-slice_bounds-add-end
 slice-aggregate-add c = search rules
 
 add-requires : tie.Need-add-requires
 add-requires c κs = search rules
 
-same_length : tie.Need-same-length
+same_length : tie.Need-shape_of-new-then-not-is_active
 same_length c = search rules
 
-returns : tie.Need-returns
+returns : tie.Need-returns-then-not-is_active
 returns c =
-    let T = c.before.before.before.before.before in
-    let S = T.before.before.before.before.before in
+    let T = c in
+    let S = c in
     taken_none S.args.new.now S.args.key.now S.args.old.now S.args.o.0 _ _ _
-    (was-no T.before.is-active.ensures T.if1.true) refl c.before.before.add.ensures
+    (was-no T.is_active.ensures T.if-not-is_active.true) refl c.add.ensures
 
 at-requires : tie.Need-at-requires
 at-requires c κs = search rules
 
-add_start : tie.Need-overflow-add-start
+add_start : tie.Need-overflow_add-start
 add_start c =
-    let S = c.before.before.before.before.before.before.before in
+    let S = c in
     omega (
       arith,
-      c.before.at.ensures,
+      c.at.ensures,
       shape-head S.requires.0,
       message-fits S.args.old.now (opened-facts _ S.requires.0.accepted) S.args.o.0 S.requires.1,
       (opened-facts _ S.requires.0.accepted).size-high,
     )
 
-length-at-requires : tie.Need-length-at-requires
+length-at-requires : tie.Need-length_at-requires
 length-at-requires c κs =
-    let S = c.before.before.before.before.before.before.before in (
+    let S = c in (
       S.requires.0,
       omega (
         arith,
@@ -64,16 +64,16 @@ length-at-requires c κs =
       ),
     )
 
-add-end : tie.Need-overflow-add-end
+add-end : tie.Need-overflow_add-end
 add-end c =
-    let T = c.before.before.before in
-    let S = T.before.before.before.before.before in
+    let T = c in
+    let S = c in
     let img = S.args.old.now in
     let f = opened-facts _ S.requires.0.accepted in
-    let z = active-some img S.args.o.0 (was-yes T.before.is-active.ensures T.if1.false) in
+    let z = active-some img S.args.o.0 (was-yes T.is_active.ensures T.if-not-is_active.false) in
     omega (
       arith,
-      c.before.before.at.ensures,
+      c.at.ensures,
       c.length_at.ensures,
       shape-head S.requires.0,
       message-end img f S.args.o.0 S.requires.1 z,
@@ -81,23 +81,23 @@ add-end c =
       f.size-high,
     )
 
-sub-add : tie.Need-overflow-sub-add
+sub-add : tie.Need-slice_bounds-add-count
 sub-add c = search rules
 
-part-add-start : tie.Need-slice-bounds-add-start
+part-add-start : tie.Need-slice_bounds-add-start
 part-add-start c = search rules
 
-part-add-end : tie.Need-slice-bounds-add-end
+part-add-end : tie.Need-slice_bounds-add-end-2
 part-add-end c =
-    let T = c.before.before.before.before in
-    let S = T.before.before.before.before.before in
+    let T = c in
+    let S = c in
     let img = S.args.old.now in
     let f = opened-facts _ S.requires.0.accepted in
-    let z = active-some img S.args.o.0 (was-yes T.before.is-active.ensures T.if1.false) in
+    let z = active-some img S.args.o.0 (was-yes T.is_active.ensures T.if-not-is_active.false) in
     omega (
       arith,
-      c.before.before.before.at.ensures,
-      c.before.length_at.ensures,
+      c.at.ensures,
+      c.length_at.ensures,
       shape-head S.requires.0,
       message-end img f S.args.o.0 S.requires.1 z,
       f.free-high,
@@ -107,24 +107,24 @@ part-add-end c =
 add-requires-2 : tie.Need-add-requires-2
 add-requires-2 c κs = search rules
 
-same-length-2 : tie.Need-same-length-2
+same-length-2 : tie.Need-shape_of-new
 same-length-2 c = search rules
 
-returns-2 : tie.Need-returns-2
+returns-2 : tie.Need-returns
 returns-2 c =
-    let M = c.before.before.before.before.before in
-    let T = M.before.before.before in
-    let S = T.before.before.before.before.before in
+    let M = c in
+    let T = c in
+    let S = c in
     let img = S.args.old.now in
-    let a = was-yes T.before.is-active.ensures T.if1.false in
-    let P = M.before.before in
+    let a = was-yes T.is_active.ensures T.if-not-is_active.false in
+    let P = c in
     taken-some S.args.new.now S.args.key.now img S.args.o.0 _ _ _ a
     (part-lent img (P.at.result + S.args.shape.head) M.length_at.result
     ∙ text-is img S.args.o.0 _ _ (omega (arith, P.at.ensures, shape-head S.requires.0)) M.length_at.ensures)
-    c.before.before.add2.ensures
+    c.add-2.ensures
 
-pub take-in-spec : {M : Type 1} → statement M
-take-in-spec =
+pub take_in_spec : {M : Type 1} → statement M
+take_in_spec =
     tie.close
     (tie.spec
     is-active-requires

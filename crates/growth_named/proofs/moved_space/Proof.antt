@@ -4,14 +4,19 @@ use borrow.Author.Rules.{rules}
 use Rattle.growth_named.proofs.moved_space.Statement.{statement}
 use Rattle.growth_named.proofs.moved_space.Tie as tie
 
-add-result : tie.Need-overflow-add-result
+add-result : tie.Need-overflow_add-result
 add-result c = search rules
 
-returns : tie.Need-returns
-returns c = rw c.if1.true refl
+returns : tie.Need-returns-then-active
+returns c = rw c.if-active.true refl
 
-returns-2 : tie.Need-returns-2
+returns-2 : tie.Need-returns
 returns-2 c = search rules
 
-pub moved-space-spec : {M : Type 1} → statement M
-moved-space-spec = tie.close (tie.spec add-result returns returns-2)
+pub moved_space_spec : {M : Type 1} → statement M
+moved_space_spec =
+    tie.close
+    (tie.spec
+    add-result
+    returns
+    returns-2)

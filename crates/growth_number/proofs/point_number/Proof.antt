@@ -6,42 +6,42 @@ use borrow.Author.Rules.{rules}
 use Rattle.growth_number.proofs.point_number.Statement.{statement}
 use Rattle.growth_number.proofs.point_number.Tie as tie
 
-search-requires : tie.Need-search-requires
+search-requires : tie.Need-search-probed-requires
 search-requires c κs = search rules
 
-enum-known-found : tie.Need-enum-known-found
+enum-known-found : tie.Need-enum_known-found
 enum-known-found c = search rules
 
-own-number-requires : tie.Need-own-number-requires
+own-number-requires : tie.Need-own_number-requires
 own-number-requires c κs = search rules
 
-returns : tie.Need-returns
+returns : tie.Need-returns-in_default
 returns c =
-    let S = c.before.before.before.before.before.before in
+    let S = c in
     let A = S.args in
     points-other A.old.now A.new.now A.key.now A.m A.mode
-    (not-met A.old.now A.key.now A.shape S.requires.0.first.shape c.before.before.search.result.found
-    c.before.before.search.ensures.0
-    c.before.match.keys2) c.own-number.result c.own-number.ensures
+    (not-met A.old.now A.key.now A.shape S.requires.0.first.shape c.search-probed.result.found
+    c.search-probed.ensures.0
+    c.in_default.keys2) c.own_number.result c.own_number.ensures
 
-named-number-requires : tie.Need-named-number-requires
+named-number-requires : tie.Need-named_number-requires
 named-number-requires c κs =
-    let S = c.before.before.before.before.before.before.before in
+    let S = c in
     let A = S.args in
-    let f = c.before.before.before.search.result.found in (
-      named-slot A.old.now A.new.now A.key.now S.requires.0 f c.before.before.before.search.ensures.0
-          _ c.before.found.given.1,
+    let f = c.search-probed.result.found in (
+      named-slot A.old.now A.new.now A.key.now S.requires.0 f c.search-probed.ensures.0
+          _ c.found-1.given.1,
       met-slot A.old.now A.key.now A.shape S.requires.0.first.shape f
-          c.before.before.before.search.ensures.0 _ c.before.found.given.1,
+          c.search-probed.ensures.0 _ c.found-1.given.1,
       S.requires.1,
       S.requires.2,
     )
 
-returns-2 : tie.Need-returns-2
+returns-2 : tie.Need-returns
 returns-2 c = search rules
 
-pub point-number-spec : {M : Type 1} → statement M
-point-number-spec =
+pub point_number_spec : {M : Type 1} → statement M
+point_number_spec =
     tie.close
     (tie.spec
     search-requires

@@ -6,53 +6,53 @@ use borrow.Author.Rules.{rules}
 use Rattle.growth_number.proofs.remove_number.Statement.{statement}
 use Rattle.growth_number.proofs.remove_number.Tie as tie
 
-search-requires : tie.Need-search-requires
+search-requires : tie.Need-search-probed-requires
 search-requires c κs = search rules
 
-enum-known-found : tie.Need-enum-known-found
+enum-known-found : tie.Need-enum_known-found
 enum-known-found c = search rules
 
-removed-number-requires : tie.Need-removed-number-requires
+removed-number-requires : tie.Need-removed_number-requires
 removed-number-requires c κs = search rules
 
-returns : tie.Need-returns
+returns : tie.Need-returns-in_default
 returns c =
-    let S = c.before.before.before.before.before.before in
+    let S = c in
     let A = S.args in
-    c.removed-number.ensures
+    c.removed_number.ensures
     ∙ sym (remove-other A.old.now A.new.now A.key.now
-    (not-met A.old.now A.key.now A.shape S.requires.first.shape c.before.before.search.result.found
-    c.before.before.search.ensures.0
-    c.before.match.keys2))
+    (not-met A.old.now A.key.now A.shape S.requires.first.shape c.search-probed.result.found
+    c.search-probed.ensures.0
+    c.in_default.keys2))
 
-move-number-requires : tie.Need-move-number-requires
+move-number-requires : tie.Need-move_number-requires
 move-number-requires c κs =
-    let S = c.before.before.before.before.before.before.before in
+    let S = c in
     let A = S.args in
-    named-slot A.old.now A.new.now A.key.now S.requires c.before.before.before.search.result.found
-    c.before.before.before.search.ensures.0 _
-    c.before.found.given.1
+    named-slot A.old.now A.new.now A.key.now S.requires c.search-probed.result.found
+    c.search-probed.ensures.0 _
+    c.found-1.given.1
 
-abbrev start-at-shared-slice-known : tie.After-shared-slice-known → tie.Start
+abbrev start-at-shared-slice-known : tie.After-shared_slice_known-1 → tie.Start
 start-at-shared-slice-known c = c.before
 
-abbrev start-at-move-number : tie.After-move-number → tie.Start
-start-at-move-number c = start-at-shared-slice-known c.before.before.before.before.before.before.before
+abbrev start-at-move-number : tie.After-move_number → tie.Start
+start-at-move-number c = c.before.before.before.before.before.before.before.before
 
-returns-2 : tie.Need-returns-2
+returns-2 : tie.Need-returns
 returns-2 c =
     let S = (start-at-move-number c) in
     let A = S.args in
-    let f = c.before.before.before.before.search.result.found in
-    let n = named-slot A.old.now A.new.now A.key.now S.pre f
-    c.before.before.before.before.search.ensures.0 _ c.before.before.found.given.1 in
-    let m = met-slot A.old.now A.key.now A.shape S.pre.first.shape f
-    c.before.before.before.before.search.ensures.0 _
-    c.before.before.found.given.1 in
-    c.move-number.ensures ∙ sym (remove-met A.old.now A.new.now A.key.now _ m n)
+    let f = c.search-probed.result.found in
+    let n = named-slot A.old.now A.new.now A.key.now S.requires f
+    c.search-probed.ensures.0 _ c.found-1.given.1 in
+    let m = met-slot A.old.now A.key.now A.shape S.requires.first.shape f
+    c.search-probed.ensures.0 _
+    c.found-1.given.1 in
+    c.move_number.ensures ∙ sym (remove-met A.old.now A.new.now A.key.now _ m n)
 
-pub remove-number-spec : {M : Type 1} → statement M
-remove-number-spec =
+pub remove_number_spec : {M : Type 1} → statement M
+remove_number_spec =
     tie.close
     (tie.spec
     search-requires

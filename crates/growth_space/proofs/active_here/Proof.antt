@@ -15,11 +15,11 @@ use Rattle.growth_space.proofs.Retired.{length-small, here-low, here-high, here-
 use Rattle.growth_space.proofs.active_here.Statement.{statement}
 use Rattle.growth_space.proofs.active_here.Tie as tie
 
-abbrev start : tie.After-at2 → tie.Start
+abbrev start : tie.After-at → tie.Start
 start c = c.before.before.before.before
 
-abbrev start₁ : tie.Else1 → tie.Start
-start₁ c = start c.before
+abbrev start₁ : tie.Else-at → tie.Start
+start₁ c = c.before.before.before.before.before
 
 abbrev img : tie.Start → Bytes
 img c = c.args.image.now
@@ -28,23 +28,23 @@ facts : (c : tie.Start) → Opened (img c)
 facts c = opened-facts (img c) c.requires.0.opened.accepted
 
 -- the offset, and where the data area begins
-at-is : (c : tie.After-at2) → c.before.before.at.result ≡ (start c).args.o.0
-at-is c = c.before.before.at.ensures
+at-is : (c : tie.After-at) → c.at-at.result ≡ (start c).args.o.0
+at-is c = c.at-at.ensures
 
-area-is : (c : tie.After-at2) → c.at2.result ≡ (layout_of (img (start c))).D
-area-is c = c.at2.ensures ∙ shape-area (start c).requires.0.opened
+area-is : (c : tie.After-at) → c.at.result ≡ (layout_of (img (start c))).D
+area-is c = c.at.ensures ∙ shape-area (start c).requires.0.opened
 
-at-requires : tie.Need-at-requires
+at-requires : tie.Need-at-at-requires
 at-requires c κs = search rules
 
-at-requires-2 : tie.Need-at-requires-2
+at-requires-2 : tie.Need-at-requires
 at-requires-2 c κs = search rules
 
-returns : tie.Need-returns
+returns : tie.Need-returns-then-at
 returns c =
     let S = start c.before in
-    sym (here-low (img S) (facts S) S.args.named.0 S.pre.0.sound S.args.o.0
-    (omega (arith, at-is c.before, area-is c.before, c.if1.true)))
+    sym (here-low (img S) (facts S) S.args.named.0 S.requires.0.sound S.args.o.0
+    (omega (arith, at-is c.before, area-is c.before, c.if-at.true)))
 
 -- the numbers that every test goes by
 record Known (c : tie.Start) : Type 0 where
@@ -71,15 +71,15 @@ known c =
       head-high = h.1;
     }
 
-sub-if2 : tie.Need-overflow-sub-if2
+sub-if2 : tie.Need-overflow_sub-free
 sub-if2 c = omega (arith, known (start₁ c.before))
 
-returns-2 : tie.Need-returns-2
+returns-2 : tie.Need-returns-then-free-shape
 returns-2 c =
     let E = c.before.before in
     let S = start₁ E in
-    sym (here-high (img S) (facts S) S.args.named.0 S.pre.0.sound S.args.o.0
-    (omega (arith, at-is E.before, c.if2.true, known S)))
+    sym (here-high (img S) (facts S) S.args.named.0 S.requires.0.sound S.args.o.0
+    (omega (arith, at-is c.before.before.before, c.if-free-shape.true, known S)))
 
 -- the header lies in the image, above the table
 record Within (c : tie.Start) : Type 0 where
@@ -87,114 +87,114 @@ record Within (c : tie.Start) : Type 0 where
   some : 0 < c.args.o.0
   fits : c.args.o.0 + c.args.shape.head ≤ c.args.free
 
-within : (c : tie.Else2) → Within (start₁ c.before.before)
+within : (c : tie.Else-free-shape) → Within (start₁ c.before.before)
 within c =
     let E = c.before.before in
     let S = start₁ E in
-    let a = at-is E.before in
-    let d = area-is E.before in
+    let a = at-is c.before.before.before in
+    let d = area-is c.before.before.before in
     let f = known S in
     record {
-      low = omega (arith, a, d, E.if1.false);
+      low = omega (arith, a, d, E.if-at.false);
       some =
           omega (
             arith,
             a,
-            E.if1.false,
-            E.before.at2.ensures,
-            area-field S.pre.0.opened,
+            E.if-at.false,
+            E.at.ensures,
+            area-field S.requires.0.opened,
             area-above (img S) (facts S),
           );
-      fits = omega (arith, a, c.if2.false, f);
+      fits = omega (arith, a, c.if-free-shape.false, f);
     }
 
-shared-slice-read-if3 : tie.Need-shared-slice-read-if3
+shared-slice-read-if3 : tie.Need-bounds-image-at
 shared-slice-read-if3 c =
     let E = c.before.before.before in
-    omega (arith, at-is E.before, within c.before, known (start₁ E))
+    omega (arith, at-is c.before.before.before.before, within c.before, known (start₁ E))
 
 -- the letter is that of the offset
-letter-is : (c : tie.After-at2)
-    → get_or (img (start c)) c.before.before.at.result 0 ≡ get_or (img (start c)) (start c).args.o.0 0
+letter-is : (c : tie.After-at)
+    → get_or (img (start c)) c.at-at.result 0 ≡ get_or (img (start c)) (start c).args.o.0 0
 letter-is c = ap (λ (k : ℕ). get_or (img (start c)) k 0) (at-is c)
 
-returns-3 : tie.Need-returns-3
+returns-3 : tie.Need-returns-then-image-at-ne97
 returns-3 c =
     let F = c.before.before in
-    let E = F.before.before in
+    let E = c.before.before.before.before in
     let S = start₁ E in
     let w = within F in
-    sym (here-other (img S) (facts S) S.args.named.0 S.pre.0.sound S.args.o.0 w.some
-    (omega (arith, w, known S)) (λ q. c.if3.true (letter-is E.before ∙ q)))
+    sym (here-other (img S) (facts S) S.args.named.0 S.requires.0.sound S.args.o.0 w.some
+    (omega (arith, w, known S)) (λ q. c.if-image-at-ne97.true (letter-is c.before.before.before.before.before ∙ q)))
 
-at-requires-3 : tie.Need-at-requires-3
+at-requires-3 : tie.Need-at-requires-2
 at-requires-3 c κs = search rules
 
-abbrev else1 : tie.After-at3 → tie.Else1
+abbrev else1 : tie.After-at-2 → tie.Else-at
 else1 c = c.before.before.before.before.before
 
-returns-4 : tie.Need-returns-4
+returns-4 : tie.Need-returns-then-at-2
 returns-4 c =
     let T = c.before in
     let E = else1 T in
     let S = start₁ E in
-    sym (here-named (img S) (facts S) S.args.named.0 S.pre.0.sound S.args.o.0
-    (sym (at-is E.before) ∙ c.if4.true ∙ T.at3.ensures))
+    sym (here-named (img S) (facts S) S.args.named.0 S.requires.0.sound S.args.o.0
+    (sym (at-is E.before) ∙ c.if-at-2.true ∙ T.at-2.ensures))
 
-length-beside-requires : tie.Need-length-beside-requires
+length-beside-requires : tie.Need-length_beside-requires
 length-beside-requires c κs =
     let T = c.before in
     let S = start₁ (else1 T) in
-    (S.pre.0, omega (arith, within T.before.before.before, known S))
+    (S.requires.0, omega (arith, within c.before.before.before.before, known S))
 
-add-bytes : tie.Need-overflow-add-bytes
+add-bytes : tie.Need-overflow_add-bytes
 add-bytes c =
     let T = c.before.before.before in
-    let F = T.before.before.before in
+    let F = c.before.before.before.before.before.before in
     let S = start₁ (else1 T) in
     omega (
       arith,
       known S,
-      c.before.length-beside.ensures,
-      length-small (img S) (facts S) S.args.named.0 S.pre.0.sound
-          (λ i. omega (arith, T.before.before.shared-slice-known2.given i)) S.args.o.0
+      c.length_beside.ensures,
+      length-small (img S) (facts S) S.args.named.0 S.requires.0.sound
+          (λ i. omega (arith, T.shared_slice_known-2-1.given i)) S.args.o.0
           (omega (arith, within F, known S)),
     )
 
-sub-if5 : tie.Need-overflow-sub-if5
+sub-if5 : tie.Need-overflow_sub-free-2
 sub-if5 c = search rules
 
-returns-5 : tie.Need-returns-5
+returns-5 : tie.Need-returns-then-free-at
 returns-5 c =
     let T = c.before.before.before.before in
     let E = else1 T in
     let S = start₁ E in
-    sym (here-long (img S) (facts S) S.args.named.0 S.pre.0.sound S.args.o.0
+    sym (here-long (img S) (facts S) S.args.named.0 S.requires.0.sound S.args.o.0
     (omega (
       arith,
       at-is E.before,
-      within T.before.before.before,
+      within c.before.before.before.before.before.before.before,
       known S,
-      c.before.before.length-beside.ensures,
-      c.if5.true,
+      c.length_beside.ensures,
+      c.if-free-at.true,
     )))
 
-returns-6 : tie.Need-returns-6
+returns-6 : tie.Need-returns
 returns-6 c =
     let T = c.before.before.before.before in
     let E = else1 T in
     let S = start₁ E in
-    let w = within T.before.before.before in
+    let w = within c.before.before.before.before.before.before.before in
     let f = known S in
-    let m = c.before.before.length-beside.ensures in
+    let m = c.length_beside.ensures in
     ap₂ ◌+◌ f.head-is m
-    ∙ sym (here-counts (img S) (facts S) S.args.named.0 S.pre.0.sound S.args.o.0 w.some w.low
-    (omega (arith, w, f)) (sym (letter-is E.before) ∙ T.before.if3.false)
-    (λ q. c.before.before.before.if4.false (at-is E.before ∙ q ∙ sym T.at3.ensures))
-    (omega (arith, at-is E.before, w, f, m, c.if5.false)))
+    ∙ sym (here-counts (img S) (facts S) S.args.named.0 S.requires.0.sound S.args.o.0 w.some w.low
+    (omega (arith, w, f)) (sym (letter-is E.before) ∙ T.if-image-at-ne97.false)
+    (λ q. c.if-at-2.false (at-is E.before ∙ q ∙ sym T.at-2.ensures))
+    (omega (arith, at-is E.before, w, f, m, c.if-free-at.false)))
 
-pub active-here-spec : {M : Type 1} → statement M
-active-here-spec =
+pub active_here_spec : {M : Type 1} → statement M
+active_here_spec =
     tie.close
     (tie.spec
     at-requires

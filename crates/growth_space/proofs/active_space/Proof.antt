@@ -18,14 +18,14 @@ use Rattle.growth_space.proofs.active_space.Tie as tie
 abbrev counts : Bytes → ℕ → ℕ → ℕ
 counts image n = active_at (layout_of image) (retire image n)
 
-abbrev invariant-loop : tie.invariant-loop
+abbrev invariant-loop : tie.invariant-loop-i
 invariant-loop image shape named slots free bytes₀ i₀ bytes i =
     (i ≤ slots) × (bytes ≤ i * most_image) × (bytes ≡ total (counts image named.0) i)
 
-abbrev decreases-loop : tie.decreases-loop
+abbrev decreases-loop : tie.decreases-loop-i
 decreases-loop image shape named slots free bytes₀ i₀ bytes i = slots - i
 
-abbrev start : tie.In-loop invariant-loop decreases-loop → tie.Start invariant-loop decreases-loop
+abbrev start : tie.In-loop-i invariant-loop decreases-loop → tie.Start invariant-loop decreases-loop
 start c = c.before.before.before.before
 
 abbrev img : tie.Start invariant-loop decreases-loop → Bytes
@@ -34,85 +34,85 @@ img c = c.args.image.now
 facts : (c : tie.Start invariant-loop decreases-loop) → Opened (img c)
 facts c = opened-facts (img c) c.requires.0.accepted
 
-read-u32-requires : tie.Need-read-u32-requires invariant-loop decreases-loop
+read-u32-requires : tie.Need-read_u32-free-requires invariant-loop decreases-loop
 read-u32-requires c κs = omega (arith, (facts c.before).size_low)
 
-cast-free : tie.Need-overflow-cast-free invariant-loop decreases-loop
+cast-free : tie.Need-overflow_cast-free invariant-loop decreases-loop
 cast-free c = omega arith
 
-loop-holds : tie.Need-loop-init invariant-loop decreases-loop
+loop-holds : tie.Need-loop-i-init invariant-loop decreases-loop
 loop-holds c =
-    let A = c.before.before.args in
+    let A = c.args in
     (omega arith, omega arith, sym (total-none (counts A.image.now A.named.0)))
 
 new-requires : tie.Need-new-requires invariant-loop decreases-loop
 new-requires c κs = tt
 
-active-at-requires : tie.Need-active-at-requires invariant-loop decreases-loop
+active-at-requires : tie.Need-active_at-bytes-requires invariant-loop decreases-loop
 active-at-requires c κs =
     let I = c.before in
     let S = start I in (
-      record { opened = S.pre.0; sound = S.pre.1 },
-      I.before.before.read_u32.ensures,
-      omega (arith, c.new.ensures, I.loop-test.true),
+      record { opened = S.requires.0; sound = S.requires.1 },
+      I.read_u32-free.ensures,
+      omega (arith, c.new.ensures, I.loop-i-test.true),
     )
 
 -- the slot's count
-one-is : (c : tie.After-active-at invariant-loop decreases-loop)
+one-is : (c : tie.After-active_at-bytes invariant-loop decreases-loop)
     → let I = c.before.before in
-    c.active-at.result ≡ counts (img (start I)) (start I).args.named.0 I.before.loop.i
+    c.active_at-bytes.result ≡ counts (img (start I)) (start I).args.named.0 I.loop-i.i
 one-is c =
     let I = c.before.before in
-    c.active-at.ensures ∙ ap (counts (img (start I)) (start I).args.named.0) c.before.new.ensures
+    c.active_at-bytes.ensures ∙ ap (counts (img (start I)) (start I).args.named.0) c.new.ensures
 
-one-most : (c : tie.After-active-at invariant-loop decreases-loop) → c.active-at.result ≤ most_image
+one-most : (c : tie.After-active_at-bytes invariant-loop decreases-loop) → c.active_at-bytes.result ≤ most_image
 one-most c =
     let I = c.before.before in
     let S = start I in
     omega (
       arith,
       one-is c,
-      at_most (img S) (facts S) S.args.named.0 S.pre.1 I.before.loop.i
-          (omega (arith, I.loop-test.true, layout-slots (img S) S.args.shape S.pre.0.shape)),
+      at_most (img S) (facts S) S.args.named.0 S.requires.1 I.loop-i.i
+          (omega (arith, I.loop-i-test.true, layout-slots (img S) S.args.shape S.requires.0.shape)),
     )
 
-few : (c : tie.In-loop invariant-loop decreases-loop) → c.before.loop.i < most_slots
+few : (c : tie.In-loop-i invariant-loop decreases-loop) → c.loop-i.i < most_slots
 few c =
     let S = start c in
-    omega (arith, c.loop-test.true, (header (img S) S.args.shape S.pre.0).slots-high)
+    omega (arith, c.loop-i-test.true, (header (img S) S.args.shape S.requires.0).slots-high)
 
-add-bytes : tie.Need-overflow-add-bytes invariant-loop decreases-loop
+add-bytes : tie.Need-overflow_add-bytes invariant-loop decreases-loop
 add-bytes c =
     let I = c.before.before in
-    omega (arith, one-most c, I.before.loop.invariant.1, few I)
+    omega (arith, one-most c, I.loop-i.invariant.1, few I)
 
-add-i : tie.Need-overflow-add-i invariant-loop decreases-loop
+add-i : tie.Need-overflow_add-i invariant-loop decreases-loop
 add-i c = omega (arith, few c.before.before)
 
-loop-less : tie.Need-loop-smaller invariant-loop decreases-loop
-loop-less c = omega (arith, c.before.before.loop-test.true)
+loop-less : tie.Need-loop-i-smaller invariant-loop decreases-loop
+loop-less c = omega (arith, c.loop-i-test.true)
 
-loop-again : tie.Need-loop-preserved invariant-loop decreases-loop
+loop-again : tie.Need-loop-i-preserved invariant-loop decreases-loop
 loop-again c =
     let I = c.before.before in
-    let L = I.before in
+    let L = c in
     let A = (start I).args in (
-      omega (arith, I.loop-test.true),
-      omega (arith, one-most c, L.loop.invariant.1),
-      omega (arith, one-is c, L.loop.invariant.2, total-next (counts A.image.now A.named.0) L.loop.i),
+      omega (arith, I.loop-i-test.true),
+      omega (arith, one-most c, L.loop-i.invariant.1),
+      omega (arith, one-is c, L.loop-i.invariant.2, total-next (counts A.image.now A.named.0) L.loop-i.i),
     )
 
 returns : tie.Need-returns invariant-loop decreases-loop
 returns c =
-    let L = c.before in
-    let S = L.before.before.before in
+    let L = c in
+    let S = c.before.before.before.before in
     let f : ℕ → ℕ = counts (img S) S.args.named.0 in
     let e = layout-slots (img S) S.args.shape S.requires.0.shape in
-    let end : L.loop.i ≡ (layout_of (img S)).N = omega (arith, e, c.loop-test.false, L.loop.invariant.0) in
-    L.loop.invariant.2 ∙ ap (total f) end ∙ sym (space-sum (img S) (facts S) S.args.named.0 S.requires.1)
+    let end : L.loop-i.i ≡ (layout_of (img S)).N = omega (arith, e, c.loop-i-test.false, L.loop-i.invariant.0) in
+    L.loop-i.invariant.2 ∙ ap (total f) end ∙ sym (space-sum (img S) (facts S) S.args.named.0 S.requires.1)
 
-pub active-space-spec : {M : Type 1} → statement M
-active-space-spec =
+pub active_space_spec : {M : Type 1} → statement M
+active_space_spec =
     tie.close
     (tie.spec
     invariant-loop

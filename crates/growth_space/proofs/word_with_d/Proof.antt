@@ -6,47 +6,47 @@ use Rattle.growth_space.proofs.Retired.{word_set}
 use Rattle.growth_space.proofs.word_with_d.Statement.{statement}
 use Rattle.growth_space.proofs.word_with_d.Tie as tie
 
-shared-slice-read-t6 : tie.Need-shared-slice-read-t6
+shared-slice-read-t6 : tie.Need-bounds-image-p
 shared-slice-read-t6 c = search rules
 
-add-t7 : tie.Need-overflow-add-t7
+add-t7 : tie.Need-overflow_add-four
 add-t7 c = search rules
 
-shared-slice-read-t9 : tie.Need-shared-slice-read-t9
+shared-slice-read-t9 : tie.Need-bounds-image-p-2
 shared-slice-read-t9 c = search rules
 
-add-t10 : tie.Need-overflow-add-t10
+add-t10 : tie.Need-overflow_add-four-2
 add-t10 c = search rules
 
-shared-slice-read-t12 : tie.Need-shared-slice-read-t12
+shared-slice-read-t12 : tie.Need-bounds-image-p-3
 shared-slice-read-t12 c = search rules
 
-add-t13 : tie.Need-overflow-add-t13
+add-t13 : tie.Need-overflow_add-four-3
 add-t13 c = search rules
 
-shared-slice-read-t15 : tie.Need-shared-slice-read-t15
+shared-slice-read-t15 : tie.Need-bounds-image-p-4
 shared-slice-read-t15 c = search rules
 
-sub-four : tie.Need-overflow-sub-four
+sub-four : tie.Need-overflow_sub-four
 sub-four c = search rules
 
-array-write-four : tie.Need-array-write-four
+array-write-four : tie.Need-bounds-four-n
 array-write-four c = search rules
 
-slice-aggregate-read-u32 : tie.Need-slice-aggregate-read-u32
+slice-aggregate-read-u32 : tie.Need-slice_bounds-read_u32-end
 slice-aggregate-read-u32 c = search rules
 
-read-u32-requires : tie.Need-read-u32-requires
+read-u32-requires : tie.Need-read_u32-requires
 read-u32-requires c κs = search rules
 
 returns : tie.Need-returns
 returns c =
-    let S = c.before.before.before.before.before.before.before in
+    let S = c in
     c.read_u32.ensures
     ∙ word_set S.args.image.now S.args.p S.args.n inactive S.requires.0 S.requires.1 S.requires.2
 
-pub word-with-d-spec : {M : Type 1} → statement M
-word-with-d-spec =
+pub word_with_d_spec : {M : Type 1} → statement M
+word_with_d_spec =
     tie.close
     (tie.spec
     shared-slice-read-t6

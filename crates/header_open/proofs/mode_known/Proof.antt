@@ -8,5 +8,8 @@ returns : tie.Need-returns
 unfolding mode_known
 returns c = refl
 
-pub mode-known-spec : {M : Type 1} → statement M
-mode-known-spec = tie.close (tie.spec returns)
+pub mode_known_spec : {M : Type 1} → statement M
+mode_known_spec =
+    tie.close
+    (tie.spec
+    returns)

@@ -6,18 +6,23 @@ use Rattle.spec_file.specs.Questions.{name_allowed}
 use Rattle.header_open.proofs.name_allowed.Statement.{statement}
 use Rattle.header_open.proofs.name_allowed.Tie as tie
 
-returns : tie.Need-returns
+returns : tie.Need-returns-then-key-size
 unfolding name_allowed
-returns c = let A = c.before.before.args in rw (ne_eqb (length A.key.now) A.size c.if1.true)
+returns c = let A = c.args in rw (ne_eqb (length A.key.now) A.size c.if-key-size.true)
 
-all-zero-requires : tie.Need-all-zero-requires
+all-zero-requires : tie.Need-all_zero-requires
 all-zero-requires c κs = search rules
 
-returns-2 : tie.Need-returns-2
+returns-2 : tie.Need-returns
 unfolding name_allowed
 returns-2 c =
-    let A = c.before.before.before.args in
-    rw (eq-eqb (length A.key.now) A.size c.before.if1.false, c.all-zero.ensures)
+    let A = c.args in
+    rw (eq-eqb (length A.key.now) A.size c.if-key-size.false, c.all_zero.ensures)
 
-pub name-allowed-spec : {M : Type 1} → statement M
-name-allowed-spec = tie.close (tie.spec returns all-zero-requires returns-2)
+pub name_allowed_spec : {M : Type 1} → statement M
+name_allowed_spec =
+    tie.close
+    (tie.spec
+    returns
+    all-zero-requires
+    returns-2)

@@ -8,5 +8,8 @@ returns : tie.Need-returns
 unfolding key_allowed
 returns c = refl
 
-pub key-allowed-spec : {M : Type 1} → statement M
-key-allowed-spec = tie.close (tie.spec returns)
+pub key_allowed_spec : {M : Type 1} → statement M
+key_allowed_spec =
+    tie.close
+    (tie.spec
+    returns)

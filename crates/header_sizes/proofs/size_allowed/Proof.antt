@@ -8,5 +8,8 @@ returns : tie.Need-returns
 unfolding size_allowed
 returns c = refl
 
-pub size-allowed-spec : {M : Type 1} → statement M
-size-allowed-spec = tie.close (tie.spec returns)
+pub size_allowed_spec : {M : Type 1} → statement M
+size_allowed_spec =
+    tie.close
+    (tie.spec
+    returns)

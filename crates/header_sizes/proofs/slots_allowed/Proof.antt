@@ -8,5 +8,8 @@ returns : tie.Need-returns
 unfolding slots_allowed
 returns c = refl
 
-pub slots-allowed-spec : {M : Type 1} → statement M
-slots-allowed-spec = tie.close (tie.spec returns)
+pub slots_allowed_spec : {M : Type 1} → statement M
+slots_allowed_spec =
+    tie.close
+    (tie.spec
+    returns)

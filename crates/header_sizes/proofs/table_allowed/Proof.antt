@@ -6,14 +6,14 @@ use Rattle.law_file.proofs.Tests.{by_le}
 use Rattle.header_sizes.proofs.table_allowed.Statement.{statement}
 use Rattle.header_sizes.proofs.table_allowed.Tie as tie
 
-wrapping-sub-u32-requires : tie.Need-wrapping-sub-u32-requires
+wrapping-sub-u32-requires : tie.Need-wrapping_sub_u32-requires
 wrapping-sub-u32-requires c κs = search rules
 
 returns : tie.Need-returns
 unfolding slots_allowed
 returns c =
-    let n = c.before.args.n in
-    let w = c.wrapping-sub-u32.result in
+    let n = c.args.n in
+    let w = c.wrapping_sub_u32.result in
     by_le 1 n
     (λ some.
     let most = ap (λ (b : Bool). b && leb n 1048576) (le-leb 1 n some) in
@@ -24,5 +24,9 @@ returns c =
     le-ltb w 1048576 (omega (arith, none))
     ∙ sym (ap (λ (b : Bool). b && leb n 1048576) (lt-leb 1 n none)))
 
-pub table-allowed-spec : {M : Type 1} → statement M
-table-allowed-spec = tie.close (tie.spec wrapping-sub-u32-requires returns)
+pub table_allowed_spec : {M : Type 1} → statement M
+table_allowed_spec =
+    tie.close
+    (tie.spec
+    wrapping-sub-u32-requires
+    returns)

@@ -5,17 +5,23 @@ use borrow.Author.Rules.{rules}
 use Rattle.journal_commit.proofs.set_mark.Statement.{statement}
 use Rattle.journal_commit.proofs.set_mark.Tie as tie
 
-sub-last : tie.Need-overflow-sub-last
+sub-last : tie.Need-overflow_sub-last
 sub-last c = search rules
 
-slice-write-journal : tie.Need-slice-write-journal
+slice-write-journal : tie.Need-bounds-journal-last
 slice-write-journal c = search rules
 
-same_length : tie.Need-same-length
+same_length : tie.Need-shape_of-journal
 same_length c = search rules
 
 returns : tie.Need-returns
 returns c = mark-stored c.args.journal.now c.args.journal.now 165 refl c.requires
 
-pub set-mark-spec : {M : Type 1} → statement M
-set-mark-spec = tie.close (tie.spec sub-last slice-write-journal same_length returns)
+pub set_mark_spec : {M : Type 1} → statement M
+set_mark_spec =
+    tie.close
+    (tie.spec
+    sub-last
+    slice-write-journal
+    same_length
+    returns)

@@ -26,59 +26,59 @@ room S =
     content-room S.args.journal.now (runs 0 S.args.old.now S.args.new.now) S.args.new.now
     S.requires.3
 
-cast-write-u32 : tie.Need-overflow-cast-write-u32
+cast-write-u32 : tie.Need-overflow_cast-pairs
 cast-write-u32 c = let S = c.before.before.before.before in omega (arith, few S, S.requires.1)
 
-write-u32-requires : tie.Need-write-u32-requires
+write-u32-requires : tie.Need-write_u32-requires
 write-u32-requires c κs = let S = c.before.before.before.before in omega (arith, (room S).0)
 
-abbrev start : tie.After-write-u32 → tie.Start
+abbrev start : tie.After-write_u32 → tie.Start
 start U = U.before.before.before.before.before
 
-write-pairs-requires : tie.Need-write-pairs-requires
+write-pairs-requires : tie.Need-write_pairs-requires
 write-pairs-requires c κs =
     let U = c.before.before.before in
     let S = start U in
-    (S.pre.0, S.pre.1, omega (arith, (room S).0, U.write-u32.auto.0))
+    (S.requires.0, S.requires.1, omega (arith, (room S).0, U.write_u32.auto.0))
 
-abbrev count : tie.After-write-pairs → tie.After-write-u32
+abbrev count : tie.After-write_pairs → tie.After-write_u32
 count P = P.before.before.before.before
 
-mul-write-bytes : tie.Need-overflow-mul-write-bytes
+mul-write-bytes : tie.Need-overflow_mul-pairs
 mul-write-bytes c =
     let S = start (count c.before.before.before) in
-    omega (arith, few S, S.pre.1)
+    omega (arith, few S, S.requires.1)
 
-add-write-bytes : tie.Need-overflow-add-write-bytes
+add-write-bytes : tie.Need-overflow_add-pairs
 add-write-bytes c =
     let S = start (count c.before.before.before) in
-    omega (arith, few S, S.pre.1)
+    omega (arith, few S, S.requires.1)
 
-write-bytes-requires : tie.Need-write-bytes-requires
+write-bytes-requires : tie.Need-write_bytes-requires
 write-bytes-requires c κs =
     let P = c.before.before.before in
     let U = count P in
     let S = start U in
-    (S.pre.0, omega (arith, (room S).1, S.pre.2, U.write-u32.kept.0, P.write-pairs.auto.0))
+    (S.requires.0, omega (arith, (room S).1, S.requires.2, U.write_u32.kept.0, P.write_pairs.auto.0))
 
-same_length : tie.Need-same-length
+same_length : tie.Need-shape_of-journal
 same_length c = search rules
 
 returns : tie.Need-returns
 returns c =
-    let B = c.before.before in
-    let P = B.before.before.before.before in
+    let B = c in
+    let P = c.before.before.before.before.before.before in
     let U = count P in
     let S = start U in
     let A = S.args in
     let rs = runs 0 A.old.now A.new.now in
     B.write_bytes.ensures
     ∙ ap (λ (t : Bytes). store t (4 + 8 * A.pairs) (new_bytes rs A.new.now))
-    (P.write-pairs.ensures ∙ ap (λ (t : Bytes). store t 4 (pair_bytes rs)) U.write-u32.ensures)
-    ∙ content-stored A.journal.now rs A.new.now A.pairs S.pre.2 S.pre.3
+    (P.write_pairs.ensures ∙ ap (λ (t : Bytes). store t 4 (pair_bytes rs)) U.write_u32.ensures)
+    ∙ content-stored A.journal.now rs A.new.now A.pairs S.requires.2 S.requires.3
 
-pub write-content-spec : {M : Type 1} → statement M
-write-content-spec =
+pub write_content_spec : {M : Type 1} → statement M
+write_content_spec =
     tie.close
     (tie.spec
     cast-write-u32

@@ -7,78 +7,78 @@ use borrow.Author.Rules.{rules}
 use Rattle.journal_commit.proofs.write_number.Statement.{statement}
 use Rattle.journal_commit.proofs.write_number.Tie as tie
 
-write-content-requires : tie.Need-write-content-requires
+write-content-requires : tie.Need-write_content-requires
 write-content-requires c κs =
-    let T = c.before.before in
-    let S = T.before.before.before.before in
-    S.requires.first T.if1.true
+    let T = c in
+    let S = c in
+    S.requires.first T.if-k-eq0.true
 
-same_length : tie.Need-same-length
+same_length : tie.Need-shape_of-image-then-k-eq0
 same_length c = search rules
 
-same-length-2 : tie.Need-same-length-2
+same-length-2 : tie.Need-shape_of-journal-then-k-eq0
 same-length-2 c = search rules
 
-returns : tie.Need-returns
+returns : tie.Need-returns-then-k-eq0
 returns c =
-    let W = c.before.before in
-    let T = W.before.before.before in
-    let S = T.before.before.before.before in
+    let W = c in
+    let T = c in
+    let S = c in
     let A = S.args in (
-      does-content A.image.now A.new.now A.journal.now A.pairs A.k A.from T.if1.true
-          W.write-content.new.0 W.write-content.ensures,
+      does-content A.image.now A.new.now A.journal.now A.pairs A.k A.from T.if-k-eq0.true
+          W.write_content.new.0 W.write_content.ensures,
       λ h. refl,
-      λ h. absurd (omega (arith, T.if1.true)),
+      λ h. absurd (omega (arith, T.if-k-eq0.true)),
     )
 
-set-mark-requires : tie.Need-set-mark-requires
+set-mark-requires : tie.Need-set_mark-requires
 set-mark-requires c κs = search rules
 
-same-length-3 : tie.Need-same-length-3
+same-length-3 : tie.Need-shape_of-journal-then-k-eq1
 same-length-3 c = search rules
 
-returns-2 : tie.Need-returns-2
+returns-2 : tie.Need-returns-then-k-eq1
 returns-2 c =
-    let C = c.before.before in
-    let T = C.before.before in
-    let S = T.before.before.before.before.before in
+    let C = c in
+    let T = c in
+    let S = c in
     let A = S.args in (
-      does-mark A.image.now A.new.now A.journal.now A.pairs A.k A.from T.if2.true
-          C.set-mark.new.0 C.set-mark.ensures,
+      does-mark A.image.now A.new.now A.journal.now A.pairs A.k A.from T.if-k-eq1.true
+          C.set_mark.new.0 C.set_mark.ensures,
       λ h. refl,
-      λ h. absurd (omega (arith, T.if2.true)),
+      λ h. absurd (omega (arith, T.if-k-eq1.true)),
     )
 
-sub-write-one : tie.Need-overflow-sub-write-one
+sub-write-one : tie.Need-overflow_sub-k
 sub-write-one c = search rules
 
-write-one-requires : tie.Need-write-one-requires
+write-one-requires : tie.Need-write_one-requires
 write-one-requires c κs =
-    let E = c.before.before in
-    let S = E.before.before.before.before.before in
-    (S.requires.some, λ h. S.requires.reads (omega (arith, E.if2.false, E.before.if1.false)) h)
+    let E = c in
+    let S = c in
+    (S.requires.some, λ h. S.requires.reads (omega (arith, E.if-k-eq1.false, E.if-k-eq0.false)) h)
 
-same-length-4 : tie.Need-same-length-4
+same-length-4 : tie.Need-shape_of-image
 same-length-4 c = search rules
 
-same-length-5 : tie.Need-same-length-5
+same-length-5 : tie.Need-shape_of-journal
 same-length-5 c = search rules
 
-returns-3 : tie.Need-returns-3
+returns-3 : tie.Need-returns
 returns-3 c =
-    let W = c.before.before.before.before in
-    let E = W.before.before.before in
-    let S = E.before.before.before.before.before in
+    let W = c in
+    let E = c in
+    let S = c in
     let A = S.args in
-    let two : 2 ≤ A.k = omega (arith, E.if2.false, E.before.if1.false) in (
+    let two : 2 ≤ A.k = omega (arith, E.if-k-eq1.false, E.if-k-eq0.false) in (
       does-later A.image.now A.new.now A.journal.now A.pairs A.k A.from two
-          W.write-one.new.0 W.write-one.new.1.0 W.write-one.ensures.0,
+          W.write_one.new.0 W.write_one.new.1.0 W.write_one.ensures.0,
       λ h. absurd (omega arith),
-      λ h f. W.write-one.ensures.1 f,
+      λ h f. W.write_one.ensures.1 f,
     )
 
-pub write-number-spec : {M : Type 1} → statement M
-write-number-spec =
+pub write_number_spec : {M : Type 1} → statement M
+write_number_spec =
     tie.close
     (tie.spec
     write-content-requires

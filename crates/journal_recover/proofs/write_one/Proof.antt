@@ -6,48 +6,48 @@ use borrow.Author.Rules.{rules}
 use Rattle.journal_recover.proofs.write_one.Statement.{statement}
 use Rattle.journal_recover.proofs.write_one.Tie as tie
 
-write-stretch-requires : tie.Need-write-stretch-requires
+write-stretch-requires : tie.Need-write_stretch-requires
 write-stretch-requires c κs =
-    let T = c.before.before in
-    let S = T.before.before.before in
-    S.requires.1 T.if1.true
+    let T = c in
+    let S = c in
+    S.requires.1 T.if-k-pairs.true
 
-same_length : tie.Need-same-length
+same_length : tie.Need-shape_of-image-then-k-pairs
 same_length c = search rules
 
-same-length-2 : tie.Need-same-length-2
+same-length-2 : tie.Need-shape_of-journal-then-k-pairs
 same-length-2 c = search rules
 
-returns : tie.Need-returns
+returns : tie.Need-returns-then-k-pairs
 returns c =
-    let W = c.before.before in
-    let T = W.before.before.before in
-    let S = T.before.before.before in
+    let W = c in
+    let T = c in
+    let S = c in
     let A = S.args in (
-      one-stretch A.image.now A.journal.now A.pairs A.k A.from T.if1.true
-          W.write-stretch.new.0 A.journal.now W.write-stretch.ensures.0 refl,
-      λ h. W.write-stretch.ensures.1,
+      one-stretch A.image.now A.journal.now A.pairs A.k A.from T.if-k-pairs.true
+          W.write_stretch.new.0 A.journal.now W.write_stretch.ensures.0 refl,
+      λ h. W.write_stretch.ensures.1,
     )
 
-clear-mark-requires : tie.Need-clear-mark-requires
+clear-mark-requires : tie.Need-clear_mark-requires
 clear-mark-requires c κs = search rules
 
-same-length-3 : tie.Need-same-length-3
+same-length-3 : tie.Need-shape_of-journal
 same-length-3 c = search rules
 
-returns-2 : tie.Need-returns-2
+returns-2 : tie.Need-returns
 returns-2 c =
-    let C = c.before.before in
-    let E = C.before.before in
-    let S = E.before.before.before in
+    let C = c in
+    let E = c in
+    let S = c in
     let A = S.args in (
-      one-mark A.image.now A.journal.now A.pairs A.k A.from (omega (arith, E.if1.false))
-          A.image.now C.clear-mark.new.0 refl C.clear-mark.ensures,
-      λ h. absurd (omega (arith, E.if1.false)),
+      one-mark A.image.now A.journal.now A.pairs A.k A.from (omega (arith, E.if-k-pairs.false))
+          A.image.now C.clear_mark.new.0 refl C.clear_mark.ensures,
+      λ h. absurd (omega (arith, E.if-k-pairs.false)),
     )
 
-pub write-one-spec : {M : Type 1} → statement M
-write-one-spec =
+pub write_one_spec : {M : Type 1} → statement M
+write_one_spec =
     tie.close
     (tie.spec
     write-stretch-requires

@@ -17,81 +17,80 @@ use Rattle.lister_rows.proofs.Rows.{text-bad, text-sound}
 use Rattle.lister_rows.proofs.put_length.Statement.{statement}
 use Rattle.lister_rows.proofs.put_length.Tie as tie
 
-offset-of-requires : tie.Need-offset-of-requires
+offset-of-requires : tie.Need-offset_of-o-requires
 offset-of-requires c κs = search rules
 
-message-sound-requires : tie.Need-message-sound-requires
+message-sound-requires : tie.Need-message_sound-requires
 message-sound-requires c κs = search rules
 
-slice-aggregate-put-bytes : tie.Need-slice-aggregate-put-bytes
+slice-aggregate-put-bytes : tie.Need-GONE-slice-aggregate-put-bytes
 slice-aggregate-put-bytes c = search rules
 
 -- the start, seen from question 11, and the length that the slot's line tells
-abbrev start : tie.After-message-sound → tie.Start
+abbrev start : tie.After-message_sound → tie.Start
 start c = c.before.before.before.before
 
-abbrev told : tie.After-message-sound → Bytes
+abbrev told : tie.After-message_sound → Bytes
 told c =
     let img : Bytes = (start c).args.image.now in
     length_text (layout_of img) img (offset_in img (start c).args.i.0)
 
-bad-text : (c : tie.Then1) → told c.before ≡ bad
+bad-text : (c : tie.Then-not-message_sound) → told c.before ≡ bad
 bad-text c =
     let M = c.before in
-    let O = M.before.offset-of in
+    let O = M.offset_of-o in
     let img = (start M).args.image.now in
-    text-bad (layout_of img) img O.result.0 _ O.ensures (was-no M.message-sound.ensures c.if1.true)
+    text-bad (layout_of img) img O.result.0 _ O.ensures (was-no M.message_sound.ensures c.if-not-message_sound.true)
 
-put-bytes-requires : tie.Need-put-bytes-requires
+put-bytes-requires : tie.Need-put_bytes-requires
 put-bytes-requires c κs =
-    let T = c.before.before in
-    omega (arith, (start T.before).requires.2, ap length (bad-text T))
+    let T = c.before.before.before in
+    omega (arith, (start c.before.before.before.before).requires.2, ap length (bad-text T))
 
-same_length : tie.Need-same-length
+same_length : tie.Need-shape_of-out-then-not-message_sound
 same_length c = search rules
 
-returns : tie.Need-returns
+returns : tie.Need-returns-then-not-message_sound
 returns c =
-    let P = c.before.before in
-    put_same (sym (bad-text P.before.before.before)) P.put-bytes.ensures
+    let P = c in
+    put_same (sym (bad-text P.before.before.before)) P.put_bytes.ensures
 
 -- behind question 11 the header lies in the image
-shown-length-requires : tie.Need-shown-length-requires
+shown-length-requires : tie.Need-shown_length-requires
 shown-length-requires c κs =
     let M = c.before.before in
     let S = start M in
-    let o = M.before.offset-of.result.0 in
-    let s = was-yes M.message-sound.ensures c.before.if1.false in
-    let head = message-fits S.args.image.now (opened-facts _ S.pre.0.accepted) o s in
-    (S.pre.0, omega (arith, head, shape-head S.pre.0))
+    let o = M.offset_of-o.result.0 in
+    let s = was-yes M.message_sound.ensures c.if-not-message_sound.false in
+    let head = message-fits S.args.image.now (opened-facts _ S.requires.0.accepted) o s in
+    (S.requires.0, omega (arith, head, shape-head S.requires.0))
 
-shown-text : (c : tie.After-shown-length) → told c.before.before.before ≡ decimal c.shown-length.result
+shown-text : (c : tie.After-shown_length) → told c.before.before.before ≡ decimal c.shown_length.result
 shown-text c =
-    let E = c.before.before in
-    let M = E.before in
-    let O = M.before.offset-of in
+    let E = c in
+    let M = c.before.before.before in
+    let O = M.offset_of-o in
     let img = (start M).args.image.now in
-    text-sound (layout_of img) img O.result.0 _ O.ensures (was-yes M.message-sound.ensures E.if1.false)
-    c.shown-length.result c.shown-length.ensures
+    text-sound (layout_of img) img O.result.0 _ O.ensures (was-yes M.message_sound.ensures E.if-not-message_sound.false)
+    c.shown_length.result c.shown_length.ensures
 
-put-decimal-requires : tie.Need-put-decimal-requires
+put-decimal-requires : tie.Need-put_decimal-requires
 put-decimal-requires c κs = omega (arith, (start c.before.before.before).requires.2, ap length (shown-text c))
 
-same-length-2 : tie.Need-same-length-2
+same-length-2 : tie.Need-shape_of-out
 same-length-2 c = search rules
 
-returns-2 : tie.Need-returns-2
+returns-2 : tie.Need-returns
 returns-2 c =
-    let P = c.before.before in
-    put_same (sym (shown-text P.before)) P.put-decimal.ensures
+    let P = c in
+    put_same (sym (shown-text P.before)) P.put_decimal.ensures
 
-pub put-length-spec : {M : Type 1} → statement M
-put-length-spec =
+pub put_length_spec : {M : Type 1} → statement M
+put_length_spec =
     tie.close
     (tie.spec
     offset-of-requires
     message-sound-requires
-    slice-aggregate-put-bytes
     put-bytes-requires
     same_length
     returns

@@ -16,9 +16,9 @@ use Rattle.lister_rows.proofs.put_line.Tie as tie
 number-requires : tie.Need-number-requires
 number-requires c κs = search rules
 
-put-decimal-requires : tie.Need-put-decimal-requires
+put-decimal-requires : tie.Need-put_decimal-a-requires
 put-decimal-requires c κs =
-    let S = c.before.before.before.before in
+    let S = c in
     let img = S.args.image.now in
     omega (
       arith,
@@ -28,19 +28,19 @@ put-decimal-requires c κs =
     )
 
 -- ---- the stages: the start, and each piece that was put, seen from the next
-abbrev start : tie.After-put-decimal → tie.Start
+abbrev start : tie.After-put_decimal-a → tie.Start
 start c = c.before.before.before.before.before
 
-abbrev decimal-put : tie.After-put-byte → tie.After-put-decimal
+abbrev decimal-put : tie.After-put_byte-b → tie.After-put_decimal-a
 decimal-put c = c.before.before.before.before
 
-abbrev byte_put : tie.After-put-key → tie.After-put-byte
+abbrev byte_put : tie.After-put_key-c → tie.After-put_byte-b
 byte_put c = c.before.before.before.before.before
 
-abbrev key-put : tie.After-put-byte2 → tie.After-put-key
+abbrev key-put : tie.After-put_byte-d → tie.After-put_key-c
 key-put c = c.before.before.before.before
 
-abbrev byte2-put : tie.After-put-length → tie.After-put-byte2
+abbrev byte2-put : tie.After-put_length-e → tie.After-put_byte-d
 byte2-put c = c.before.before.before.before
 
 -- ---- behind each piece there is room for the rest
@@ -55,90 +55,90 @@ length_told c =
     let img : Bytes = c.args.image.now in
     length_text (layout_of img) img (offset_of (layout_of img) (slot (layout_of img) img c.args.i.0))
 
-after-decimal : (c : tie.After-put-decimal)
-    → c.put-decimal.result + (1 + length (key_text (start c)) + 1 + length (length_told (start c)) + 1)
-    ≤ length c.put-decimal.new.0
+after-decimal : (c : tie.After-put_decimal-a)
+    → c.put_decimal-a.result + (1 + length (key_text (start c)) + 1 + length (length_told (start c)) + 1)
+    ≤ length c.put_decimal-a.new.0
 after-decimal c =
     let S = start c in
     let img = S.args.image.now in
-    let P = c.put-decimal in
+    let P = c.put_decimal-a in
     omega (
       arith,
-      S.pre.2,
+      S.requires.2,
       line-length (layout_of img) img S.args.i.0,
-      ap (λ (m : ℕ). length (decimal m)) c.before.number.ensures,
+      ap (λ (m : ℕ). length (decimal m)) c.number.ensures,
       P.ensures.ends,
       P.auto.0,
     )
 
-after-byte : (c : tie.After-put-byte)
+after-byte : (c : tie.After-put_byte-b)
     → let S : tie.Start = start (decimal-put c) in
-    c.put_byte.result + (length (key_text S) + 1 + length (length_told S) + 1) ≤ length c.put_byte.new.0
+    c.put_byte-b.result + (length (key_text S) + 1 + length (length_told S) + 1) ≤ length c.put_byte-b.new.0
 after-byte c =
-    let P = c.put_byte in
+    let P = c.put_byte-b in
     omega (arith, after-decimal (decimal-put c), P.ensures.ends, P.auto.0)
 
-after-key : (c : tie.After-put-key)
+after-key : (c : tie.After-put_key-c)
     → let S : tie.Start = start (decimal-put (byte_put c)) in
-    c.put-key.result + (1 + length (length_told S) + 1) ≤ length c.put-key.new.0
+    c.put_key-c.result + (1 + length (length_told S) + 1) ≤ length c.put_key-c.new.0
 after-key c =
-    let P = c.put-key in
-    let key = ap (λ (x : Bytes). length (hexes x)) c.before.key_of.ensures in
+    let P = c.put_key-c in
+    let key = ap (λ (x : Bytes). length (hexes x)) c.key_of.ensures in
     omega (arith, after-byte (byte_put c), key, P.ensures.ends, P.auto.0)
 
-after-byte2 : (c : tie.After-put-byte2)
+after-byte2 : (c : tie.After-put_byte-d)
     → let S : tie.Start = start (decimal-put (byte_put (key-put c))) in
-    c.put-byte2.result + (length (length_told S) + 1) ≤ length c.put-byte2.new.0
+    c.put_byte-d.result + (length (length_told S) + 1) ≤ length c.put_byte-d.new.0
 after-byte2 c =
-    let P = c.put-byte2 in
+    let P = c.put_byte-d in
     omega (arith, after-key (key-put c), P.ensures.ends, P.auto.0)
 
 -- ---- the needs
-put-byte-requires : tie.Need-put-byte-requires
+put-byte-requires : tie.Need-put_byte-b-requires
 put-byte-requires c κs = omega (arith, after-decimal c.before.before.before)
 
-key-of-requires : tie.Need-key-of-requires
+key-of-requires : tie.Need-key_of-requires
 key-of-requires c κs = search rules
 
-put-key-requires : tie.Need-put-key-requires
+put-key-requires : tie.Need-put_key-c-requires
 put-key-requires c κs =
     let key = ap (λ (x : Bytes). length (hexes x)) c.key_of.ensures in
     omega (arith, after-byte c.before.before.before.before, key)
 
-put-byte-requires-2 : tie.Need-put-byte-requires-2
+put-byte-requires-2 : tie.Need-put_byte-d-requires
 put-byte-requires-2 c κs = omega (arith, after-key c.before.before.before)
 
-put-length-requires : tie.Need-put-length-requires
+put-length-requires : tie.Need-put_length-e-requires
 put-length-requires c κs =
     let E = c.before.before.before in
     let S = start (decimal-put (byte_put (key-put E))) in
-    (S.pre.0, S.pre.1, omega (arith, after-byte2 E))
+    (S.requires.0, S.requires.1, omega (arith, after-byte2 E))
 
-put-byte-requires-3 : tie.Need-put-byte-requires-3
+put-byte-requires-3 : tie.Need-put_byte-requires
 put-byte-requires-3 c κs =
     let F = c.before.before.before in
-    let P = F.put-length in
+    let P = F.put_length-e in
     omega (arith, after-byte2 (byte2-put F), P.ensures.ends, P.auto.1.1.1.0)
 
-same_length : tie.Need-same-length
+same_length : tie.Need-shape_of-out
 same_length c = search rules
 
 returns : tie.Need-returns
 unfolding line
 returns c =
-    let G = c.before.before in
-    let F = G.before.before.before.before in
+    let G = c in
+    let F = c.before.before.before.before.before.before in
     let E = byte2-put F in
     let D = key-put E in
     let B = byte_put D in
     let A = decimal-put B in
     put_six {v₅ = length_told (start A)}
-    (put_same (ap decimal A.before.number.ensures) A.put-decimal.ensures) B.put_byte.ensures
-    (put_same (ap hexes D.before.key_of.ensures) D.put-key.ensures) E.put-byte2.ensures
-    F.put-length.ensures G.put-byte3.ensures (start A).pre.2
+    (put_same (ap decimal A.number.ensures) A.put_decimal-a.ensures) B.put_byte-b.ensures
+    (put_same (ap hexes D.key_of.ensures) D.put_key-c.ensures) E.put_byte-d.ensures
+    F.put_length-e.ensures G.put_byte.ensures (start A).requires.2
 
-pub put-line-spec : {M : Type 1} → statement M
-put-line-spec =
+pub put_line_spec : {M : Type 1} → statement M
+put_line_spec =
     tie.close
     (tie.spec
     number-requires

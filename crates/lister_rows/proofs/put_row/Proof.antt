@@ -10,42 +10,48 @@ use borrow.Author.Rules.{rules}
 use Rattle.lister_rows.proofs.put_row.Statement.{statement}
 use Rattle.lister_rows.proofs.put_row.Tie as tie
 
-is-taken-requires : tie.Need-is-taken-requires
+is-taken-requires : tie.Need-is_taken-requires
 is-taken-requires c κs = search rules
 
-returns : tie.Need-returns
+returns : tie.Need-returns-then-not-is_taken
 returns c =
-    let T = c.before in
-    let S = T.before.before.before in
+    let T = c in
+    let S = c in
     let img = S.args.image.now in
     let i = S.args.i.0 in
-    let text = row-vacant (layout_of img) img i (was-no T.is-taken.ensures c.if1.true) in
+    let text = row-vacant (layout_of img) img i (was-no T.is_taken.ensures c.if-not-is_taken.true) in
     put_same (sym text) (put-none S.args.out.now S.args.at)
 
-put-line-requires : tie.Need-put-line-requires
+put-line-requires : tie.Need-put_line-requires
 put-line-requires c κs =
-    let E = c.before in
-    let T = E.before in
-    let S = T.before.before.before in
+    let E = c in
+    let T = c in
+    let S = c in
     let img = S.args.image.now in
     let i = S.args.i.0 in
-    let text = row-taken (layout_of img) img i (was-yes T.is-taken.ensures E.if1.false) in
+    let text = row-taken (layout_of img) img i (was-yes T.is_taken.ensures E.if-not-is_taken.false) in
     (S.requires.0, S.requires.1, omega (arith, S.requires.2, ap length text))
 
-same_length : tie.Need-same-length
+same_length : tie.Need-shape_of-out
 same_length c = search rules
 
-returns-2 : tie.Need-returns-2
+returns-2 : tie.Need-returns
 returns-2 c =
-    let P = c.before.before in
-    let E = P.before.before in
-    let T = E.before in
-    let S = T.before.before.before in
+    let P = c in
+    let E = c in
+    let T = c in
+    let S = c in
     let img = S.args.image.now in
     let i = S.args.i.0 in
-    let text = row-taken (layout_of img) img i (was-yes T.is-taken.ensures E.if1.false) in
-    put_same (sym text) P.put-line.ensures
+    let text = row-taken (layout_of img) img i (was-yes T.is_taken.ensures E.if-not-is_taken.false) in
+    put_same (sym text) P.put_line.ensures
 
-pub put-row-spec : {M : Type 1} → statement M
-put-row-spec =
-    tie.close (tie.spec is-taken-requires returns put-line-requires same_length returns-2)
+pub put_row_spec : {M : Type 1} → statement M
+put_row_spec =
+    tie.close
+    (tie.spec
+    is-taken-requires
+    returns
+    put-line-requires
+    same_length
+    returns-2)

@@ -11,20 +11,26 @@ use Rattle.message_read.proofs.holds.Tie as tie
 at-requires : tie.Need-at-requires
 at-requires c κs = search rules
 
-returns : tie.Need-returns
+returns : tie.Need-returns-then-at-eq0
 returns c =
-    let A = c.before.before.before.args in
-    rw (eq-eqb A.o.0 0 (sym c.before.at.ensures ∙ c.if1.true)) refl
+    let A = c.args in
+    rw (eq-eqb A.o.0 0 (sym c.at.ensures ∙ c.if-at-eq0.true)) refl
 
-length-at-requires : tie.Need-length-at-requires
+length-at-requires : tie.Need-length_at-requires
 length-at-requires c κs = search rules
 
-returns-2 : tie.Need-returns-2
+returns-2 : tie.Need-returns
 returns-2 c =
-    let A = c.before.before.before.before.args in
-    let z : A.o.0 ≡ 0 → ⊥ = λ e. c.before.if1.false (c.before.before.at.ensures ∙ e) in
+    let A = c.args in
+    let z : A.o.0 ≡ 0 → ⊥ = λ e. c.if-at-eq0.false (c.at.ensures ∙ e) in
     rw (ne_eqb A.o.0 0 z, held-some (layout_of A.image.now) A.image.now A.o.0 z)
     (ap (leb A.m) c.length_at.ensures)
 
-pub holds-spec : {M : Type 1} → statement M
-holds-spec = tie.close (tie.spec at-requires returns length-at-requires returns-2)
+pub holds_spec : {M : Type 1} → statement M
+holds_spec =
+    tie.close
+    (tie.spec
+    at-requires
+    returns
+    length-at-requires
+    returns-2)

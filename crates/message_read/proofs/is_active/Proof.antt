@@ -8,22 +8,28 @@ use Rattle.message_read.proofs.Sound.{active-none, active-letter}
 use Rattle.message_read.proofs.is_active.Statement.{statement}
 use Rattle.message_read.proofs.is_active.Tie as tie
 
-at-requires : tie.Need-at-requires
+at-requires : tie.Need-at-at-requires
 at-requires c κs = search rules
 
-returns : tie.Need-returns
-returns c = sym (active-none _ _ (sym c.before.at.ensures ∙ c.if1.true))
+returns : tie.Need-returns-then-at-eq0
+returns c = sym (active-none _ _ (sym c.at-at.ensures ∙ c.if-at-eq0.true))
 
-shared-slice-read-result : tie.Need-shared-slice-read-result
+shared-slice-read-result : tie.Need-bounds-image-at
 shared-slice-read-result c = search rules
 
-returns-2 : tie.Need-returns-2
+returns-2 : tie.Need-returns
 returns-2 c =
-    let S = c.before.before.before.before in
+    let S = c in
     let img = S.args.image.now in
-    let at = c.before.before.at in
+    let at = c.at-at in
     ap (λ (n : ℕ). eqb (get_or img n 0) 97) at.ensures
-    ∙ sym (active-letter img S.args.o.0 (λ e. c.before.if1.false (at.ensures ∙ e)) S.requires)
+    ∙ sym (active-letter img S.args.o.0 (λ e. c.if-at-eq0.false (at.ensures ∙ e)) S.requires)
 
-pub is-active-spec : {M : Type 1} → statement M
-is-active-spec = tie.close (tie.spec at-requires returns shared-slice-read-result returns-2)
+pub is_active_spec : {M : Type 1} → statement M
+is_active_spec =
+    tie.close
+    (tie.spec
+    at-requires
+    returns
+    shared-slice-read-result
+    returns-2)

@@ -14,47 +14,54 @@ use Rattle.message_read.proofs.length_at.Tie as tie
 at-requires : tie.Need-at-requires
 at-requires c κs = search rules
 
-sub-read-u32 : tie.Need-overflow-sub-read-u32
-sub-read-u32 c = omega (arith, head-range c.before.before.before.requires.0)
+sub-read-u32 : tie.Need-overflow_sub-shape
+sub-read-u32 c = omega (arith, head-range c.requires.0)
 
-add-read-u32 : tie.Need-overflow-add-read-u32
+add-read-u32 : tie.Need-overflow_add-at
 add-read-u32 c = search rules
 
-read-u32-requires : tie.Need-read-u32-requires
+read-u32-requires : tie.Need-read_u32-requires
 read-u32-requires c κs =
-    let S = c.before.before.before in
-    omega (arith, head-range S.requires.0, c.before.at.ensures, S.requires.1)
+    let S = c in
+    omega (arith, head-range S.requires.0, c.at.ensures, S.requires.1)
 
-length-mask-requires : tie.Need-length-mask-requires
+length-mask-requires : tie.Need-length_mask-requires
 length-mask-requires c κs = search rules
 
-masked : (c : tie.After-length-mask)
+masked : (c : tie.After-length_mask)
     → let S : tie.Start = c.before.before.before.before.before in
-    bit_and c.before.read_u32.result c.length-mask.result
+    bit_and c.read_u32.result c.length_mask.result
     ≡ length_at (layout_of S.args.image.now) S.args.image.now S.args.o.0
 masked c =
-    let S = c.before.before.before.before.before in
-    length-masked S.args.image.now S.args.o.0 _ c.length-mask.result c.before.read_u32.result
-    (λ i. omega (arith, c.before.before.before.before.shared-slice-known.given i))
+    let S = c in
+    length-masked S.args.image.now S.args.o.0 _ c.length_mask.result c.read_u32.result
+    (λ i. omega (arith, c.shared_slice_known-1.given i))
     (omega (arith, S.requires.1, shape-head S.requires.0))
-    (omega (arith, c.before.before.before.at.ensures, shape-head S.requires.0))
-    (c.length-mask.ensures ∙ ap mask_by (shape-head S.requires.0)) c.before.read_u32.ensures
+    (omega (arith, c.at.ensures, shape-head S.requires.0))
+    (c.length_mask.ensures ∙ ap mask_by (shape-head S.requires.0)) c.read_u32.ensures
 
-cast-result : tie.Need-overflow-cast-result
+cast-result : tie.Need-overflow_cast-result
 cast-result c =
-    let S = c.before.before.before.before.before in
+    let S = c in
     omega (
       arith,
       masked c,
       length-bound S.args.image.now S.args.o.0
-          (λ i. omega (arith, c.before.before.before.before.shared-slice-known.given i))
+          (λ i. omega (arith, c.shared_slice_known-1.given i))
           (omega (arith, S.requires.1, shape-head S.requires.0)),
     )
 
 returns : tie.Need-returns
 returns c = masked c
 
-pub length-at-spec : {M : Type 1} → statement M
-length-at-spec =
+pub length_at_spec : {M : Type 1} → statement M
+length_at_spec =
     tie.close
-    (tie.spec at-requires sub-read-u32 add-read-u32 read-u32-requires length-mask-requires cast-result returns)
+    (tie.spec
+    at-requires
+    sub-read-u32
+    add-read-u32
+    read-u32-requires
+    length-mask-requires
+    cast-result
+    returns)

@@ -8,24 +8,30 @@ use Rattle.message_read.proofs.Sound.{length-shown-yes, length-shown-no}
 use Rattle.message_read.proofs.shown_length.Statement.{statement}
 use Rattle.message_read.proofs.shown_length.Tie as tie
 
-is-active-requires : tie.Need-is-active-requires
-is-active-requires c κs = omega (arith, head-range c.before.requires.0, c.before.requires.1)
+is-active-requires : tie.Need-is_active-requires
+is-active-requires c κs = omega (arith, head-range c.requires.0, c.requires.1)
 
-length-at-requires : tie.Need-length-at-requires
+length-at-requires : tie.Need-length_at-requires
 length-at-requires c κs = search rules
 
-returns : tie.Need-returns
+returns : tie.Need-returns-then-is_active
 returns c =
-    let A = c.before.before.before.before.args in
+    let A = c.args in
     c.length_at.ensures
     ∙ sym (length-shown-yes (layout_of A.image.now) A.image.now A.o.0
-    (sym c.before.before.is-active.ensures ∙ c.before.if1.true))
+    (sym c.is_active.ensures ∙ c.if-is_active.true))
 
-returns-2 : tie.Need-returns-2
+returns-2 : tie.Need-returns
 returns-2 c =
-    let A = c.before.before.before.args in
+    let A = c.args in
     sym (length-shown-no (layout_of A.image.now) A.image.now A.o.0
-    (sym c.before.is-active.ensures ∙ c.if1.false))
+    (sym c.is_active.ensures ∙ c.if-is_active.false))
 
-pub shown-length-spec : {M : Type 1} → statement M
-shown-length-spec = tie.close (tie.spec is-active-requires length-at-requires returns returns-2)
+pub shown_length_spec : {M : Type 1} → statement M
+shown_length_spec =
+    tie.close
+    (tie.spec
+    is-active-requires
+    length-at-requires
+    returns
+    returns-2)

@@ -8,60 +8,60 @@ use Rattle.message_stretch.proofs.Pieces.{within_low, within-not, within_in}
 use Rattle.message_stretch.proofs.start_in.Statement.{statement}
 use Rattle.message_stretch.proofs.start_in.Tie as tie
 
-offset-of-requires : tie.Need-offset-of-requires
-offset-of-requires c κs = (c.before.requires.0, c.before.requires.1)
+offset-of-requires : tie.Need-offset_of-requires
+offset-of-requires c κs = (c.requires.0, c.requires.1)
 
-at-requires : tie.Need-at-requires
+at-requires : tie.Need-at-o-requires
 at-requires c κs = search rules
 
-returns : tie.Need-returns
+returns : tie.Need-returns-then-o-lo
 returns c =
-    let S = c.before.before.before.before in
+    let S = c in
     let A = S.args in
     let img = A.image.now in
-    let o = c.before.before.offset-of in
+    let o = c.offset_of in
     sym (within_low A.lo A.hi (start_in img A.i.0)
-    (omega (arith, start-low img A.i.0, c.before.at.ensures, o.ensures, c.if1.true)))
+    (omega (arith, start-low img A.i.0, c.at-o.ensures, o.ensures, c.if-o-lo.true)))
 
-returns-2 : tie.Need-returns-2
+returns-2 : tie.Need-returns-then-hi-o
 returns-2 c =
-    let E = c.before in
-    let S = E.before.before.before.before in
+    let E = c in
+    let S = c in
     let A = S.args in
     let img = A.image.now in
     sym (within-not A.lo A.hi (start_in img A.i.0)
     (start-high img A.i.0 A.lo A.hi S.requires.2
-    (omega (arith, E.before.at.ensures, E.before.before.offset-of.ensures, c.if2.true))))
+    (omega (arith, E.at-o.ensures, E.offset_of.ensures, c.if-hi-o.true))))
 
-is-vacant-requires : tie.Need-is-vacant-requires
+is-vacant-requires : tie.Need-is_vacant-requires
 is-vacant-requires c κs =
-    let S = c.before.before.before.before.before in
+    let S = c in
     (S.requires.0, S.requires.1)
 
-returns-3 : tie.Need-returns-3
+returns-3 : tie.Need-returns-then-is_vacant
 returns-3 c =
-    let S = c.before.before.before.before.before.before.before in
+    let S = c in
     let A = S.args in
     let img = A.image.now in
     sym (within_low A.lo A.hi (start_in img A.i.0)
-    (omega (arith, start_none img A.i.0 (sym c.before.is-vacant.ensures ∙ c.if3.true), S.requires.2)))
+    (omega (arith, start_none img A.i.0 (sym c.is_vacant.ensures ∙ c.if-is_vacant.true), S.requires.2)))
 
-returns-4 : tie.Need-returns-4
+returns-4 : tie.Need-returns
 returns-4 c =
-    let E = c.before.before.before in
-    let O = E.before.before in
-    let S = c.before.before.before.before.before.before.before in
+    let E = c in
+    let O = c in
+    let S = c in
     let A = S.args in
     let img = A.image.now in
-    let o = c.before.before.before.before.at in
-    let s = start-some img A.i.0 (sym c.before.is-vacant.ensures ∙ c.if3.false) in
+    let o = c.at-o in
+    let s = start-some img A.i.0 (sym c.is_vacant.ensures ∙ c.if-is_vacant.false) in
     let e : o.result ≡ start_in img A.i.0 =
-    omega (arith, o.ensures, c.before.before.before.before.before.offset-of.ensures, s) in
+    omega (arith, o.ensures, c.offset_of.ensures, s) in
     e ∙ sym (within_in A.lo A.hi (start_in img A.i.0)
-    (omega (arith, e, E.if1.false)) (omega (arith, e, c.before.before.if2.false)))
+    (omega (arith, e, E.if-o-lo.false)) (omega (arith, e, c.if-hi-o.false)))
 
-pub start-in-spec : {M : Type 1} → statement M
-start-in-spec =
+pub start_in_spec : {M : Type 1} → statement M
+start_in_spec =
     tie.close
     (tie.spec
     offset-of-requires

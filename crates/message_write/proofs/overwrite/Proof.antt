@@ -40,128 +40,128 @@ inside c =
       head-range c.requires.0,
     )
 
-at-requires : tie.Need-at-requires
+at-requires : tie.Need-at-at-requires
 at-requires c κs = search rules
 
-add-old : tie.Need-overflow-add-old
-add-old c = omega (arith, c.at.ensures, inside c.before.before.before)
+add-old : tie.Need-overflow_add-old
+add-old c = omega (arith, c.at-at.ensures, inside c.before.before.before)
 
-abbrev start-at-length-at-arg : tie.After-length-at-arg → tie.Start
-start-at-length-at-arg c = c.before.before.before.before
+abbrev start-at-length-at-arg : tie.After-at-at → tie.Start
+start-at-length-at-arg c = c.before.before.before
 
-length-at-requires : tie.Need-length-at-requires
-length-at-requires c κs = ((start-at-length-at-arg c).pre.0, omega (arith, (inside (start-at-length-at-arg c)).0))
+length-at-requires : tie.Need-length_at-requires
+length-at-requires c κs = ((start-at-length-at-arg c).requires.0, omega (arith, (inside (start-at-length-at-arg c)).0))
 
-abbrev start-at-length-at : tie.After-length-at → tie.Start
-start-at-length-at c = c.before.before.before.before.before
+abbrev start-at-length-at : tie.After-length_at → tie.Start
+start-at-length-at c = c.before.before.before.before
 
 -- where the old message ends, and that the new one ends at or below it
-ends : (c : tie.After-length-at)
+ends : (c : tie.After-length_at)
     → let S : tie.Start = (start-at-length-at c) in
-    let at : ℕ = c.before.before.at.result in
+    let at : ℕ = c.at-at.result in
     let m : ℕ = c.length_at.result in
     (at + S.args.shape.head + m ≤ length S.args.image.now) × (length S.args.bytes.now ≤ m)
     × (length S.args.image.now ≤ most_image) × ((4 ≤ S.args.shape.head) × (S.args.shape.head ≤ 5))
 ends c =
     let i = inside (start-at-length-at c) in (
-      omega (arith, c.length_at.ensures, c.before.before.at.ensures, i.0),
+      omega (arith, c.length_at.ensures, c.at-at.ensures, i.0),
       omega (arith, c.length_at.ensures, i.1),
       i.2,
       i.4,
     )
 
-add-old-2 : tie.Need-overflow-add-old-2
+add-old-2 : tie.Need-overflow_add-old-2
 add-old-2 c = omega (arith, ends c)
 
-add-end : tie.Need-overflow-add-end
+add-end : tie.Need-overflow_add-end
 add-end c = omega (arith, ends c)
 
-add-end-2 : tie.Need-overflow-add-end-2
+add-end-2 : tie.Need-overflow_add-end-2
 add-end-2 c = omega (arith, ends c)
 
-sub-write-message : tie.Need-overflow-sub-write-message
+sub-write-message : tie.Need-slice_bounds-write_message-count
 sub-write-message c = search rules
 
-part-write-message-start : tie.Need-slice-bounds-write-message-start
+part-write-message-start : tie.Need-slice_bounds-write_message-start
 part-write-message-start c = search rules
 
-part-write-message-end : tie.Need-slice-bounds-write-message-end
+part-write-message-end : tie.Need-slice_bounds-write_message-end
 part-write-message-end c = omega (arith, ends c)
 
-abbrev start-at-write-message-arg : tie.After-write-message-arg → tie.Start
-start-at-write-message-arg c = c.before.before.before.before.before.before
+abbrev start-at-write-message-arg : tie.After-write_message-arg-1 → tie.Start
+start-at-write-message-arg c = c.before.before.before.before.before
 
-abbrev slice-known-at-write-message-arg : tie.After-write-message-arg → tie.After-slice-known
-slice-known-at-write-message-arg c = c.before.before.before.before.before
+abbrev slice-known-at-write-message-arg : tie.After-write_message-arg-1 → tie.After-slice_known-1
+slice-known-at-write-message-arg c = c.before.before.before.before
 
-write-message-requires : tie.Need-write-message-requires
+write-message-requires : tie.Need-write_message-requires
 write-message-requires c κs =
     let e = ends c.before in
     let A = (start-at-write-message-arg c).args in
-    let at = c.before.before.before.at.result in
+    let at = c.at-at.result in
     let head = A.shape.head in
     let i = inside (start-at-write-message-arg c) in
     let tells =
     length-tells A.image.now A.shape (start-at-write-message-arg c).requires.0 A.o.0
-    (0 + length A.bytes.now) (λ k. omega (arith, (slice-known-at-write-message-arg c).slice-known.given k))
+    (0 + length A.bytes.now) (λ k. omega (arith, (slice-known-at-write-message-arg c).slice_known-1.given k))
     (omega (arith, i.0)) (omega (arith, i.1)) in (
       tells,
       mid_len at (at + head + length A.bytes.now) A.image.now (omega arith) ∙ omega arith,
     )
 
-abbrev length-at-at-slice-known2 : tie.After-slice-known2 → tie.After-length-at
+abbrev length-at-at-slice-known2 : tie.After-slice_known-2-1 → tie.After-length_at
 length-at-at-slice-known2 c = c.before.before.before.before
 
-sub-zero : tie.Need-overflow-sub-zero
+sub-zero : tie.Need-slice_bounds-zero-count
 sub-zero c = omega (arith, ends (length-at-at-slice-known2 c))
 
-part-zero-start : tie.Need-slice-bounds-zero-start
+part-zero-start : tie.Need-slice_bounds-zero-start
 part-zero-start c = omega (arith, ends (length-at-at-slice-known2 c))
 
-part-zero-end : tie.Need-slice-bounds-zero-end
+part-zero-end : tie.Need-slice_bounds-zero-end
 part-zero-end c = omega (arith, ends (length-at-at-slice-known2 c))
 
 zero-requires : tie.Need-zero-requires
 zero-requires c κs = search rules
 
-same_length : tie.Need-same-length
+same_length : tie.Need-shape_of-image
 same_length c = search rules
 
-abbrev write-message-at-slice-known3 : tie.After-slice-known3 → tie.After-write-message
+abbrev write-message-at-slice-known3 : tie.After-slice_known-3-1 → tie.After-write_message
 write-message-at-slice-known3 c = c.before.before.before.before.before.before
 
-abbrev write-message-arg-at-slice-known3 : tie.After-slice-known3 → tie.After-write-message-arg
+abbrev write-message-arg-at-slice-known3 : tie.After-slice_known-3-1 → tie.After-write_message-arg-1
 write-message-arg-at-slice-known3 c = c.before.before.before.before.before.before.before
 
-abbrev length-at-at-slice-known3 : tie.After-slice-known3 → tie.After-length-at
-length-at-at-slice-known3 c = (write-message-arg-at-slice-known3 c).before
+abbrev length-at-at-slice-known3 : tie.After-slice_known-3-1 → tie.After-length_at
+length-at-at-slice-known3 c = c.before.before.before.before.before.before.before.before
 
-abbrev at-at-slice-known3 : tie.After-slice-known3 → tie.After-at
-at-at-slice-known3 c = (write-message-arg-at-slice-known3 c).before.before.before
+abbrev at-at-slice-known3 : tie.After-slice_known-3-1 → tie.After-at-at
+at-at-slice-known3 c = c.before.before.before.before.before.before.before.before.before
 
-abbrev start-at-slice-known3 : tie.After-slice-known3 → tie.Start
-start-at-slice-known3 c = start-at-write-message-arg (write-message-arg-at-slice-known3 c)
+abbrev start-at-slice-known3 : tie.After-slice_known-3-1 → tie.Start
+start-at-slice-known3 c = c.before.before.before.before.before.before.before.before.before.before.before.before
 
 returns : tie.Need-returns
 returns c =
-    let z = c.before.before.zero in
-    let w = (write-message-at-slice-known3 c).write-message in
+    let z = c.zero in
+    let w = (write-message-at-slice-known3 c).write_message in
     let L = (length-at-at-slice-known3 c) in
     let m = L.length_at in
-    let at = (at-at-slice-known3 c).at in
+    let at = (at-at-slice-known3 c).at-at in
     let S = (start-at-slice-known3 c) in
     let img = S.args.image.now in
     let v = S.args.bytes.now in
     overwrite-steps (layout_of img) img v S.args.o.0 m.result S.args.shape.head
-    (head-width S.pre.0) S.pre.2
+    (head-width S.requires.0) S.requires.2
     m.ensures (ends L).1 (omega (arith, m.ensures, (inside S).0))
     w.last.0 z.new.0 at.result at.ensures
     (w.ensures
-    ∙ ap₂ (λ (k : ℕ) (t : Bytes). message k (t ++ v)) (width_is S.pre.0) (part-zero _ S.args.shape.head))
+    ∙ ap₂ (λ (k : ℕ) (t : Bytes). message k (t ++ v)) (width_is S.requires.0) (part-zero _ S.args.shape.head))
     z.ensures
 
-pub overwrite-spec : {M : Type 1} → statement M
-overwrite-spec =
+pub overwrite_spec : {M : Type 1} → statement M
+overwrite_spec =
     tie.close
     (tie.spec
     at-requires

@@ -11,33 +11,33 @@ use Rattle.message_write.proofs.set_free.Tie as tie
 at-requires : tie.Need-at-requires
 at-requires c κs = search rules
 
-cast-write-u32 : tie.Need-overflow-cast-write-u32
+cast-write-u32 : tie.Need-overflow_cast-at
 cast-write-u32 c = search rules
 
-write-u32-requires : tie.Need-write-u32-requires
+write-u32-requires : tie.Need-write_u32-requires
 write-u32-requires c κs = search rules
 
-last-page-requires : tie.Need-last-page-requires
+last-page-requires : tie.Need-last_page-requires
 last-page-requires c κs = search rules
 
-write-u32-requires-2 : tie.Need-write-u32-requires-2
+write-u32-requires-2 : tie.Need-write_u32-requires-2
 write-u32-requires-2 c κs = search rules
 
-same_length : tie.Need-same-length
+same_length : tie.Need-shape_of-image
 same_length c = search rules
 
 returns : tie.Need-returns
 unfolding set_free
 returns c =
-    let w = c.before.before.before.before.before.before.before in
-    let img = w.before.before.before.before.args.image.now in
-    c.before.before.write-u322.ensures
+    let w = c in
+    let img = w.args.image.now in
+    c.write_u32-2.ensures
     ∙ ap₂ (λ (t : Bytes) (m : ℕ). set_field t 56 m)
-    (w.write-u32.ensures ∙ ap (set_field img 52) w.before.at.ensures)
-    c.before.before.before.last-page.ensures
+    (w.write_u32.ensures ∙ ap (set_field img 52) w.at.ensures)
+    c.last_page.ensures
 
-pub set-free-spec : {M : Type 1} → statement M
-set-free-spec =
+pub set_free_spec : {M : Type 1} → statement M
+set_free_spec =
     tie.close
     (tie.spec
     at-requires

@@ -30,56 +30,56 @@ facts c = (
   c.requires.2.room,
 )
 
-abbrev start-at-read-u32-arg : tie.After-read-u32-arg → tie.Start
-start-at-read-u32-arg c = c.before.before.before.before
+abbrev start-at-read-u32-arg : tie.After-area-1 → tie.Start
+start-at-read-u32-arg c = c.before.before.before
 
-read-u32-requires : tie.Need-read-u32-requires
+read-u32-requires : tie.Need-read_u32-free-requires
 read-u32-requires c κs = omega (arith, (facts (start-at-read-u32-arg c)).0.size_low)
 
-cast-free : tie.Need-overflow-cast-free
+cast-free : tie.Need-overflow_cast-free
 cast-free c = search rules
 
 at-requires : tie.Need-at-requires
 at-requires c κs = search rules
 
-add-copy-up : tie.Need-overflow-add-copy-up
+add-copy-up : tie.Need-overflow_add-free
 add-copy-up c = search rules
 
-copy-up-requires : tie.Need-copy-up-requires
+copy-up-requires : tie.Need-copy_up-requires
 copy-up-requires c κs = search rules
 
-add-end : tie.Need-overflow-add-end
+add-end : tie.Need-overflow_add-end
 add-end c = search rules
 
-add-end-2 : tie.Need-overflow-add-end-2
+add-end-2 : tie.Need-overflow_add-end-2
 add-end-2 c = search rules
 
-add-end-3 : tie.Need-overflow-add-end-3
+add-end-3 : tie.Need-overflow_add-end-3
 add-end-3 c = search rules
 
-sub-write-message : tie.Need-overflow-sub-write-message
+sub-write-message : tie.Need-slice_bounds-write_message-count
 sub-write-message c = search rules
 
-part-write-message-start : tie.Need-slice-bounds-write-message-start
+part-write-message-start : tie.Need-slice_bounds-write_message-start
 part-write-message-start c = search rules
 
-part-write-message-end : tie.Need-slice-bounds-write-message-end
+part-write-message-end : tie.Need-slice_bounds-write_message-end
 part-write-message-end c = search rules
 
-abbrev read-u32-arg-at-write-message-arg : tie.After-write-message-arg → tie.After-read-u32-arg
+abbrev read-u32-arg-at-write-message-arg : tie.After-write_message-arg-1 → tie.After-area-1
 read-u32-arg-at-write-message-arg c = c.before.before.before.before.before.before.before
 
-abbrev start-at-write-message-arg : tie.After-write-message-arg → tie.Start
-start-at-write-message-arg c = start-at-read-u32-arg (read-u32-arg-at-write-message-arg c)
+abbrev start-at-write-message-arg : tie.After-write_message-arg-1 → tie.Start
+start-at-write-message-arg c = c.before.before.before.before.before.before.before.before.before.before
 
-abbrev read-u32-at-write-message-arg : tie.After-write-message-arg → tie.After-read-u32
+abbrev read-u32-at-write-message-arg : tie.After-write_message-arg-1 → tie.After-read_u32-free
 read-u32-at-write-message-arg c = c.before.before.before.before.before.before
 
-write-message-requires : tie.Need-write-message-requires
+write-message-requires : tie.Need-write_message-requires
 write-message-requires c κs =
     let k = facts (start-at-write-message-arg c) in
-    let x = (read-u32-at-write-message-arg c).read_u32 in
-    let u = c.before.before.before.copy-up in
+    let x = (read-u32-at-write-message-arg c).read_u32-free in
+    let u = c.copy_up in
     let A = (start-at-write-message-arg c).args in
     let end = x.result + A.shape.head + (A.before + length A.bytes.now) in (
       k.1,
@@ -89,83 +89,83 @@ write-message-requires c κs =
 new-requires : tie.Need-new-requires
 new-requires c κs = search rules
 
-abbrev write-message-at-new : tie.After-new → tie.After-write-message
+abbrev write-message-at-new : tie.After-new → tie.After-write_message
 write-message-at-new c = c.before.before.before.before
 
-abbrev image-at-new : tie.After-new → tie.After-image
+abbrev image-at-new : tie.After-new → tie.After-image-1
 image-at-new c = c.before.before.before.before.before.before.before
 
-abbrev copy-up-at-new : tie.After-new → tie.After-copy-up
-copy-up-at-new c = (image-at-new c).before
+abbrev copy-up-at-new : tie.After-new → tie.After-copy_up
+copy-up-at-new c = c.before.before.before.before.before.before.before.before
 
-abbrev read-u32-at-image : tie.After-image → tie.After-read-u32
+abbrev read-u32-at-image : tie.After-image-1 → tie.After-read_u32-free
 read-u32-at-image c = c.before.before.before.before
 
-abbrev read-u32-at-new : tie.After-new → tie.After-read-u32
-read-u32-at-new c = read-u32-at-image (image-at-new c)
+abbrev read-u32-at-new : tie.After-new → tie.After-read_u32-free
+read-u32-at-new c = c.before.before.before.before.before.before.before.before.before.before.before
 
-abbrev shared-slice-known-at-image : tie.After-image → tie.After-shared-slice-known
-shared-slice-known-at-image c = c.before.before.before.before.before.before.before
+abbrev shared-slice-known-at-image : tie.After-image-1 → tie.After-shared_slice_known-1
+shared-slice-known-at-image c = c.before.before.before.before.before.before
 
-abbrev start-at-image : tie.After-image → tie.Start
-start-at-image c = (shared-slice-known-at-image c).before.before
+abbrev start-at-image : tie.After-image-1 → tie.Start
+start-at-image c = c.before.before.before.before.before.before.before.before
 
 abbrev start-at-new : tie.After-new → tie.Start
-start-at-new c = start-at-image (image-at-new c)
+start-at-new c = c.before.before.before.before.before.before.before.before.before.before.before.before.before.before.before
 
-set-free-requires : tie.Need-set-free-requires
+set-free-requires : tie.Need-set_free-requires
 set-free-requires c κs =
-    let w = (write-message-at-new c).write-message in
-    let u = (copy-up-at-new c).copy-up in
-    let x = (read-u32-at-new c).read_u32 in
+    let w = (write-message-at-new c).write_message in
+    let u = (copy-up-at-new c).copy_up in
+    let x = (read-u32-at-new c).read_u32-free in
     let S = (start-at-new c) in
     let k = facts S in
     let f = k.0 in
     let end = x.result + S.args.shape.head + (S.args.before + length S.args.bytes.now) in
     let kept = same_len_mid x.result (end - x.result) u.last.0 w.last.0 w.kept.0 in (
       omega (arith, kept, u.kept.0, f.size_low),
-      omega (arith, c.new.ensures, x.ensures, area-field S.pre.0, f.free-low),
+      omega (arith, c.new.ensures, x.ensures, area-field S.requires.0, f.free-low),
       omega (arith, c.new.ensures, x.ensures, k.3, f.size-high),
     )
 
-same_length : tie.Need-same-length
+same_length : tie.Need-shape_of-image
 same_length c = search rules
 
-abbrev write-message-at-slice-known4 : tie.After-slice-known4 → tie.After-write-message
+abbrev write-message-at-slice-known4 : tie.After-slice_known-4-1 → tie.After-write_message
 write-message-at-slice-known4 c = c.before.before.before.before.before.before.before
 
-abbrev copy-up-at-write-message : tie.After-write-message → tie.After-copy-up
+abbrev copy-up-at-write-message : tie.After-write_message → tie.After-copy_up
 copy-up-at-write-message c = c.before.before.before.before
 
-abbrev copy-up-at-slice-known4 : tie.After-slice-known4 → tie.After-copy-up
-copy-up-at-slice-known4 c = copy-up-at-write-message (write-message-at-slice-known4 c)
+abbrev copy-up-at-slice-known4 : tie.After-slice_known-4-1 → tie.After-copy_up
+copy-up-at-slice-known4 c = c.before.before.before.before.before.before.before.before.before.before.before
 
-abbrev read-u32-at-write-message : tie.After-write-message → tie.After-read-u32
+abbrev read-u32-at-write-message : tie.After-write_message → tie.After-read_u32-free
 read-u32-at-write-message c = c.before.before.before.before.before.before.before
 
-abbrev read-u32-at-slice-known4 : tie.After-slice-known4 → tie.After-read-u32
-read-u32-at-slice-known4 c = read-u32-at-write-message (write-message-at-slice-known4 c)
+abbrev read-u32-at-slice-known4 : tie.After-slice_known-4-1 → tie.After-read_u32-free
+read-u32-at-slice-known4 c = c.before.before.before.before.before.before.before.before.before.before.before.before.before.before
 
-abbrev start-at-read-u32 : tie.After-read-u32 → tie.Start
-start-at-read-u32 c = c.before.before.before.before.before
+abbrev start-at-read-u32 : tie.After-read_u32-free → tie.Start
+start-at-read-u32 c = c.before.before.before.before
 
-abbrev start-at-write-message : tie.After-write-message → tie.Start
-start-at-write-message c = start-at-read-u32 (read-u32-at-write-message c)
+abbrev start-at-write-message : tie.After-write_message → tie.Start
+start-at-write-message c = c.before.before.before.before.before.before.before.before.before.before.before
 
-abbrev start-at-slice-known4 : tie.After-slice-known4 → tie.Start
-start-at-slice-known4 c = start-at-write-message (write-message-at-slice-known4 c)
+abbrev start-at-slice-known4 : tie.After-slice_known-4-1 → tie.Start
+start-at-slice-known4 c = c.before.before.before.before.before.before.before.before.before.before.before.before.before.before.before.before.before.before
 
-abbrev at-at-write-message : tie.After-write-message → tie.After-at
+abbrev at-at-write-message : tie.After-write_message → tie.After-at
 at-at-write-message c = c.before.before.before.before.before
 
-abbrev at-at-slice-known4 : tie.After-slice-known4 → tie.After-at
-at-at-slice-known4 c = at-at-write-message (write-message-at-slice-known4 c)
+abbrev at-at-slice-known4 : tie.After-slice_known-4-1 → tie.After-at
+at-at-slice-known4 c = c.before.before.before.before.before.before.before.before.before.before.before.before
 
 returns : tie.Need-returns
 returns c =
-    let w = (write-message-at-slice-known4 c).write-message in
-    let u = (copy-up-at-slice-known4 c).copy-up in
-    let x = (read-u32-at-slice-known4 c).read_u32 in
+    let w = (write-message-at-slice-known4 c).write_message in
+    let u = (copy-up-at-slice-known4 c).copy_up in
+    let x = (read-u32-at-slice-known4 c).read_u32-free in
     let S = (start-at-slice-known4 c) in
     let A = S.args in
     let img = A.image.now in
@@ -174,23 +174,23 @@ returns c =
     let from = A.from.0 in
     let head = A.shape.head in
     let k = facts S in
-    let below : from + n ≤ x.result = omega (arith, x.ensures, S.pre.1) in
+    let below : from + n ≤ x.result = omega (arith, x.ensures, S.requires.1) in
     let room : x.result + head + (n + length v) ≤ length img = omega (arith, x.ensures, k.3) in
     let copied : u.last.0 ≡ store img (x.result + head) (part img from n) =
     u.ensures ∙ ap (λ (p : ℕ). store img (x.result + head) (part img p n)) (at-at-slice-known4 c).at.ensures in
-    c.before.before.set_free.ensures
+    c.set_free.ensures
     ∙ ap₂ (set_free A.shape.area.0)
     (place-steps (layout_of img) img v x.result from n head k.2 below room u.last.0 w.last.0 copied
     (w.ensures
     ∙ ap (λ (k : ℕ). message k
     (part (mid_of x.result (x.result + head + (n + length v) - x.result) u.last.0) head n ++ v))
-    (width_is S.pre.0)))
-    c.before.before.before.new.ensures
+    (width_is S.requires.0)))
+    c.new.ensures
     ∙ take_space-set (layout_of img) img v x.result from n head k.2 below room A.shape.area.0
-    (shape-area S.pre.0) x.ensures
+    (shape-area S.requires.0) x.ensures
 
-pub take-space-spec : {M : Type 1} → statement M
-take-space-spec =
+pub take_space_spec : {M : Type 1} → statement M
+take_space_spec =
     tie.close
     (tie.spec
     read-u32-requires

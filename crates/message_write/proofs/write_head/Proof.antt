@@ -12,52 +12,52 @@ use Rattle.message_write.proofs.Placed.{head-wide}
 use Rattle.message_write.proofs.write_head.Statement.{statement}
 use Rattle.message_write.proofs.write_head.Tie as tie
 
-cast-write-low-u24 : tie.Need-overflow-cast-write-low-u24
+cast-write-low-u24 : tie.Need-overflow_cast-m
 cast-write-low-u24 c = search rules
 
-write-low-u24-requires : tie.Need-write-low-u24-requires
+write-low-u24-requires : tie.Need-write_low_u24-requires
 write-low-u24-requires c κs =
-    let S = c.before.before.before in
-    (omega (arith, S.requires.0.low, S.requires.1), S.requires.0.short c.before.if1.true)
+    let S = c in
+    (omega (arith, S.requires.0.low, S.requires.1), S.requires.0.short c.if-head-eq-HEAD.true)
 
-same_length : tie.Need-same-length
+same_length : tie.Need-shape_of-space-then-head-eq-HEAD
 same_length c = search rules
 
-returns : tie.Need-returns
+returns : tie.Need-returns-then-head-eq-HEAD
 returns c =
-    let S = c.before.before.before.before.before.before in
-    c.before.before.write-low-u24.ensures
+    let S = c in
+    c.write_low_u24.ensures
     ∙ ap (λ (w : ℕ). store S.args.space.now 0 (active ∷ digits w S.args.m))
-    (omega (arith, c.before.before.before.before.if1.true))
+    (omega (arith, c.if-head-eq-HEAD.true))
 
-slice-write-space : tie.Need-slice-write-space
+slice-write-space : tie.Need-bounds-space-0
 slice-write-space c = search rules
 
-cast-write-u32 : tie.Need-overflow-cast-write-u32
+cast-write-u32 : tie.Need-overflow_cast-m-2
 cast-write-u32 c = search rules
 
-write-u32-requires : tie.Need-write-u32-requires
+write-u32-requires : tie.Need-write_u32-requires
 write-u32-requires c κs =
-    let S = c.before.before.before in
-    omega (arith, length-set S.args.space.now 0 97, S.requires.0.low, c.before.if1.false, S.requires.1)
+    let S = c in
+    omega (arith, length-set S.args.space.now 0 97, S.requires.0.low, c.if-head-eq-HEAD.false, S.requires.1)
 
-same-length-2 : tie.Need-same-length-2
+same-length-2 : tie.Need-shape_of-space
 same-length-2 c =
-    c.before.before.write-u32.auto.0
-    ∙ length-set c.before.before.before.before.before.before.args.space.now 0 97
+    c.write_u32.auto.0
+    ∙ length-set c.args.space.now 0 97
 
-returns-2 : tie.Need-returns-2
+returns-2 : tie.Need-returns
 unfolding set_field
 returns-2 c =
-    let S = c.before.before.before.before.before.before in
-    c.before.before.write-u32.ensures
+    let S = c in
+    c.write_u32.ensures
     ∙ head-wide S.args.space.now S.args.m
-    (omega (arith, S.requires.0.low, c.before.before.before.before.if1.false, S.requires.1))
+    (omega (arith, S.requires.0.low, c.if-head-eq-HEAD.false, S.requires.1))
     ∙ ap (λ (w : ℕ). store S.args.space.now 0 (active ∷ digits w S.args.m))
-    (omega (arith, S.requires.0.low, S.requires.0.high, c.before.before.before.before.if1.false))
+    (omega (arith, S.requires.0.low, S.requires.0.high, c.if-head-eq-HEAD.false))
 
-pub write-head-spec : {M : Type 1} → statement M
-write-head-spec =
+pub write_head_spec : {M : Type 1} → statement M
+write_head_spec =
     tie.close
     (tie.spec
     cast-write-low-u24

@@ -11,78 +11,78 @@ use Rattle.message_write.proofs.Placed.{written_at}
 use Rattle.message_write.proofs.write_message.Statement.{statement}
 use Rattle.message_write.proofs.write_message.Tie as tie
 
-add-m : tie.Need-overflow-add-m
+add-m : tie.Need-overflow_add-m
 add-m c = search rules
 
-write-head-requires : tie.Need-write-head-requires
-write-head-requires c κs = (c.before.before.before.requires.0, omega (arith, c.before.before.before.requires.1))
+write-head-requires : tie.Need-write_head-requires
+write-head-requires c κs = (c.requires.0, omega (arith, c.requires.1))
 
-abbrev start-at-write-head : tie.After-write-head → tie.Start
+abbrev start-at-write-head : tie.After-write_head → tie.Start
 start-at-write-head c = c.before.before.before.before
 
 -- with the header written, the space is as long as before
-kept : (c : tie.After-write-head)
-    → length c.write-head.new.0 ≡ length (start-at-write-head c).args.space.now
-kept c = c.write-head.auto.0
+kept : (c : tie.After-write_head)
+    → length c.write_head.new.0 ≡ length (start-at-write-head c).args.space.now
+kept c = c.write_head.auto.0
 
-long : (c : tie.After-write-head)
+long : (c : tie.After-write_head)
     → let S : tie.Start = start-at-write-head c in
-    length c.write-head.new.0 ≡ S.args.head + S.args.before + length S.args.bytes.now
-long c = kept c ∙ (start-at-write-head c).pre.1
+    length c.write_head.new.0 ≡ S.args.head + S.args.before + length S.args.bytes.now
+long c = kept c ∙ (start-at-write-head c).requires.1
 
-add-from : tie.Need-overflow-add-from
+add-from : tie.Need-overflow_add-from
 add-from c = search rules
 
-sub-copy : tie.Need-overflow-sub-copy
+sub-copy : tie.Need-slice_bounds-copy-count
 sub-copy c = omega (arith, long c.before.before)
 
-part-copy-start : tie.Need-slice-bounds-copy-start
+part-copy-start : tie.Need-slice_bounds-copy-start
 part-copy-start c = omega (arith, long c.before.before)
 
-part-copy-end : tie.Need-slice-bounds-copy-end
+part-copy-end : tie.Need-slice_bounds-copy-end
 part-copy-end c = search rules
 
-abbrev start-at-copy-arg : tie.After-copy-arg → tie.Start
+abbrev start-at-copy-arg : tie.After-copy-arg-1 → tie.Start
 start-at-copy-arg c = c.before.before.before.before.before.before.before
 
 copy-requires : tie.Need-copy-requires
 copy-requires c κs =
     let W = c.before.before.before in
     let A = (start-at-copy-arg c).args in
-    let t = W.write-head.new.0 in
+    let t = W.write_head.new.0 in
     mid_len (A.head + A.before) (length t) t (omega arith) ∙ omega (arith, long W)
 
-abbrev write-head-at-slice-known3 : tie.After-slice-known3 → tie.After-write-head
+abbrev write-head-at-slice-known3 : tie.After-slice_known-3-1 → tie.After-write_head
 write-head-at-slice-known3 c = c.before.before.before.before.before.before
 
-abbrev write-head-arg-at-slice-known3 : tie.After-slice-known3 → tie.After-write-head-arg
+abbrev write-head-arg-at-slice-known3 : tie.After-slice_known-3-1 → tie.After-write_head-arg-1
 write-head-arg-at-slice-known3 c = c.before.before.before.before.before.before.before
 
-abbrev start-at-slice-known3 : tie.After-slice-known3 → tie.Start
-start-at-slice-known3 c = (write-head-arg-at-slice-known3 c).before.before.before
+abbrev start-at-slice-known3 : tie.After-slice_known-3-1 → tie.Start
+start-at-slice-known3 c = c.before.before.before.before.before.before.before.before.before.before
 
-same_length : tie.Need-same-length
+same_length : tie.Need-shape_of-space
 same_length c =
-    let v = c.before.before.copy in
+    let v = c.copy in
     let W = (write-head-at-slice-known3 c) in
     let A = (start-at-slice-known3 c).args in
-    let t = W.write-head.last.0 in
+    let t = W.write_head.last.0 in
     same_len_mid (A.head + A.before) (length t - (A.head + A.before)) t v.new.0 v.auto.0 ∙ kept W
 
 returns : tie.Need-returns
 returns c =
-    let v = c.before.before.copy in
+    let v = c.copy in
     let W = (write-head-at-slice-known3 c) in
     let S = (start-at-slice-known3 c) in
     let n = S.args.before in
     let head = S.args.head in
-    let t = W.write-head.last.0 in
+    let t = W.write_head.last.0 in
     store-lent t (head + n) (length t) v.new.0 (ap length v.ensures ∙ omega (arith, long W))
-    ∙ ap₂ (λ (b y : Bytes). store b (head + n) y) W.write-head.ensures v.ensures
-    ∙ written_at S.args.space.now S.args.bytes.now n head (omega (arith, S.pre.0.low)) S.pre.1
+    ∙ ap₂ (λ (b y : Bytes). store b (head + n) y) W.write_head.ensures v.ensures
+    ∙ written_at S.args.space.now S.args.bytes.now n head (omega (arith, S.requires.0.low)) S.requires.1
 
-pub write-message-spec : {M : Type 1} → statement M
-write-message-spec =
+pub write_message_spec : {M : Type 1} → statement M
+write_message_spec =
     tie.close
     (tie.spec
     add-m

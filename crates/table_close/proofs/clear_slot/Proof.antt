@@ -15,58 +15,58 @@ use Rattle.table_close.proofs.clear_slot.Tie as tie
 start-requires : tie.Need-start-requires
 start-requires c κs = search rules
 
-at-requires : tie.Need-at-requires
+at-requires : tie.Need-at-a-requires
 at-requires c κs = search rules
 
-add-e : tie.Need-overflow-add-e
+add-e : tie.Need-overflow_add-e
 add-e c = search rules
 
-add-e-2 : tie.Need-overflow-add-e-2
+add-e-2 : tie.Need-overflow_add-e-2
 add-e-2 c =
-    let S = c.before.before.before in
+    let S = c in
     let img = S.args.image.now in
     let s = S.args.shape in
-    omega (arith, spot-placed img s S.args.i.0 S.requires.0 S.requires.1, c.at.ensures, c.before.start.ensures)
+    omega (arith, spot-placed img s S.args.i.0 S.requires.0 S.requires.1, c.at-a.ensures, c.start.ensures)
 
-sub-clear : tie.Need-overflow-sub-clear
+sub-clear : tie.Need-slice_bounds-clear-count
 sub-clear c = search rules
 
-part-clear-start : tie.Need-slice-bounds-clear-start
+part-clear-start : tie.Need-slice_bounds-clear-start
 part-clear-start c = search rules
 
-part-clear-end : tie.Need-slice-bounds-clear-end
+part-clear-end : tie.Need-slice_bounds-clear-end
 part-clear-end c =
-    let S = c.before.before.before in
+    let S = c in
     let img = S.args.image.now in
     let s = S.args.shape in
-    omega (arith, spot-placed img s S.args.i.0 S.requires.0 S.requires.1, c.at.ensures, c.before.start.ensures)
+    omega (arith, spot-placed img s S.args.i.0 S.requires.0 S.requires.1, c.at-a.ensures, c.start.ensures)
 
 clear-requires : tie.Need-clear-requires
 clear-requires c κs = search rules
 
-same_length : tie.Need-same-length
+same_length : tie.Need-shape_of-image
 same_length c = search rules
 
 returns : tie.Need-returns
 unfolding blank
 returns c =
-    let S = c.before.before.before.before.before.before.before in
+    let S = c in
     let s = S.args.shape in
     let img = S.args.image.now in
     let p = spot-placed img s S.args.i.0 S.requires.0 S.requires.1 in
-    let a = c.before.before.before.before.at.result in
+    let a = c.at-a.result in
     let e = a + (s.keylen + 4) in
     let at =
-    c.before.before.before.before.at.ensures ∙ c.before.before.before.before.before.start.ensures in
+    c.at-a.ensures ∙ c.start.ensures in
     let m : e - a ≡ s.keylen + 4 = omega arith in
     let size = mid_len a e img (omega arith) ∙ m in
     ap (λ (v : Bytes). put_mid a (e - a) img v)
-    (c.before.before.clear.ensures ∙ ap zeros (size ∙ sym (slot-room img s S.requires.0.shape)))
+    (c.clear.ensures ∙ ap zeros (size ∙ sym (slot-room img s S.requires.0.shape)))
     ∙ put-slot img s S.requires.0.shape S.args.i.0 a at e (blank (layout_of img)) refl
     (length-blank (layout_of img) ∙ slot-room img s S.requires.0.shape)
 
-pub clear-slot-spec : {M : Type 1} → statement M
-clear-slot-spec =
+pub clear_slot_spec : {M : Type 1} → statement M
+clear_slot_spec =
     tie.close
     (tie.spec
     start-requires

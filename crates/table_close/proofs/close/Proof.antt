@@ -10,86 +10,86 @@ use Rattle.table_close.proofs.Walking.{Walking, After, walking-slots, walking-ot
 use Rattle.table_close.proofs.close.Statement.{statement}
 use Rattle.table_close.proofs.close.Tie as tie
 
-abbrev invariant-loop : tie.invariant-loop
+abbrev invariant-loop : tie.invariant-loop-shape
 invariant-loop image₀ shape slots gap₀ j₀ image gap j = Walking image₀ shape gap₀.0 j₀.0 image gap.0 j.0
 
-abbrev decreases-loop : tie.decreases-loop
+abbrev decreases-loop : tie.decreases-loop-shape
 decreases-loop image₀ shape slots gap₀ j₀ image gap j = left (layout_of image₀) image gap.0 j.0
 
-clear-slot-requires : tie.Need-clear-slot-requires invariant-loop decreases-loop
+clear-slot-requires : tie.Need-clear_slot-requires invariant-loop decreases-loop
 clear-slot-requires c κs =
-    let S = c.before.before in
+    let S = c in
     let img = S.args.image.now in
     let s = S.args.shape in
     (placed-opened img s S.requires.0, S.requires.1)
 
-next-requires : tie.Need-next-requires invariant-loop decreases-loop
-next-requires c κs = c.before.before.before.before.before.requires.1
+next-requires : tie.Need-next-j-requires invariant-loop decreases-loop
+next-requires c κs = c.requires.1
 
-loop-holds : tie.Need-loop-init invariant-loop decreases-loop
+loop-holds : tie.Need-loop-shape-init invariant-loop decreases-loop
 loop-holds c =
-    let S = c.before.before.before.before.before.before in
+    let S = c in
     let img = S.args.image.now in
     let s = S.args.shape in
     walking_start img s S.requires.0 S.args.hole.0 S.requires.1 _ _
-    c.before.before.before.clear-slot.ensures c.next.ensures
+    c.clear_slot.ensures c.next-j.ensures
 
-is-vacant-requires : tie.Need-is-vacant-requires invariant-loop decreases-loop
+is-vacant-requires : tie.Need-is_vacant-requires invariant-loop decreases-loop
 is-vacant-requires c κs =
-    let w = c.before.loop.invariant in
+    let w = c.loop-shape.invariant in
     (w.opened, omega (arith, walking-slots w, w.going.slot_lt))
 
-look-requires : tie.Need-look-requires invariant-loop decreases-loop
+look-requires : tie.Need-look-gap-requires invariant-loop decreases-loop
 look-requires c κs =
-    let w = c.before.before.before.before.loop.invariant in
+    let w = c.loop-shape.invariant in
     let n = walking-slots w in (
       w.opened,
       record {
         hole-lt = omega (arith, w.going.hole-lt);
         slot_lt = omega (arith, w.going.slot_lt);
-        other = walking-other w (was-no c.before.before.is-vacant.ensures c.before.if1.true);
+        other = walking-other w (was-no c.is_vacant.ensures c.loop-shape-test.true);
       },
     )
 
-next-requires-2 : tie.Need-next-requires-2 invariant-loop decreases-loop
+next-requires-2 : tie.Need-next-j-requires-in-loop-shape invariant-loop decreases-loop
 next-requires-2 c κs =
-    let w = c.before.before.before.before.before.before.before.loop.invariant in
+    let w = c.loop-shape.invariant in
     omega (arith, walking-slots w, w.going.slot_lt)
 
-abbrev then1-at-next2 : tie.After-next2 invariant-loop decreases-loop → tie.Then1 invariant-loop decreases-loop
+abbrev then1-at-next2 : tie.After-next-j-in-loop-shape invariant-loop decreases-loop → tie.In-loop-shape invariant-loop decreases-loop
 then1-at-next2 c = c.before.before.before.before.before
 
 -- a turn: the state at its end, and the measure
-turn : (c : tie.After-next2 invariant-loop decreases-loop)
-    → After (then1-at-next2 c).before.before.before.loop.inv c.before.before.before.look.new.0
-    c.before.before.before.look.result.0 c.next2.result.0
+turn : (c : tie.After-next-j-in-loop-shape invariant-loop decreases-loop)
+    → After (then1-at-next2 c).loop-shape.invariant c.look-gap.new.0
+    c.look-gap.result.0 c.next-j-in-loop-shape.result.0
 turn c =
     let T = then1-at-next2 c in
-    let looked = c.before.before.before.look in
-    walking-turn T.before.before.before.loop.inv _ _ _
-    (was-no T.before.is-vacant.ensures T.if1.taken) looked.ensures.image-is looked.ensures.hole-is
-    c.next2.ensures
+    let looked = c.look-gap in
+    walking-turn T.loop-shape.invariant _ _ _
+    (was-no T.is_vacant.ensures T.loop-shape-test.taken) looked.ensures.image-is looked.ensures.hole-is
+    c.next-j-in-loop-shape.ensures
 
-loop-less : tie.Need-loop-smaller invariant-loop decreases-loop
+loop-less : tie.Need-loop-shape-smaller invariant-loop decreases-loop
 loop-less c = (turn c).1
 
-loop-again : tie.Need-loop-preserved invariant-loop decreases-loop
+loop-again : tie.Need-loop-shape-preserved invariant-loop decreases-loop
 loop-again c = (turn c).0
 
-same_length : tie.Need-same-length invariant-loop decreases-loop
+same_length : tie.Need-shape_of-image invariant-loop decreases-loop
 same_length c =
-    let L = c.before.before.before in
-    L.loop.invariant.head.size ∙ L.before.before.before.before.clear-slot.auto.0
+    let L = c in
+    L.loop-shape.invariant.head.size ∙ L.clear_slot.auto.0
 
 returns : tie.Need-returns invariant-loop decreases-loop
 returns c =
-    let L = c.before.before.before in
-    let S = L.before.before.before.before.before.before.before in
+    let L = c in
+    let S = c in
     let img = S.args.image.now in
     let s = S.args.shape in
-    walking-end L.loop.invariant (was-yes c.before.is-vacant.ensures c.if1.false)
+    walking-end L.loop-shape.invariant (was-yes c.is_vacant.ensures c.loop-shape-test.false)
     ∙ walking-closed img s S.requires.0 S.args.hole.0 S.requires.1 _ _
-    L.before.before.before.before.clear-slot.ensures L.before.next.ensures
+    L.clear_slot.ensures L.next-j.ensures
 
 pub close_spec : {M : Type 1} → statement M
 close_spec =

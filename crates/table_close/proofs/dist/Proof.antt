@@ -6,32 +6,39 @@ use borrow.Author.Rules.{rules}
 use Rattle.table_close.proofs.dist.Statement.{statement}
 use Rattle.table_close.proofs.dist.Tie as tie
 
-number-requires : tie.Need-number-requires
+number-requires : tie.Need-number-from-requires
 number-requires c κs = search rules
 
-number-requires-2 : tie.Need-number-requires-2
+number-requires-2 : tie.Need-number-to-requires
 number-requires-2 c κs = search rules
 
-returns : tie.Need-returns
+returns : tie.Need-returns-then-from-to
 returns c =
-    let A = c.before.before.before.args in
-    let from = c.before.before.number.ensures in
-    let to = c.before.number2.ensures in
+    let A = c.args in
+    let from = c.number-from.ensures in
+    let to = c.number-to.ensures in
     omega (arith, dist-up A.slots A.a.0 A.b.0 (omega arith))
 
-add-result : tie.Need-overflow-add-result
+add-result : tie.Need-overflow_add-result
 add-result c = search rules
 
-sub-result : tie.Need-overflow-sub-result
+sub-result : tie.Need-overflow_sub-result-2
 sub-result c = search rules
 
-returns-2 : tie.Need-returns-2
+returns-2 : tie.Need-returns
 returns-2 c =
-    let A = c.before.before.before.args in
-    let from = c.before.before.number.ensures in
-    let to = c.before.number2.ensures in
+    let A = c.args in
+    let from = c.number-from.ensures in
+    let to = c.number-to.ensures in
     omega (arith, dist-wrap A.slots A.a.0 A.b.0 (omega arith))
 
-pub dist-spec : {M : Type 1} → statement M
-dist-spec =
-    tie.close (tie.spec number-requires number-requires-2 returns add-result sub-result returns-2)
+pub dist_spec : {M : Type 1} → statement M
+dist_spec =
+    tie.close
+    (tie.spec
+    number-requires
+    number-requires-2
+    returns
+    add-result
+    sub-result
+    returns-2)

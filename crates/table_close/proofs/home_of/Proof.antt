@@ -6,7 +6,7 @@ use borrow.Author.Rules.{rules}
 use Rattle.table_close.proofs.home_of.Statement.{statement}
 use Rattle.table_close.proofs.home_of.Tie as tie
 
-key-of-requires : tie.Need-key-of-requires
+key-of-requires : tie.Need-key_of-requires
 key-of-requires c κs = search rules
 
 home-requires : tie.Need-home-requires
@@ -14,7 +14,12 @@ home-requires c κs = search rules
 
 returns : tie.Need-returns
 returns c =
-    c.home.ensures ∙ ap (home (layout_of c.before.before.before.args.image.now)) c.before.key_of.ensures
+    c.home.ensures ∙ ap (home (layout_of c.args.image.now)) c.key_of.ensures
 
-pub home-of-spec : {M : Type 1} → statement M
-home-of-spec = tie.close (tie.spec key-of-requires home-requires returns)
+pub home_of_spec : {M : Type 1} → statement M
+home_of_spec =
+    tie.close
+    (tie.spec
+    key-of-requires
+    home-requires
+    returns)

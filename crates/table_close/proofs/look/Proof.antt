@@ -11,52 +11,52 @@ use borrow.Author.Rules.{rules}
 use Rattle.table_close.proofs.look.Statement.{statement}
 use Rattle.table_close.proofs.look.Tie as tie
 
-home-of-requires : tie.Need-home-of-requires
+home-of-requires : tie.Need-home_of-requires
 home-of-requires c κs = search rules
 
 stays-requires : tie.Need-stays-requires
 stays-requires c κs =
-    let S = c.before.before.before in
+    let S = c in
     let s = S.args.shape in
     let img = S.args.image.now in
     let b = header img s S.requires.0 in
     let n = layout-slots img s S.requires.0.shape in
     omega (arith, c.Home-of.ensures, home-lt (layout_of img) (key_in img S.args.j.0) (omega arith))
 
-same_length : tie.Need-same-length
+same_length : tie.Need-shape_of-image-then-stays
 same_length c = search rules
 
-returns : tie.Need-returns
+returns : tie.Need-returns-then-stays
 returns c =
-    let S = c.before.before.before.before.before in
+    let S = c in
     let img = S.args.image.now in
     let s = S.args.shape in
     let e = looked-stays (layout_of img) img S.args.hole.0 S.args.j.0
     (sym (stays-code img s S.requires.0.shape S.args.hole.0 S.args.j.0 _
-    c.before.before.Home-of.ensures)
-    ∙ sym c.before.stays.ensures ∙ c.if1.true) in
+    c.Home-of.ensures)
+    ∙ sym c.stays.ensures ∙ c.if-stays.true) in
     record { hole-is = sym e.0; image-is = sym e.1 }
 
-move-slot-requires : tie.Need-move-slot-requires
+move-slot-requires : tie.Need-move_slot-requires
 move-slot-requires c κs = search rules
 
-same-length-2 : tie.Need-same-length-2
+same-length-2 : tie.Need-shape_of-image
 same-length-2 c = search rules
 
-abbrev else1-at-slice-known2 : tie.After-slice-known2 → tie.Else1
+abbrev else1-at-slice-known2 : tie.After-slice_known-2-1 → tie.Else-stays
 else1-at-slice-known2 c = c.before.before.before.before
 
-returns-2 : tie.Need-returns-2
+returns-2 : tie.Need-returns
 returns-2 c =
     let E = else1-at-slice-known2 c in
     let S = E.before.before.before.before.before in
     let img = S.args.image.now in
     let s = S.args.shape in
     let e = looked-moves (layout_of img) img S.args.hole.0 S.args.j.0
-    (sym (stays-code img s S.pre.0.shape S.args.hole.0 S.args.j.0 _
-    E.before.before.Home-of.ensures)
-    ∙ sym E.before.stays.ensures ∙ E.if1.left) in
-    record { hole-is = sym e.0; image-is = c.before.before.move-slot.ensures ∙ sym e.1 }
+    (sym (stays-code img s S.requires.0.shape S.args.hole.0 S.args.j.0 _
+    E.Home-of.ensures)
+    ∙ sym E.stays.ensures ∙ E.if-stays.left) in
+    record { hole-is = sym e.0; image-is = c.move_slot.ensures ∙ sym e.1 }
 
 pub look_spec : {M : Type 1} → statement M
 look_spec =

@@ -6,47 +6,47 @@ use Rattle.table_hash.proofs.Hashed.{hash_step-outside, hash_step-within}
 use Rattle.table_hash.proofs.hash_step.Statement.{statement}
 use Rattle.table_hash.proofs.hash_step.Tie as tie
 
-mul-u32-requires : tie.Need-mul-u32-requires
+mul-u32-requires : tie.Need-mul_u32-x-requires
 mul-u32-requires c κs = search rules
 
-returns : tie.Need-returns
+returns : tie.Need-returns-then-last-first
 returns c =
-    let A = c.before.before.before.args in
-    let m = c.before.mul-u32 in
+    let A = c.args in
+    let m = c.mul_u32-x in
     hash_step-outside A.multiplier A.first A.last A.scramble.now A.h A.c m.result m.ensures
     (λ p q. omega (arith, p, q))
 
-cast-span : tie.Need-overflow-cast-span
+cast-span : tie.Need-overflow_cast-span
 cast-span c = search rules
 
-wrapping-sub-usize-requires : tie.Need-wrapping-sub-usize-requires
+wrapping-sub-usize-requires : tie.Need-wrapping_sub_usize-d-requires
 wrapping-sub-usize-requires c κs = search rules
 
-returns-2 : tie.Need-returns-2
+returns-2 : tie.Need-returns-then-span-d
 returns-2 c =
-    let A = c.before.before.before.before.before.args in
-    let m = c.before.before.before.mul-u32 in
+    let A = c.args in
+    let m = c.mul_u32-x in
     hash_step-outside A.multiplier A.first A.last A.scramble.now A.h A.c m.result m.ensures
     (λ p q. omega (arith, p, q))
 
-mul-read-u32 : tie.Need-overflow-mul-read-u32
+mul-read-u32 : tie.Need-overflow_mul-d
 mul-read-u32 c = search rules
 
-read-u32-requires : tie.Need-read-u32-requires
+read-u32-requires : tie.Need-read_u32-requires
 read-u32-requires c κs = search rules
 
-returns-3 : tie.Need-returns-3
+returns-3 : tie.Need-returns
 returns-3 c =
-    let A = c.before.before.before.before.before.before.args in
-    let m = c.before.before.before.before.mul-u32 in
-    let d : c.before.before.wrapping-sub-usize.result ≡ A.c - A.first = omega arith in
+    let A = c.args in
+    let m = c.mul_u32-x in
+    let d : c.wrapping_sub_usize-d.result ≡ A.c - A.first = omega arith in
     hash_step-within A.multiplier A.first A.last A.scramble.now A.h A.c
     m.result c.read_u32.result m.ensures
     (c.read_u32.ensures ∙ ap (λ (k : ℕ). field A.scramble.now (4 * k)) d)
     (omega arith) (omega arith)
 
-pub hash-step-spec : {M : Type 1} → statement M
-hash-step-spec =
+pub hash_step_spec : {M : Type 1} → statement M
+hash_step_spec =
     tie.close
     (tie.spec
     mul-u32-requires

@@ -7,51 +7,51 @@ use Rattle.table_search.proofs.Headers.{header, home-is}
 use Rattle.table_search.proofs.home.Statement.{statement}
 use Rattle.table_search.proofs.home.Tie as tie
 
-sub-end : tie.Need-overflow-sub-end
+sub-end : tie.Need-overflow_sub-end
 sub-end c =
-    let S = c.before.before in
+    let S = c in
     let img = S.args.image.now in
     let s = S.args.shape in
     omega (arith, header img s S.requires)
 
-add-end : tie.Need-overflow-add-end
+add-end : tie.Need-overflow_add-end
 add-end c =
-    let S = c.before.before in
+    let S = c in
     let img = S.args.image.now in
     let s = S.args.shape in
     omega (arith, header img s S.requires)
 
-cast-end : tie.Need-overflow-cast-end
+cast-end : tie.Need-overflow_cast-end
 cast-end c = search rules
 
-mul-end : tie.Need-overflow-mul-end
+mul-end : tie.Need-overflow_mul-end
 mul-end c = search rules
 
-add-end-2 : tie.Need-overflow-add-end-2
+add-end-2 : tie.Need-overflow_add-end-2
 add-end-2 c = search rules
 
-sub-hash : tie.Need-overflow-sub-hash
+sub-hash : tie.Need-slice_bounds-hash-count
 sub-hash c = search rules
 
-part-hash-start : tie.Need-slice-bounds-hash-start
+part-hash-start : tie.Need-slice_bounds-hash-start
 part-hash-start c = search rules
 
-part-hash-end : tie.Need-slice-bounds-hash-end
+part-hash-end : tie.Need-slice_bounds-hash-end
 part-hash-end c =
-    let S = c.before.before in
+    let S = c in
     let img = S.args.image.now in
     let s = S.args.shape in
     omega (arith, header img s S.requires)
 
-hash-requires : tie.Need-hash-requires
+hash-requires : tie.Need-hash-h-requires
 hash-requires c κs = search rules
 
-cast-new : tie.Need-overflow-cast-new
+cast-new : tie.Need-overflow_cast-h
 cast-new c = search rules
 
-rem-new : tie.Need-nonzero-rem-new
+rem-new : tie.Need-nonzero_rem-h
 rem-new c =
-    let S = c.before.before.before.before in
+    let S = c in
     let img = S.args.image.now in
     let s = S.args.shape in
     omega (arith, header img s S.requires)
@@ -61,14 +61,14 @@ new-requires c κs = search rules
 
 returns : tie.Need-returns
 returns c =
-    let S = c.before.before.before.before.before in
+    let S = c in
     let img = S.args.image.now in
     let s = S.args.shape in
     let key = S.args.key.now in
-    c.new.ensures ∙ home-is img s S.requires.shape key c.before.hash.result c.before.hash.ensures
+    c.new.ensures ∙ home-is img s S.requires.shape key c.hash-h.result c.hash-h.ensures
 
-pub home-spec : {M : Type 1} → statement M
-home-spec =
+pub home_spec : {M : Type 1} → statement M
+home_spec =
     tie.close
     (tie.spec
     sub-end

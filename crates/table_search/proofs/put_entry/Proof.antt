@@ -19,70 +19,70 @@ length-entry' key o k e = length-append key (digits 4 o) ∙ ap₂ ◌+◌ e (le
 
 start-requires : tie.Need-start-requires
 start-requires c κs =
-    let S = c.before.before in
+    let S = c in
     let img = S.args.image.now in
     let s = S.args.shape in
     omega (arith, spot-placed img s S.args.i.0 S.requires.0 S.requires.1)
 
-at-requires : tie.Need-at-requires
+at-requires : tie.Need-at-a-requires
 at-requires c κs = search rules
 
-add-e : tie.Need-overflow-add-e
+add-e : tie.Need-overflow_add-e
 add-e c =
-    let S = c.before.before.before.before in
+    let S = c in
     let img = S.args.image.now in
     let s = S.args.shape in
-    omega (arith, spot-placed img s S.args.i.0 S.requires.0 S.requires.1, c.at.ensures, c.before.start.ensures)
+    omega (arith, spot-placed img s S.args.i.0 S.requires.0 S.requires.1, c.at-a.ensures, c.start.ensures)
 
-add-e-2 : tie.Need-overflow-add-e-2
+add-e-2 : tie.Need-overflow_add-e-2
 add-e-2 c =
-    let S = c.before.before.before.before in
+    let S = c in
     let img = S.args.image.now in
     let s = S.args.shape in
-    omega (arith, spot-placed img s S.args.i.0 S.requires.0 S.requires.1, c.at.ensures, c.before.start.ensures)
+    omega (arith, spot-placed img s S.args.i.0 S.requires.0 S.requires.1, c.at-a.ensures, c.start.ensures)
 
-sub-write-entry : tie.Need-overflow-sub-write-entry
+sub-write-entry : tie.Need-slice_bounds-write_entry-count
 sub-write-entry c = search rules
 
-part-write-entry-start : tie.Need-slice-bounds-write-entry-start
+part-write-entry-start : tie.Need-slice_bounds-write_entry-start
 part-write-entry-start c = search rules
 
-part-write-entry-end : tie.Need-slice-bounds-write-entry-end
+part-write-entry-end : tie.Need-slice_bounds-write_entry-end
 part-write-entry-end c =
-    let S = c.before.before.before.before in
+    let S = c in
     let img = S.args.image.now in
     let s = S.args.shape in
-    omega (arith, spot-placed img s S.args.i.0 S.requires.0 S.requires.1, c.at.ensures, c.before.start.ensures)
+    omega (arith, spot-placed img s S.args.i.0 S.requires.0 S.requires.1, c.at-a.ensures, c.start.ensures)
 
-write-entry-requires : tie.Need-write-entry-requires
+write-entry-requires : tie.Need-write_entry-requires
 write-entry-requires c κs =
-    let S = c.before.before.before.before.before in
+    let S = c in
     let img = S.args.image.now in
     let s = S.args.shape in
     let p = spot-placed img s S.args.i.0 S.requires.0 S.requires.1 in
-    let a = c.before.at.result in
-    let at = c.before.at.ensures ∙ c.before.before.start.ensures in
+    let a = c.at-a.result in
+    let at = c.at-a.ensures ∙ c.start.ensures in
     (mid_len a (a + (s.keylen + 4)) img (omega arith) ∙ omega arith, S.requires.3)
 
-same_length : tie.Need-same-length
+same_length : tie.Need-shape_of-image
 same_length c = search rules
 
 returns : tie.Need-returns
 returns c =
-    let P = c.before.before.before.before in
-    let S = P.before.before.before.before in
+    let P = c in
+    let S = c in
     let img = S.args.image.now in
     let s = S.args.shape in
     let key = S.args.key.now in
-    let a = P.at.result in
-    ap (λ (v : Bytes). put_mid a (a + (s.keylen + 4) - a) img v) c.before.before.write-entry.ensures
+    let a = P.at-a.result in
+    ap (λ (v : Bytes). put_mid a (a + (s.keylen + 4) - a) img v) c.write_entry.ensures
     ∙ put-slot img s S.requires.0.shape S.args.i.0 a
-    (P.at.ensures ∙ P.before.start.ensures) (a + (s.keylen + 4))
+    (P.at-a.ensures ∙ P.start.ensures) (a + (s.keylen + 4))
     (slot_bytes key S.args.offset.0) refl
     (length-entry' key S.args.offset.0 s.keylen S.requires.2)
 
-pub put-entry-spec : {M : Type 1} → statement M
-put-entry-spec =
+pub put_entry_spec : {M : Type 1} → statement M
+put_entry_spec =
     tie.close
     (tie.spec
     start-requires

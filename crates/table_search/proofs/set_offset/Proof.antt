@@ -13,46 +13,46 @@ use Rattle.table_search.proofs.set_offset.Tie as tie
 start-requires : tie.Need-start-requires
 start-requires c κs = search rules
 
-at-requires : tie.Need-at-requires
+at-requires : tie.Need-at-a-requires
 at-requires c κs = search rules
 
-add-write-u32 : tie.Need-overflow-add-write-u32
+add-write-u32 : tie.Need-overflow_add-a
 add-write-u32 c =
-    let S = c.before.before.before.before in
+    let S = c in
     omega (
       arith,
       spot-placed S.args.image.now S.args.shape S.args.i.0 S.requires.0 S.requires.1,
-      c.before.at.ensures,
-      c.before.before.start.ensures,
+      c.at-a.ensures,
+      c.start.ensures,
     )
 
-at-requires-2 : tie.Need-at-requires-2
+at-requires-2 : tie.Need-at-requires
 at-requires-2 c κs = search rules
 
-cast-write-u32 : tie.Need-overflow-cast-write-u32
+cast-write-u32 : tie.Need-overflow_cast-at
 cast-write-u32 c = search rules
 
-write-u32-requires : tie.Need-write-u32-requires
+write-u32-requires : tie.Need-write_u32-requires
 write-u32-requires c κs =
-    let P = c.before.before in
-    let S = P.before.before.before in
+    let P = c in
+    let S = c in
     omega (
       arith,
       spot-placed S.args.image.now S.args.shape S.args.i.0 S.requires.0 S.requires.1,
-      P.at.ensures,
-      P.before.start.ensures,
+      P.at-a.ensures,
+      P.start.ensures,
     )
 
-same_length : tie.Need-same-length
+same_length : tie.Need-shape_of-image
 same_length c = search rules
 
 returns : tie.Need-returns
 unfolding with_offset
 returns c =
-    let W = c.before.before in
-    let O = W.before in
-    let P = O.before.before in
-    let S = P.before.before.before in
+    let W = c in
+    let O = c in
+    let P = c in
+    let S = c in
     let img = S.args.image.now in
     let s = S.args.shape in
     let i = S.args.i.0 in
@@ -60,14 +60,14 @@ returns c =
     let p = spot-placed img s i S.requires.0 S.requires.1 in
     let room : slot_start (layout_of img) i + slot_size (layout_of img) ≤ length img =
     omega (arith, slot-place img s is i, slot-room img s is, p.ends) in
-    W.write-u32.ensures
+    W.write_u32.ensures
     ∙ ap₂ (set_field img)
-    (ap₂ ◌+◌ (P.at.ensures ∙ P.before.start.ensures ∙ sym (slot-place img s is i)) (sym (layout-key img s is)))
-    O.at2.ensures
+    (ap₂ ◌+◌ (P.at-a.ensures ∙ P.start.ensures ∙ sym (slot-place img s is i)) (sym (layout-key img s is)))
+    O.at.ensures
     ∙ offset-written (layout_of img) img i S.args.o.0 room
 
-pub set-offset-spec : {M : Type 1} → statement M
-set-offset-spec =
+pub set_offset_spec : {M : Type 1} → statement M
+set_offset_spec =
     tie.close
     (tie.spec
     start-requires

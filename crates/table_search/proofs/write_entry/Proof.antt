@@ -13,50 +13,50 @@ use borrow.Author.Rules.{rules}
 use Rattle.table_search.proofs.write_entry.Statement.{statement}
 use Rattle.table_search.proofs.write_entry.Tie as tie
 
-slice-relend-prefix-copy : tie.Need-slice-relend-prefix-copy
+slice-relend-prefix-copy : tie.Need-slice_bounds-copy-end
 slice-relend-prefix-copy c = search rules
 
-slice-aggregate-copy : tie.Need-slice-aggregate-copy
+slice-aggregate-copy : tie.Need-slice_bounds-copy-end-2
 slice-aggregate-copy c =
-    let S = c.before.before.before in
+    let S = c in
     let key = S.args.key.now in
     sym (length-take-le (length key) S.args.part.now (omega arith))
 
 copy-requires : tie.Need-copy-requires
 copy-requires c κs =
-    let S = c.before.before.before in
+    let S = c in
     let key = S.args.key.now in
     length-take-le (length key) S.args.part.now (omega arith)
 
 at-requires : tie.Need-at-requires
 at-requires c κs = search rules
 
-cast-write-u32 : tie.Need-overflow-cast-write-u32
+cast-write-u32 : tie.Need-overflow_cast-at
 cast-write-u32 c = search rules
 
-write-u32-requires : tie.Need-write-u32-requires
+write-u32-requires : tie.Need-write_u32-requires
 write-u32-requires c κs =
-    let C = c.before.before.before.before in
-    let S = C.before.before.before.before in
+    let C = c in
+    let S = c in
     let e = ap length C.copy.ensures in
     simp (length-append, length-drop) (omega arith)
 
-same_length : tie.Need-same-length
+same_length : tie.Need-shape_of-part
 same_length c = search rules
 
 returns : tie.Need-returns
 returns c =
-    let C = c.before.before.before.before.before.before.before in
-    let S = C.before.before.before.before in
+    let C = c in
+    let S = c in
     let key = S.args.key.now in
     let rest = drop (length key) S.args.part.now in
-    c.before.before.write-u32.ensures
+    c.write_u32.ensures
     ∙ ap₂ (λ (b : Bytes) (n : ℕ). set_field (b ++ rest) (length key) n)
-    C.copy.ensures c.before.before.before.at.ensures
+    C.copy.ensures c.at.ensures
     ∙ entry-written key rest S.args.offset.0 (simp length-drop (omega arith))
 
-pub write-entry-spec : {M : Type 1} → statement M
-write-entry-spec =
+pub write_entry_spec : {M : Type 1} → statement M
+write_entry_spec =
     tie.close
     (tie.spec
     slice-relend-prefix-copy

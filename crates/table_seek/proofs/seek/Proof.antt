@@ -14,95 +14,95 @@ use Rattle.table_seek.specs.Seeks.{SoughtIs}
 use Rattle.table_seek.proofs.seek.Statement.{statement}
 use Rattle.table_seek.proofs.seek.Tie as tie
 
-abbrev start-at-else1 : tie.Else1 → tie.Start
+abbrev start-at-else1 : tie.Else-number-ne0 → tie.Start
 start-at-else1 c = c.before.before.before.before
 
 -- ---- what is known behind each question
-opened : (c : tie.Else1) → open_number (start-at-else1 c).args.image.now ≡ 0
-opened c = sym c.before.open-number.ensures ∙ c.if1.false
+opened : (c : tie.Else-number-ne0) → open_number (start-at-else1 c).args.image.now ≡ 0
+opened c = sym c.open_number-number.ensures ∙ c.if-number-ne0.false
 
-abbrev start-at-else2 : tie.Else2 → tie.Start
+abbrev start-at-else2 : tie.Else-not-name_allowed → tie.Start
 start-at-else2 c = c.before.before.before.before.before.before.before
 
-named : (c : tie.Else2)
+named : (c : tie.Else-not-name_allowed)
     → name_allowed (layout_of (start-at-else2 c).args.image.now).K (start-at-else2 c).args.key.now ≡ true
 named c =
-    let R = c.before.before.read-shape in
+    let R = c.read_shape-shape in
     named-yes (start-at-else2 c).args.image.now (start-at-else2 c).args.key.now R.result R.ensures
-    c.before.name-allowed.ensures c.if2.false
+    c.name_allowed.ensures c.if-not-name_allowed.false
 
 -- ---- the needs
-open-number-requires : tie.Need-open-number-requires
+open-number-requires : tie.Need-open_number-number-requires
 open-number-requires c κs = search rules
 
-abbrev start-at-then1 : tie.Then1 → tie.Start
+abbrev start-at-then1 : tie.Then-number-ne0 → tie.Start
 start-at-then1 c = c.before.before.before.before
 
-returns : tie.Need-returns
+returns : tie.Need-returns-then-number-ne0
 unfolding SoughtIs
 returns c =
     let A = (start-at-then1 c).args in
-    let e = c.before.open-number.ensures in
-    let n = c.if1.true in
+    let e = c.open_number-number.ensures in
+    let n = c.if-number-ne0.true in
     (e ∙ sym (seek-closed A.image.now A.key.now A.known (λ z. n (e ∙ z))), n)
 
-read-shape-requires : tie.Need-read-shape-requires
+read-shape-requires : tie.Need-read_shape-shape-requires
 read-shape-requires c κs = opened c
 
-name-allowed-requires : tie.Need-name-allowed-requires
+name-allowed-requires : tie.Need-name_allowed-requires
 name-allowed-requires c κs = search rules
 
-abbrev start-at-then2 : tie.Then2 → tie.Start
+abbrev start-at-then2 : tie.Then-not-name_allowed → tie.Start
 start-at-then2 c = c.before.before.before.before.before.before.before
 
-returns-2 : tie.Need-returns-2
+returns-2 : tie.Need-returns-then-not-name_allowed
 unfolding SoughtIs
 returns-2 c =
     let A = (start-at-then2 c).args in
-    let R = c.before.before.read-shape in
+    let R = c.read_shape-shape in
     let no' =
-    named-no A.image.now A.key.now R.result R.ensures c.before.name-allowed.ensures
-    c.if2.true in
+    named-no A.image.now A.key.now R.result R.ensures c.name_allowed.ensures
+    c.if-not-name_allowed.true in
     (sym (seek-7 A.image.now A.key.now A.known (opened c.before.before.before) no'), λ z. omega arith)
 
-abbrev shared-slice-known-at-then3 : tie.Then3 → tie.After-shared-slice-known
+abbrev shared-slice-known-at-then3 : tie.Then-not-known → tie.After-shared_slice_known-1
 shared-slice-known-at-then3 c = c.before.before.before.before.before.before.before
 
-abbrev start-at-then3 : tie.Then3 → tie.Start
-start-at-then3 c = (shared-slice-known-at-then3 c).before
+abbrev start-at-then3 : tie.Then-not-known → tie.Start
+start-at-then3 c = c.before.before.before.before.before.before.before.before
 
-abbrev else1-at-then3 : tie.Then3 → tie.Else1
+abbrev else1-at-then3 : tie.Then-not-known → tie.Else-number-ne0
 else1-at-then3 c = c.before.before.before.before
 
-returns-3 : tie.Need-returns-3
+returns-3 : tie.Need-returns-then-not-known
 unfolding SoughtIs
 returns-3 c =
     let A = (start-at-then3 c).args in (
       sym (seek-8 A.image.now A.key.now A.known (opened (else1-at-then3 c)) (named c.before)
-          (not-true A.known c.if3.true)),
+          (not-true A.known c.if-not-known.true)),
       λ z. omega arith,
     )
 
-abbrev else1-at-else3 : tie.Else3 → tie.Else1
+abbrev else1-at-else3 : tie.Else-not-known → tie.Else-number-ne0
 else1-at-else3 c = c.before.before.before.before
 
-search-requires : tie.Need-search-requires
+search-requires : tie.Need-search-probed-requires
 search-requires c κs =
-    record { accepted = opened (else1-at-else3 c); shape = c.before.before.before.read-shape.ensures }
+    record { accepted = opened (else1-at-else3 c); shape = c.read_shape-shape.ensures }
 
-abbrev shared-slice-known2-at-search : tie.After-search → tie.After-shared-slice-known2
+abbrev shared-slice-known2-at-search : tie.After-search-probed → tie.After-shared_slice_known-2-1
 shared-slice-known2-at-search c = c.before.before.before.before.before.before.before
 
-abbrev start-at-search : tie.After-search → tie.Start
-start-at-search c = (shared-slice-known2-at-search c).before.before
+abbrev start-at-search : tie.After-search-probed → tie.Start
+start-at-search c = c.before.before.before.before.before.before.before.before.before
 
-abbrev else1-at-search : tie.After-search → tie.Else1
+abbrev else1-at-search : tie.After-search-probed → tie.Else-number-ne0
 else1-at-search c = c.before.before.before.before.before
 
-abbrev read-shape-at-search : tie.After-search → tie.After-read-shape
+abbrev read-shape-at-search : tie.After-search-probed → tie.After-read_shape-shape
 read-shape-at-search c = c.before.before.before.before
 
-returns-4 : tie.Need-returns-4
+returns-4 : tie.Need-returns
 unfolding SoughtIs
 returns-4 c =
     let A = (start-at-search c).args in
@@ -110,18 +110,18 @@ returns-4 c =
     record {
       asked =
           seek-0 A.image.now A.key.now A.known o (named c.before.before)
-          (not-false A.known c.before.if3.false);
-      opened = record { accepted = o; shape = (read-shape-at-search c).read-shape.ensures };
-      ended = c.search.ensures.0;
+          (not-false A.known c.if-not-known.false);
+      opened = record { accepted = o; shape = (read-shape-at-search c).read_shape-shape.ensures };
+      ended = c.search-probed.ensures.0;
       within =
-          subst (Within _) (sym c.search.ensures.0)
+          subst (Within _) (sym c.search-probed.ensures.0)
           (search-within A.image.now A.key.now _
-          (record { accepted = o; shape = (read-shape-at-search c).read-shape.ensures }));
-      counted = c.search.ensures.1;
+          (record { accepted = o; shape = (read-shape-at-search c).read_shape-shape.ensures }));
+      counted = c.search-probed.ensures.1;
     }
 
-pub seek-spec : {M : Type 1} → statement M
-seek-spec =
+pub seek_spec : {M : Type 1} → statement M
+seek_spec =
     tie.close
     (tie.spec
     open-number-requires

@@ -5,13 +5,17 @@ use Rattle.bytes_compare.proofs.Little.{little-four}
 use Rattle.bytes_compare.proofs.blocks.four.Statement.{statement}
 use Rattle.bytes_compare.proofs.blocks.four.Tie as tie
 
-read-little-requires : tie.Need-read-little-requires
+read-little-requires : tie.Need-read_little-requires
 read-little-requires c κs = search rules
 
 returns : tie.Need-returns
 returns c =
-    let S = c.before.before in
-    c.read-little.ensures ∙ little-four S.args.s.now S.args.at S.requires
+    let S = c in
+    c.read_little.ensures ∙ little-four S.args.s.now S.args.at S.requires
 
-pub four-spec : {M : Type 1} → statement M
-four-spec = tie.close (tie.spec read-little-requires returns)
+pub four_spec : {M : Type 1} → statement M
+four_spec =
+    tie.close
+    (tie.spec
+    read-little-requires
+    returns)

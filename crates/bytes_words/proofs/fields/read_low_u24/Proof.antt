@@ -8,16 +8,16 @@ use Rattle.bytes_words.proofs.Numbers.{part-four, part-three, number-four, numbe
 use Rattle.bytes_words.proofs.fields.read_low_u24.Statement.{statement}
 use Rattle.bytes_words.proofs.fields.read_low_u24.Tie as tie
 
-read-u32-requires : tie.Need-read-u32-requires
+read-u32-requires : tie.Need-read_u32-requires
 read-u32-requires c κs = search rules
 
 returns : tie.Need-returns
 unfolding field
 returns c =
-    let S = c.before.before in
+    let S = c in
     let s = S.args.s.now in
     let at = S.args.at in
-    let b = c.before.shared-slice-known.given in
+    let b = c.shared_slice_known-1.given in
     let e₂ : at + 1 + 1 ≡ at + 2 = omega arith in
     let e₃ : at + 1 + 2 ≡ at + 3 = omega arith in
     and_mask c.read_u32.result 24
@@ -26,5 +26,9 @@ returns c =
     (omega (arith, b (at + 1))) (omega (arith, b (at + 2))) (omega (arith, b (at + 3)))
     ∙ sym (ap number (rw (← e₂, ← e₃) (part-three s (at + 1) (omega arith))) ∙ number-three _ _ _)
 
-pub read-low-u24-spec : {M : Type 1} → statement M
-read-low-u24-spec = tie.close (tie.spec read-u32-requires returns)
+pub read_low_u24_spec : {M : Type 1} → statement M
+read_low_u24_spec =
+    tie.close
+    (tie.spec
+    read-u32-requires
+    returns)

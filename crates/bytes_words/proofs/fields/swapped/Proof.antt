@@ -13,5 +13,8 @@ returns c =
     (mask_lt x 8) (mask_lt (x / 256) 8) (mask_lt (x / 65536) 8) (omega arith)
     ∙ rw (and_mask x 8, and_mask (x / 256) 8, and_mask (x / 65536) 8)
 
-pub swapped-spec : {M : Type 1} → statement M
-swapped-spec = tie.close (tie.spec returns)
+pub swapped_spec : {M : Type 1} → statement M
+swapped_spec =
+    tie.close
+    (tie.spec
+    returns)

@@ -10,21 +10,27 @@ use Rattle.bytes_words.proofs.fields.write_u32.Tie as tie
 swapped-requires : tie.Need-swapped-requires
 swapped-requires c κs = search rules
 
-write-little-requires : tie.Need-write-little-requires
+write-little-requires : tie.Need-write_little-requires
 write-little-requires c κs = search rules
 
-same_length : tie.Need-same-length
+same_length : tie.Need-shape_of-s
 same_length c = search rules
 
 returns : tie.Need-returns
 unfolding set_field
 returns c =
-    let W = c.before.before in
-    let O = W.before in
-    let S = O.before.before.before in
+    let W = c in
+    let O = c in
+    let S = c in
     let A = S.args in
-    W.write-little.ensures
+    W.write_little.ensures
     ∙ ap (store A.s.now A.at) (digits-swapped A.v O.swapped.result (omega arith) O.swapped.ensures)
 
-pub write-u32-spec : {M : Type 1} → statement M
-write-u32-spec = tie.close (tie.spec swapped-requires write-little-requires same_length returns)
+pub write_u32_spec : {M : Type 1} → statement M
+write_u32_spec =
+    tie.close
+    (tie.spec
+    swapped-requires
+    write-little-requires
+    same_length
+    returns)

@@ -4,13 +4,17 @@ use Rattle.spec_file.specs.Create.{slots_asked}
 use Rattle.call_create.proofs.asked.slots_asked.Statement.{statement}
 use Rattle.call_create.proofs.asked.slots_asked.Tie as tie
 
-returns : tie.Need-returns
+returns : tie.Need-returns-then-slots-eq0
 unfolding slots_asked
-returns c = rw (eq-eqb c.before.args.slots 0 c.if1.true)
+returns c = rw (eq-eqb c.args.slots 0 c.if-slots-eq0.true)
 
-returns-2 : tie.Need-returns-2
+returns-2 : tie.Need-returns-else-slots-eq0
 unfolding slots_asked
-returns-2 c = rw (ne_eqb c.before.args.slots 0 c.if1.false)
+returns-2 c = rw (ne_eqb c.args.slots 0 c.if-slots-eq0.false)
 
-pub slots-asked-spec : {M : Type 1} → statement M
-slots-asked-spec = tie.close (tie.spec returns returns-2)
+pub slots_asked_spec : {M : Type 1} → statement M
+slots_asked_spec =
+    tie.close
+    (tie.spec
+    returns
+    returns-2)

@@ -15,128 +15,128 @@ use Rattle.changes_calls.proofs.packed.compact_listed.Statement.{statement}
 use Rattle.changes_calls.proofs.packed.compact_listed.Tie as tie
 
 -- the function's start, from where 16 has been asked
-abbrev start : tie.After-slices-allowed → tie.Start
+abbrev start : tie.After-slices_allowed → tie.Start
 start A = A.before.before.before.before
 
 -- 16 is answered no
-fits : (E : tie.Else1)
+fits : (E : tie.Else-not-slices_allowed)
     → let S : tie.Start = start E.before in
     (list_allowed (length S.args.list.now)
     && work_allowed (length S.args.image.now) (length S.args.work.now))
     ≡ true
-fits E = was-yes E.before.slices-allowed.ensures E.if1.false
+fits E = was-yes E.slices_allowed.ensures E.if-not-slices_allowed.false
 
-roomy : (E : tie.Else1)
+roomy : (E : tie.Else-not-slices_allowed)
     → let S : tie.Start = start E.before in
     length S.args.image.now ≤ length S.args.work.now
 roomy E = let S = start E.before in allowed-work _ _ (length S.args.list.now) (fits E)
 
-slices-allowed-requires : tie.Need-slices-allowed-requires
+slices-allowed-requires : tie.Need-slices_allowed-requires
 slices-allowed-requires c κs = search rules
 
-returns : tie.Need-returns
+returns : tie.Need-returns-then-not-slices_allowed
 returns c =
     let A = c.before in
     let S = start A in
     lists-16 compact S.args.image.now (length S.args.work.now) S.args.list.now
-    (was-no A.slices-allowed.ensures c.if1.true)
+    (was-no A.slices_allowed.ensures c.if-not-slices_allowed.true)
 
-put-part-requires : tie.Need-put-part-requires
+put-part-requires : tie.Need-put_part-requires
 put-part-requires c κs = (omega arith, omega arith, omega (arith, roomy c.before.before))
 
-compact-requires : tie.Need-compact-requires
+compact-requires : tie.Need-compact-number-requires
 compact-requires c κs = search rules
 
-same_length : tie.Need-same-length
+same_length : tie.Need-shape_of-image-then-number-ne0
 same_length c = search rules
 
-same-length-2 : tie.Need-same-length-2
+same-length-2 : tie.Need-shape_of-work-then-number-ne0
 same-length-2 c = search rules
 
 -- from the call's return back to where 16 was answered no
-abbrev asked : tie.After-compact → tie.Else1
-asked D = D.before.before.before.before.before.before.before
+abbrev asked : tie.After-compact-number → tie.Else-not-slices_allowed
+asked D = D.before.before.before.before.before.before
 
-abbrev kept : tie.After-compact → tie.After-put-part
+abbrev kept : tie.After-compact-number → tie.After-put_part
 kept D = D.before.before.before.before
 
 -- the working slice begins with the image as it was
-held : (D : tie.After-compact)
+held : (D : tie.After-compact-number)
     → let img : Bytes = (start (asked D).before).args.image.now in
-    take (length img - 0) (drop 0 (kept D).put-part.new.0) ≡ img
+    take (length img - 0) (drop 0 (kept D).put_part.new.0) ≡ img
 held D =
     let S = start (asked D).before in
-    work-holds S.args.work.now S.args.image.now (kept D).put-part.new.0 (roomy (asked D))
-    (kept D).put-part.ensures.0
+    work-holds S.args.work.now S.args.image.now (kept D).put_part.new.0 (roomy (asked D))
+    (kept D).put_part.ensures.0
 
-returns-2 : tie.Need-returns-2
+returns-2 : tie.Need-returns-then-number-ne0
 returns-2 c =
     let D = c.before.before.before in
     let S = start (asked D).before in
     lists-refused compact S.args.image.now (length S.args.work.now) S.args.list.now (fits (asked D))
-    D.compact.result D.compact.new.0 D.compact.ensures.0 c.if2.true
-    (D.compact.ensures.1
+    D.compact-number.result D.compact-number.new.0 D.compact-number.ensures.0 c.if-number-ne0.true
+    (D.compact-number.ensures.1
     ∙ compact-leaves S.args.image.now
-    (λ h. c.if2.true (D.compact.ensures.0 ∙ h)))
+    (λ h. c.if-number-ne0.true (D.compact-number.ensures.0 ∙ h)))
 
-sub-fill-list : tie.Need-overflow-sub-fill-list
+sub-fill-list : tie.Need-slice_bounds-fill_list-count
 sub-fill-list c = search rules
 
-part-fill-list-start : tie.Need-slice-bounds-fill-list-start
+part-fill-list-start : tie.Need-slice_bounds-fill_list-start
 part-fill-list-start c = search rules
 
-part-fill-list-end : tie.Need-slice-bounds-fill-list-end
+part-fill-list-end : tie.Need-slice_bounds-fill_list-end
 part-fill-list-end c =
-    let D = c.before.before.before.before.before in
-    omega (arith, roomy (asked D), (kept D).put-part.auto.0)
+    let D = c.before.before.before.before in
+    omega (arith, roomy (asked D), (kept D).put_part.auto.0)
 
 -- where the call was accepted
-abbrev done : tie.Else2 → tie.After-compact
+abbrev done : tie.Else-number-ne0 → tie.After-compact-number
 done E = E.before.before.before
 
-fill-list-requires : tie.Need-fill-list-requires
+fill-list-requires : tie.Need-fill_list-requires
 fill-list-requires c κs =
-    let E = c.before.before.before.before in
+    let E = c.before.before in
     let D = done E in
     let S = start (asked D).before in
-    let is : length (take (length S.args.image.now - 0) (drop 0 (kept D).put-part.last.0))
+    let is : length (take (length S.args.image.now - 0) (drop 0 (kept D).put_part.last.0))
     ≡ length S.args.image.now =
     ap (λ (t : Bytes). length t) (held D) in (
-      is ∙ sym D.compact.kept.0,
+      is ∙ sym D.compact-number.kept.0,
       omega (
         arith,
         is,
         compact-small S.args.image.now
-            (sym D.compact.ensures.0 ∙ E.if2.false),
+            (sym D.compact-number.ensures.0 ∙ E.if-number-ne0.false),
       ),
       allowed-list _ _ (length S.args.list.now) (fits (asked D)),
     )
 
-same-length-3 : tie.Need-same-length-3
+same-length-3 : tie.Need-shape_of-image
 same-length-3 c = search rules
 
-same-length-4 : tie.Need-same-length-4
+same-length-4 : tie.Need-shape_of-work
 same-length-4 c = search rules
 
-same-length-5 : tie.Need-same-length-5
+same-length-5 : tie.Need-shape_of-list
 same-length-5 c = search rules
 
-returns-3 : tie.Need-returns-3
+returns-3 : tie.Need-returns
 returns-3 c =
-    let F = c.before.before in
-    let E = F.before.before.before.before.before in
+    let F = c in
+    let E = c.before.before.before.before.before in
     let D = done E in
     let S = start (asked D).before in
     let list = S.args.list.now in
-    let new = D.compact.last.0 in
+    let new = D.compact-number.last.0 in
     lists-done compact S.args.image.now (length S.args.work.now) list (fits (asked D))
-    new F.fill-list.new.0 F.fill-list.result (sym D.compact.ensures.0 ∙ E.if2.false)
-    D.compact.ensures.1 (sym D.compact.kept.0)
-    (F.fill-list.ensures.0 ∙ ap (λ (t : Bytes). length (changes_in (length list) t new)) (held D))
-    (F.fill-list.ensures.1 ∙ ap (λ (t : Bytes). store list 0 (pair_bytes (changes_in (length list) t new))) (held D))
+    new F.fill_list.new.0 F.fill_list.result (sym D.compact-number.ensures.0 ∙ E.if-number-ne0.false)
+    D.compact-number.ensures.1 (sym D.compact-number.kept.0)
+    (F.fill_list.ensures.0 ∙ ap (λ (t : Bytes). length (changes_in (length list) t new)) (held D))
+    (F.fill_list.ensures.1 ∙ ap (λ (t : Bytes). store list 0 (pair_bytes (changes_in (length list) t new))) (held D))
 
-pub compact-listed-spec : {M : Type 1} → statement M
-compact-listed-spec =
+pub compact_listed_spec : {M : Type 1} → statement M
+compact_listed_spec =
     tie.close
     (tie.spec
     slices-allowed-requires

@@ -3,11 +3,15 @@ use Rattle.std.proofs.Common.{le-ltb, lt-ltb}
 use Rattle.check_sweep.proofs.window.carried_on.Statement.{statement}
 use Rattle.check_sweep.proofs.window.carried_on.Tie as tie
 
-returns : tie.Need-returns
-returns c = rw (lt-ltb c.before.args.hi c.before.args.end c.if1.true)
+returns : tie.Need-returns-then-hi-end
+returns c = rw (lt-ltb c.args.hi c.args.end c.if-hi-end.true)
 
-returns-2 : tie.Need-returns-2
-returns-2 c = rw (le-ltb c.before.args.hi c.before.args.end c.if1.false)
+returns-2 : tie.Need-returns-else-hi-end
+returns-2 c = rw (le-ltb c.args.hi c.args.end c.if-hi-end.false)
 
-pub carried-on-spec : {M : Type 1} → statement M
-carried-on-spec = tie.close (tie.spec returns returns-2)
+pub carried_on_spec : {M : Type 1} → statement M
+carried_on_spec =
+    tie.close
+    (tie.spec
+    returns
+    returns-2)

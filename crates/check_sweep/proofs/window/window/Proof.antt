@@ -9,15 +9,21 @@ clear-requires c κs = search rules
 
 pass-requires : tie.Need-pass-requires
 pass-requires c κs =
-    let Z = c.before.before.before in
-    let S = Z.before.before.before.before in
+    let Z = c in
+    let S = c in
     (S.requires.0, omega (arith, S.requires.1, Z.clear.auto.0), marked-zeros _ _ Z.clear.ensures)
 
-same_length : tie.Need-same-length
+same_length : tie.Need-shape_of-map
 same_length c = search rules
 
 returns : tie.Need-returns
 returns c = search rules
 
-pub window-spec : {M : Type 1} → statement M
-window-spec = tie.close (tie.spec clear-requires pass-requires same_length returns)
+pub window_spec : {M : Type 1} → statement M
+window_spec =
+    tie.close
+    (tie.spec
+    clear-requires
+    pass-requires
+    same_length
+    returns)

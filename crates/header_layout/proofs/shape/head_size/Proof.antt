@@ -8,22 +8,28 @@ use Rattle.header_layout.proofs.Shaped.{head-major}
 use Rattle.header_layout.proofs.shape.head_size.Statement.{statement}
 use Rattle.header_layout.proofs.shape.head_size.Tie as tie
 
-sub-result : tie.Need-overflow-sub-result
+sub-result : tie.Need-overflow_sub-result
 sub-result c = search rules
 
-shared-slice-read-result : tie.Need-shared-slice-read-result
-shared-slice-read-result c = omega (arith, (opened-facts c.before.args.image.now c.before.requires).size_low)
+shared-slice-read-result : tie.Need-bounds-image-5
+shared-slice-read-result c = omega (arith, (opened-facts c.args.image.now c.requires).size_low)
 
-cast-result : tie.Need-overflow-cast-result
-cast-result c = omega (arith, c.shared-slice-known.given 5)
+cast-result : tie.Need-overflow_cast-result
+cast-result c = omega (arith, c.shared_slice_known-1.given 5)
 
-add-result : tie.Need-overflow-add-result
-add-result c = omega (arith, c.shared-slice-known.given 5)
+add-result : tie.Need-overflow_add-result
+add-result c = omega (arith, c.shared_slice_known-1.given 5)
 
 returns : tie.Need-returns
 unfolding major_of
-returns c = sym (head-major c.before.args.image.now c.before.requires)
+returns c = sym (head-major c.args.image.now c.requires)
 
-pub head-size-spec : {M : Type 1} → statement M
-head-size-spec =
-    tie.close (tie.spec sub-result shared-slice-read-result cast-result add-result returns)
+pub head_size_spec : {M : Type 1} → statement M
+head_size_spec =
+    tie.close
+    (tie.spec
+    sub-result
+    shared-slice-read-result
+    cast-result
+    add-result
+    returns)

@@ -5,13 +5,17 @@ use Rattle.header_layout.specs.Shapes.{most_by}
 use Rattle.header_layout.proofs.shape.most_length.Statement.{statement}
 use Rattle.header_layout.proofs.shape.most_length.Tie as tie
 
-returns : tie.Need-returns
+returns : tie.Need-returns-then-head-eq-WIDE_HEAD
 unfolding most_by
-returns c = sym (rw (eq-eqb _ 5 c.if1.true) refl)
+returns c = sym (rw (eq-eqb _ 5 c.if-head-eq-WIDE_HEAD.true) refl)
 
-returns-2 : tie.Need-returns-2
+returns-2 : tie.Need-returns
 unfolding most_by
-returns-2 c = sym (rw (ne_eqb _ 5 c.if1.false) refl)
+returns-2 c = sym (rw (ne_eqb _ 5 c.if-head-eq-WIDE_HEAD.false) refl)
 
-pub most-length-spec : {M : Type 1} → statement M
-most-length-spec = tie.close (tie.spec returns returns-2)
+pub most_length_spec : {M : Type 1} → statement M
+most_length_spec =
+    tie.close
+    (tie.spec
+    returns
+    returns-2)

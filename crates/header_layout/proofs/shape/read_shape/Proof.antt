@@ -40,59 +40,59 @@ shape_is img ek es em eb ef el ea eh = rw (ek, es, em, eb, ef, el, ea, eh)
 whole : (S : tie.Start) → 60 ≤ length S.args.image.now
 whole S = omega (arith, (opened-facts S.args.image.now S.requires).size_low)
 
-read-u32-requires : tie.Need-read-u32-requires
+read-u32-requires : tie.Need-read_u32-keylen-requires
 read-u32-requires c κs = omega (arith, whole c.before)
 
-cast-keylen : tie.Need-overflow-cast-keylen
+cast-keylen : tie.Need-overflow_cast-keylen
 cast-keylen c = search rules
 
-read-u32-requires-2 : tie.Need-read-u32-requires-2
+read-u32-requires-2 : tie.Need-read_u32-slots-requires
 read-u32-requires-2 c κs = omega (arith, whole c.before.before)
 
-cast-slots : tie.Need-overflow-cast-slots
+cast-slots : tie.Need-overflow_cast-slots
 cast-slots c = search rules
 
-read-u32-requires-3 : tie.Need-read-u32-requires-3
+read-u32-requires-3 : tie.Need-read_u32-multiplier-requires
 read-u32-requires-3 c κs = omega (arith, whole c.before.before.before)
 
-read-u32-requires-4 : tie.Need-read-u32-requires-4
+read-u32-requires-4 : tie.Need-read_u32-basis-requires
 read-u32-requires-4 c κs = omega (arith, whole c.before.before.before.before)
 
-read-u32-requires-5 : tie.Need-read-u32-requires-5
+read-u32-requires-5 : tie.Need-read_u32-first-requires
 read-u32-requires-5 c κs = omega (arith, whole c.before.before.before.before.before)
 
-read-u32-requires-6 : tie.Need-read-u32-requires-6
+read-u32-requires-6 : tie.Need-read_u32-last-requires
 read-u32-requires-6 c κs = omega (arith, whole c.before.before.before.before.before.before)
 
-read-u32-requires-7 : tie.Need-read-u32-requires-7
+read-u32-requires-7 : tie.Need-read_u32-requires
 read-u32-requires-7 c κs = omega (arith, whole c.before.before.before.before.before.before.before)
 
-cast-new : tie.Need-overflow-cast-new
+cast-new : tie.Need-overflow_cast-read_u32
 cast-new c = search rules
 
-new-requires : tie.Need-new-requires
+new-requires : tie.Need-new-area-requires
 new-requires c κs = search rules
 
-head-size-requires : tie.Need-head-size-requires
+head-size-requires : tie.Need-head_size-head-requires
 head-size-requires c κs =
-    let b = c.before.before.before.before in
-    b.before.before.before.before.before.requires
+    let b = c in
+    b.requires
 
 returns : tie.Need-returns
 returns c =
-    let b = c.before in
+    let b = c in
     shape_is _
-    b.before.before.before.before.before.before.before.read_u32.ensures
-    b.before.before.before.before.before.before.read-u322.ensures
-    b.before.before.before.before.before.read-u323.ensures
-    b.before.before.before.before.read-u324.ensures
-    b.before.before.before.read-u325.ensures
-    b.before.before.read-u326.ensures
-    (b.new.ensures ∙ b.before.read-u327.ensures)
-    c.head-size.ensures
+    b.read_u32-keylen.ensures
+    b.read_u32-slots.ensures
+    b.read_u32-multiplier.ensures
+    b.read_u32-basis.ensures
+    b.read_u32-first.ensures
+    b.read_u32-last.ensures
+    (b.new-area.ensures ∙ b.read_u32.ensures)
+    c.head_size-head.ensures
 
-pub read-shape-spec : {M : Type 1} → statement M
-read-shape-spec =
+pub read_shape_spec : {M : Type 1} → statement M
+read_shape_spec =
     tie.close
     (tie.spec
     read-u32-requires

@@ -24,18 +24,24 @@ small i k hi hk = omega (arith, product i k hi hk)
 small-above : (i k : ℕ) → i < most_slots → k ≤ most_key → Fits w64 (table_start + i * (k + 4))
 small-above i k hi hk = omega (arith, product i k hi hk)
 
-add-t3 : tie.Need-overflow-add-t3
+add-t3 : tie.Need-overflow_add-result
 add-t3 c = search rules
 
-mul-t4 : tie.Need-overflow-mul-t4
+mul-t4 : tie.Need-overflow_mul-result
 mul-t4 c =
-    record { fits = small c.before.args.self.0 c.before.args.keylen c.before.requires.0 c.before.requires.1 }
+    record { fits = small c.args.self.0 c.args.keylen c.requires.0 c.requires.1 }
 
-add-t5 : tie.Need-overflow-add-t5
-add-t5 c = small-above c.before.args.self.0 c.before.args.keylen c.before.requires.0 c.before.requires.1
+add-t5 : tie.Need-overflow_add-result-2
+add-t5 c = small-above c.args.self.0 c.args.keylen c.requires.0 c.requires.1
 
 returns : tie.Need-returns
 returns c = search rules
 
 pub start_spec : {M : Type 1} → statement M
-start_spec = tie.close (tie.spec add-t3 mul-t4 add-t5 returns)
+start_spec =
+    tie.close
+    (tie.spec
+    add-t3
+    mul-t4
+    add-t5
+    returns)
