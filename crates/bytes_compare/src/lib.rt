@@ -1,6 +1,8 @@
 // Runs of bytes compared, with each other or with zeros; from eight bytes on in blocks of eight, the last of which may
 // overlap the one before.
 //     blocks   four and eight bytes at once
+#![tactic(auto)]
+
 mod blocks;
 
 ghost use Rattle.std.specs.Prelude.{◌≡◌, length, ◌-◌, ◌≤◌, ◌<◌};

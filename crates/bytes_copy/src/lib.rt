@@ -1,4 +1,6 @@
 // Runs of bytes copied from one slice to another, from eight bytes on in blocks of eight, which may overlap.
+#![tactic(auto)]
+
 ghost use Rattle.std.specs.Prelude.{◌≡◌, length, ◌+◌, ◌-◌, ◌≤◌};
 ghost use Rattle.spec_file.specs.Bytes.{part, store};
 ghost use Rattle.bytes_copy.specs.Front.{Front};

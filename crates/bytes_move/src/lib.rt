@@ -1,4 +1,6 @@
 // Bytes copied from one place of a slice to another, from eight bytes on in blocks of eight, which may overlap.
+#![tactic(auto)]
+
 ghost use Rattle.std.specs.Prelude.{◌≡◌, ◌⊎◌, length, ◌+◌, ◌-◌, ◌≤◌};
 ghost use Rattle.spec_file.specs.Bytes.{part, store};
 ghost use Rattle.bytes_copy.specs.Moving.{Moving, Runs};

@@ -3,6 +3,8 @@
 //     arith     multiplication modulo 2^32, and the generator's step; the lesser of two numbers
 //     limits    the numbers that document 01 fixes
 //     answers   the numbers that calls answer, and add's modes
+#![tactic(auto)]
+
 pub mod answers;
 pub mod arith;
 pub mod fields;

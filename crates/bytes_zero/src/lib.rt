@@ -1,4 +1,6 @@
 // Runs of bytes made zero, byte by byte, or in blocks of eight, the last of which may overlap the one before.
+#![tactic(auto)]
+
 ghost use Rattle.std.specs.Prelude.{◌≡◌, length, ◌+◌, ◌≤◌, ◌<◌};
 ghost use Rattle.spec_file.specs.Bytes.{store, zeros};
 

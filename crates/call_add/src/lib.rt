@@ -1,4 +1,6 @@
 // Add, in its four modes: all questions are put before the first byte is written.
+#![tactic(auto)]
+
 ghost use Rattle.std.specs.Prelude.{◌≡◌, true, [], ◌∷◌, ◌+◌, ◌≤◌, length};
 ghost use Rattle.spec_file.specs.Calls.{settled, add, add_read};
 ghost use Rattle.spec_file.specs.Image.{layout_of};

@@ -1,4 +1,6 @@
 // A point that is absent: its entry goes to the empty slot where the search ended, its message to new space.
+#![tactic(auto)]
+
 ghost use Rattle.std.specs.Prelude.{◌≡◌, false, ◌<◌, ◌^◌, length};
 ghost use Rattle.std.proofs.Math.Option.{some};
 ghost use Rattle.spec_file.specs.Calls.{settled};

@@ -1,4 +1,6 @@
 // A point that is present: its message is replaced or made longer, in place where the bytes fit, else in new space.
+#![tactic(auto)]
+
 ghost use Rattle.std.specs.Prelude.{◌≡◌, true, ◌++◌, ◌+◌, ◌≤◌, ◌<◌, length};
 ghost use Rattle.spec_file.specs.Limits.{free_field};
 ghost use Rattle.spec_file.specs.Bytes.{part};

@@ -1,6 +1,8 @@
 // The entry of a prism at an epoch: its epoch and its message.
 //     locate_at   the epoch, and where the active message stands, as numbers
 //     at_epoch    the message as a part of the lent image
+#![tactic(auto)]
+
 ghost use Rattle.std.specs.Prelude.{◌≡◌, length};
 ghost use Rattle.spec_file.specs.Messages.{bytes_of, is_text};
 ghost use Rattle.spec_epoch.specs.Epochs.{refused_dated, at_epoch};

@@ -1,6 +1,8 @@
 // The check: whether each taken slot's key, searched, ends there, its message passes question 11, its stretch meets
 // that of no lower-numbered slot, and C is the number of taken slots. Entries up to the first that fails; stretches are
 // compared below that one only.
+#![tactic(auto)]
+
 ghost use Rattle.std.specs.Prelude.{◌≡◌};
 ghost use Rattle.spec_file.specs.Inspect.{table_verdict, check};
 ghost use Rattle.header_layout.specs.Shapes.{Open};

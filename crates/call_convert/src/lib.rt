@@ -1,4 +1,6 @@
 // The converter: a sound image carried into a second slice as the other version, compacted.
+#![tactic(auto)]
+
 ghost use Rattle.std.specs.Prelude.{◌≡◌, true, [], ◌∷◌, length};
 ghost use Rattle.spec_file.specs.Calls.{settled};
 ghost use Rattle.spec_file.specs.Questions.{ask, first_no, size_allowed};

@@ -1,6 +1,8 @@
 // Create: an empty control point file in the slice that is lent.
 //     asked   questions 1 to 4
 //     fresh   every byte of the new image
+#![tactic(auto)]
+
 pub mod asked;
 pub mod fresh;
 

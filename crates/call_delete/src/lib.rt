@@ -1,4 +1,6 @@
 // Delete: a point's message becomes inactive, C falls by 1, and the gap in the table is closed.
+#![tactic(auto)]
+
 ghost use Rattle.std.specs.Prelude.{◌≡◌, true, ◌≤◌, ◌<◌};
 ghost use Rattle.spec_file.specs.Limits.{points_field};
 ghost use Rattle.spec_file.specs.Calls.{settled, delete, delete_read};

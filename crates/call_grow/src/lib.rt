@@ -1,4 +1,6 @@
 // The start of growth: whether a sound image may grow into a second one. It writes nothing.
+#![tactic(auto)]
+
 ghost use Rattle.std.specs.Prelude.{◌≡◌};
 ghost use Rattle.spec_file.specs.Inspect.{check};
 ghost use Rattle.spec_file.specs.Questions.{open_number};

@@ -1,6 +1,8 @@
 // The entry of a prism at an epoch on a pair of images, in growth. Both are searched; at a tie the old one's is shown.
 //     locate_pair_at   the epoch, and where the active message stands and in which image, as numbers
 //     at_epoch_pair    the message as a part of that image
+#![tactic(auto)]
+
 ghost use Rattle.std.specs.Prelude.{◌≡◌, length};
 ghost use Rattle.spec_file.specs.Messages.{bytes_of, is_text};
 ghost use Rattle.spec_growth.specs.Growth.{grow_at_epoch};

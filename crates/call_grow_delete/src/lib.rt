@@ -1,4 +1,6 @@
 // Delete during growth, on a pair of images: every question is put before the first byte is written.
+#![tactic(auto)]
+
 ghost use Rattle.spec_growth.specs.Growth.{grow_delete};
 ghost use Rattle.growth_named.specs.Names.{pair_of};
 ghost use Rattle.growth_ready.specs.Ready.{Grown};

@@ -2,6 +2,8 @@
 //     count_pair    the number of points that both hold
 //     locate_pair   where a point's active message stands, and in which image, as numbers
 //     lookup_pair   the message as a part of that image
+#![tactic(auto)]
+
 ghost use Rattle.std.specs.Prelude.{◌≡◌, length};
 ghost use Rattle.spec_file.specs.Messages.{bytes_of, is_text};
 ghost use Rattle.spec_file.specs.Search.{is_met};

@@ -1,4 +1,6 @@
 // Reading records that are stored by column, on a pair of images, in growth.
+#![tactic(auto)]
+
 ghost use Rattle.std.specs.Prelude.{◌≡◌};
 ghost use Rattle.call_grow_read.specs.PairReads.{PairReads};
 

@@ -1,4 +1,6 @@
 // Select on a pair of images, in growth: the old image's slots first, then the new one's. One pass over each table.
+#![tactic(auto)]
+
 ghost use Rattle.std.specs.Prelude.{◌≡◌, ◌+◌, ◌*◌, ◌≤◌, length};
 ghost use Rattle.spec_file.specs.Bytes.{store};
 ghost use Rattle.spec_file.specs.Image.{layout_of};

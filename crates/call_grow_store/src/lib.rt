@@ -1,5 +1,7 @@
 // Storing records by column during growth, on a pair of images: every question is put before the first byte is
 // written.
+#![tactic(auto)]
+
 ghost use Rattle.spec_growth.specs.Growth.{grow_store};
 ghost use Rattle.growth_named.specs.Names.{pair_of};
 ghost use Rattle.growth_ready.specs.Ready.{Grown};

@@ -2,6 +2,8 @@
 //     count    the number of points held
 //     locate   where a point's active message stands, as numbers; locate_slots, with how many slots the search read
 //     lookup   the message as a part of the lent image
+#![tactic(auto)]
+
 ghost use Rattle.std.specs.Prelude.{◌≡◌, length};
 ghost use Rattle.spec_file.specs.Calls.{lookup, lookup_start, lookup_length, lookup_read, count};
 ghost use Rattle.spec_file.specs.Image.{layout_of};

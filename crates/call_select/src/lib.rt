@@ -1,4 +1,6 @@
 // Select: lists the taken slots whose every key byte lies in its range. One pass over the table.
+#![tactic(auto)]
+
 ghost use Rattle.std.specs.Prelude.{◌≡◌, ◌*◌, ◌≤◌, ◌<◌, length};
 ghost use Rattle.spec_file.specs.Bytes.{store};
 ghost use Rattle.spec_file.specs.Image.{layout_of};

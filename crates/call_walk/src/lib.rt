@@ -1,4 +1,6 @@
 // The key walk: the lowest taken slot at or above a number, and its key.
+#![tactic(auto)]
+
 ghost use Rattle.spec_file.specs.Questions.{open_number};
 ghost use Rattle.std.specs.Prelude.{◌≡◌, ◌<◌};
 ghost use Rattle.spec_file.specs.Image.{layout_of};

@@ -1,5 +1,7 @@
 // What a call changed, further: the image's bytes kept before it, where it may write; the new bytes of the runs, one
 // behind the other; and runs, pairs and bytes of two whole images.
+#![tactic(auto)]
+
 ghost use Rattle.std.specs.Prelude.{◌≡◌, ◌+◌, ◌-◌, ◌^◌, ◌≤◌, ◌<◌, length};
 ghost use Rattle.spec_file.specs.Bytes.{part, store};
 ghost use Rattle.spec_changes.specs.Changes.{runs, pair_bytes, changes_in, copied};

@@ -1,6 +1,8 @@
 // Add and delete in the form that also lists what they changed: the image's bytes before the call are kept in a working
 // slice where the call may write, and compared with those after it.
 //     packed    compaction in this form
+#![tactic(auto)]
+
 pub mod packed;
 
 ghost use Rattle.std.specs.Prelude.{length};

@@ -1,5 +1,7 @@
 // Where an add or a delete of an entry may write, by its slot and its message: the windows of the image to be kept and
 // compared. The header; the slots; the point's message; for add, new space.
+#![tactic(auto)]
+
 ghost use Rattle.std.specs.Prelude.{◌≡◌, true, ℕ, ◌+◌, ◌≤◌, ◌<◌, ◌^◌, length};
 ghost use Rattle.spec_file.specs.Image.{layout_of};
 ghost use Rattle.spec_file.specs.Questions.{message_sound};

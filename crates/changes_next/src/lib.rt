@@ -1,4 +1,6 @@
 // The next run of bytes in which two images differ, from a place on: equal blocks of 64 bytes are passed over at once.
+#![tactic(auto)]
+
 ghost use Rattle.std.specs.Prelude.{◌≡◌, ◌+◌, ◌≤◌, length};
 ghost use Rattle.spec_file.specs.Bytes.{part, same};
 ghost use Rattle.changes_windows.specs.Scans.{rest};

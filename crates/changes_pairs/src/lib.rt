@@ -1,6 +1,8 @@
 // What a call changed: the runs of bytes that differ between an image before it and after it, counted, and written into
 // a slice as pairs of offset and length. The image before the call stands in a working slice, at its own places, as far
 // as the windows go; outside of them the call wrote nothing.
+#![tactic(auto)]
+
 ghost use Rattle.std.specs.Prelude.{◌≡◌, ◌++◌, ◌+◌, ◌^◌, ◌≤◌, ◌<◌, length};
 ghost use Rattle.spec_file.specs.Bytes.{store, digits};
 ghost use Rattle.spec_changes.specs.Changes.{runs, pair_bytes, changes_in};

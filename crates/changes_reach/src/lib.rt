@@ -1,5 +1,7 @@
 // Where an add or a delete may write, found before the call: the windows of the image to be kept and compared. Of a
 // call that will be refused there is none to find.
+#![tactic(auto)]
+
 ghost use Rattle.std.specs.Prelude.{◌≡◌, true, ℕ, ◌<◌, length};
 ghost use Rattle.spec_file.specs.Bytes.{Bytes};
 ghost use Rattle.spec_file.specs.Calls.{add, delete};

@@ -1,4 +1,6 @@
 // Where the next run of bytes that differ begins, and where it ends: looked for in windows alone.
+#![tactic(auto)]
+
 ghost use Rattle.std.specs.Prelude.{◌≤◌, ◌<◌, length};
 ghost use Rattle.changes_windows.specs.Scans.{Differ, Passed, Changed, ToChange, RunTo};
 ghost use Rattle.changes_windows.specs.Windows.{before, Kept};

@@ -1,5 +1,7 @@
 // Windows: the few stretches of an image in which a call may have written. Only they are kept before the call and
 // compared after it. Beside them question 16, on the slices that such a call is lent.
+#![tactic(auto)]
+
 ghost use Rattle.std.specs.Prelude.{◌≡◌, ◌&&◌, ◌≤◌, ◌<◌};
 ghost use Rattle.spec_changes.specs.Changes.{list_allowed, work_allowed};
 ghost use Rattle.changes_windows.specs.Windows.{Sorted, Ahead};

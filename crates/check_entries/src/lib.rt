@@ -1,5 +1,7 @@
 // Entries of the table: whether each taken slot's key, searched, ends there, and its message passes question 11. One
 // search for each taken slot, up to the first that fails.
+#![tactic(auto)]
+
 ghost use Rattle.std.specs.Prelude.{◌≡◌, ◌<◌};
 ghost use Rattle.spec_file.specs.Image.{layout_of};
 ghost use Rattle.spec_file.specs.Search.{search};

@@ -1,4 +1,6 @@
 // Marks, 64 to a word.
+#![tactic(auto)]
+
 ghost use Rattle.std.specs.Prelude.{◌≡◌, ◌-◌, ◌*◌, ◌^◌, ◌≤◌, ◌<◌, length};
 ghost use Rattle.spec_file.specs.Bytes.{zeros};
 ghost use Rattle.check_marks.specs.Marks.{Claimed};

@@ -1,5 +1,7 @@
 // Stretches in the order of their starts, window by window: whether each starts behind the end of the one before it.
 // Then no two meet. Messages are read in the order of the file, each once.
+#![tactic(auto)]
+
 ghost use Rattle.std.specs.Prelude.{◌≡◌, true, ◌^◌, ◌≤◌, ◌<◌, length};
 ghost use Rattle.spec_file.specs.Limits.{free_field};
 ghost use Rattle.spec_file.specs.Image.{field, layout_of};

@@ -1,6 +1,8 @@
 // The lowest slot whose stretch meets that of a lower-numbered one: the sweep of crate check_sweep, with its map on the
 // stack. In a large data area it is first seen whether all stretches lie one behind the other, with the same words as
 // room: mostly they do, and then there is none.
+#![tactic(auto)]
+
 ghost use Rattle.std.specs.Prelude.{◌≡◌, true, ◌^◌, ◌<◌, length};
 ghost use Rattle.spec_file.specs.Image.{layout_of};
 ghost use Rattle.message_stretch.specs.Checked.{Checked};

@@ -1,6 +1,8 @@
 // Two points on one message: the lowest slot whose stretch meets that of a lower-numbered one. The data area is swept
 // window by window, each as wide as a map of marks that the caller lends. The image is only read.
 //     window     the slots, in rising order, in one window
+#![tactic(auto)]
+
 pub mod window;
 
 ghost use Rattle.std.specs.Prelude.{◌≡◌, ◌^◌, ◌<◌, length};

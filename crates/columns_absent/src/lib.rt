@@ -1,5 +1,7 @@
 // Records stored by column under a name that is absent: its entry goes to the empty slot where the search ended, the
 // columns to new space.
+#![tactic(auto)]
+
 ghost use Rattle.std.specs.Prelude.{◌≡◌, true, false, ◌+◌, ◌<◌, length};
 ghost use Rattle.std.proofs.Math.Option.{some};
 ghost use Rattle.spec_file.specs.Calls.{settled};

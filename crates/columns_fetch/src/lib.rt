@@ -1,4 +1,6 @@
 // Reading records that are stored by column: the call, on any image bytes.
+#![tactic(auto)]
+
 ghost use Rattle.std.specs.Prelude.{◌≡◌};
 ghost use Rattle.spec_records.specs.Records.{Reads};
 ghost use Rattle.columns_fetch.specs.Fills.{Fills};

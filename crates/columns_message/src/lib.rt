@@ -1,5 +1,7 @@
 // The columns of records as a message, written straight into the image: in place, or in new space at X. What
 // crates/message_write does with bytes that are handed to it.
+#![tactic(auto)]
+
 ghost use Rattle.std.specs.Prelude.{◌≡◌, true, ◌+◌, ◌-◌, ◌≤◌, ◌<◌, length};
 ghost use Rattle.spec_file.specs.Image.{layout_of};
 ghost use Rattle.spec_file.specs.Messages.{held, message, take_space, overwrite};

@@ -1,4 +1,6 @@
 // Records stored by column under a name that is present: in place of its message where they fit, else in new space.
+#![tactic(auto)]
+
 ghost use Rattle.std.specs.Prelude.{◌≡◌, true, ◌+◌, ◌<◌, length};
 ghost use Rattle.spec_file.specs.Calls.{settled};
 ghost use Rattle.spec_file.specs.Image.{layout_of};

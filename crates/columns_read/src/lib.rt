@@ -1,6 +1,8 @@
 // The records read from what is stored of them, by blocks of records, column by column within a block: over all records
 // at once, the columns that one record's bytes come from lie too far apart for the cache. A turn moves four bytes of
 // one record to adjacent places.
+#![tactic(auto)]
+
 ghost use Rattle.std.specs.Prelude.{true, ◌≡◌, length, get_or, set, ◌+◌, ◌*◌, ◌≤◌, ◌<◌};
 ghost use Rattle.spec_columns.specs.Columns.{whole_columns, records};
 ghost use Rattle.spec_columns.specs.Places.{Sized, BlockNext, BlockTo};

@@ -1,5 +1,7 @@
 // Storing records by column: the call, on any image bytes. It does what add does in mode 2, with the columns as the
 // text, which is written straight into the image.
+#![tactic(auto)]
+
 ghost use Rattle.std.specs.Prelude.{◌≡◌, true, length};
 ghost use Rattle.spec_file.specs.Calls.{settled};
 ghost use Rattle.spec_file.specs.Image.{layout_of};

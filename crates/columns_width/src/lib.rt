@@ -1,4 +1,6 @@
 // The width of records that are stored by column, the test of whole records, and where a block of them ends.
+#![tactic(auto)]
+
 ghost use Rattle.std.specs.Prelude.{◌≡◌, ◌≤◌, ◌<◌};
 ghost use Rattle.spec_columns.specs.Columns.{width_of, whole_records, whole_columns};
 

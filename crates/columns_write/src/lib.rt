@@ -1,6 +1,8 @@
 // The bytes that are stored of records of W bytes, written by blocks of records, column by column within a block: over
 // all records at once, the bytes of one column of wide records lie too far apart for the cache. A turn moves bytes of
 // four records to adjacent places.
+#![tactic(auto)]
+
 ghost use Rattle.std.specs.Prelude.{true, ◌≡◌, length, get_or, set, ◌+◌, ◌*◌, ◌<◌};
 ghost use Rattle.spec_columns.specs.Columns.{whole_records, columns};
 ghost use Rattle.spec_columns.specs.Places.{Sized, BlockNext, BlockTo, RunTo};

@@ -1,4 +1,6 @@
 // The offsets of inactive messages set to 0, and what the active ones take summed up.
+#![tactic(auto)]
+
 ghost use Rattle.std.specs.Prelude.{◌≡◌, true, cond, ◌+◌, ◌<◌, ◌≤◌, ◌^◌, length};
 ghost use Rattle.spec_file.specs.Image.{layout_of};
 ghost use Rattle.spec_file.specs.Inspect.{taken};

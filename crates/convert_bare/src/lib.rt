@@ -1,5 +1,7 @@
 // The converter's target without its messages: the source's header in the other version, its scramble, and its keys in
 // their slots, without offsets.
+#![tactic(auto)]
+
 ghost use Rattle.std.specs.Prelude.{◌≡◌, ◌+◌, ◌≤◌, ◌<◌, ◌^◌, length};
 ghost use Rattle.spec_file.specs.Bytes.{part, store};
 ghost use Rattle.spec_file.specs.Limits.{version_field, header_size, scramble_start, table_start};

@@ -1,4 +1,6 @@
 // A message of one image carried into new space of another, whose headers have another size.
+#![tactic(auto)]
+
 ghost use Rattle.std.specs.Prelude.{◌≡◌, ◌<◌, length};
 ghost use Rattle.spec_file.specs.Image.{layout_of};
 ghost use Rattle.spec_conversion.specs.Convert.{carried};

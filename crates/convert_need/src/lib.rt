@@ -1,5 +1,7 @@
 // What the converter's target needs for the active messages, and whether its headers can tell every length: one pass
 // over the slots.
+#![tactic(auto)]
+
 ghost use Rattle.std.specs.Prelude.{◌≡◌};
 ghost use Rattle.spec_file.specs.Image.{layout_of};
 ghost use Rattle.spec_file.specs.Messages.{head_size};

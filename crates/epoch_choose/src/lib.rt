@@ -1,6 +1,8 @@
 // The entry of a prism with the largest epoch at most t, the lowest slot if two: one pass over the table, in which the
 // largest epoch so far and its slot are kept. Nearly all slots are another prism's, and four bytes of a key tell that.
 //     choose   its slot and its epoch
+#![tactic(auto)]
+
 ghost use Rattle.std.specs.Prelude.{◌≡◌, ◌≤◌, length, take};
 ghost use Rattle.spec_file.specs.Bytes.{same};
 ghost use Rattle.spec_file.specs.Image.{layout_of};

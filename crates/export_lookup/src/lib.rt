@@ -1,5 +1,7 @@
 // Lookup, count and the entry at an epoch as the exports tell them: the answer is the number, and places and lengths go
 // to numbers of 32 bits that are lent.
+#![tactic(auto)]
+
 ghost use Rattle.export_lookup.specs.Looks.{Looks, Counts, ShowsAt};
 
 use call_at_epoch::locate_at;

@@ -1,5 +1,7 @@
 // Lookup, count and the entry at an epoch in growth as the exports tell them: the answer is the number, and which image
 // has the text, places and lengths go to numbers of 32 bits that are lent.
+#![tactic(auto)]
+
 ghost use Rattle.std.specs.Prelude.{◌≡◌, cond, ◌&&◌};
 ghost use Rattle.export_pair.specs.PairLooks.{PairLooks, PairCounts, PairShowsAt};
 

@@ -1,5 +1,7 @@
 // Reading records by column as the exports tell it, of one image and of a pair: the answer is the number, and how many
 // bytes were filled goes to a number of 32 bits that is lent.
+#![tactic(auto)]
+
 ghost use Rattle.export_records.specs.ReadsColumns.{ReadsColumns, PairReadsColumns};
 
 // Fills the slice with the records that are stored under the key; `bytes` is how many bytes it filled, 0 when refused.

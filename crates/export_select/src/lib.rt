@@ -1,4 +1,6 @@
 // Select as the exports tell it, of one image and of a pair: the call's answer, and that the images stay.
+#![tactic(auto)]
+
 ghost use Rattle.export_select.specs.Selects.{Selects, PairSelects};
 
 // Lists the taken slots whose every key byte lies in its range, as numbers of 4 bytes; `found` is how many they are.

@@ -1,5 +1,7 @@
 // Add, delete and lookup in the form that tells how many slots the search read, as the exports tell them: the answer is
 // the number, and the others go to numbers of 32 bits that are lent.
+#![tactic(auto)]
+
 ghost use Rattle.export_slots.specs.Slots.{AddSlots, DeleteSlots, LookupSlots};
 
 use call_lookup::locate_slots;

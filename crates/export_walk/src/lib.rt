@@ -1,5 +1,7 @@
 // The walk and the check as the exports tell them: the answer is the number, and slots, places and verdicts go to
 // numbers of 32 bits that are lent.
+#![tactic(auto)]
+
 ghost use Rattle.export_walk.specs.Walks.{Walks, Judges};
 
 use bytes_words::fields::read_u32;

@@ -1,6 +1,8 @@
 // The call's own questions 14 and 9 to 13 on the new image, with the points and the space of both images. Nothing is
 // written. The old image's space is reckoned, by a pass over its table, only where the call takes new space and
 // neither 12 nor the new image's own space already refuses it.
+#![tactic(auto)]
+
 ghost use Rattle.std.specs.Prelude.{◌≡◌, true, false, ◌≤◌, ◌<◌, ◌^◌, length};
 ghost use Rattle.std.proofs.Math.Option.{some};
 ghost use Rattle.spec_file.specs.Bytes.{Bytes};

@@ -1,5 +1,7 @@
 // A point moves from the old image to the new one: it is added there with its active message, or without an offset if
 // it has none, and its slot here is deleted.
+#![tactic(auto)]
+
 ghost use Rattle.std.specs.Prelude.{◌≡◌, true};
 ghost use Rattle.spec_file.specs.Image.{layout_of};
 ghost use Rattle.spec_file.specs.Messages.{shown};

@@ -1,4 +1,6 @@
 // So many points moved from the old image to the new one, each from the lowest taken slot.
+#![tactic(auto)]
+
 ghost use Rattle.growth_moves.specs.Several.{Paired, MovedSome};
 
 use call_walk::{Stop, lowest_taken};

@@ -1,5 +1,7 @@
 // A name that still stands in the old image, by reading alone: the number of its point's move, and the call's own on
 // the pair as that move would leave it.
+#![tactic(auto)]
+
 ghost use Rattle.std.specs.Prelude.{◌≡◌, true, cond, ◌+◌, ◌≤◌, ◌<◌, ◌^◌};
 ghost use Rattle.spec_file.specs.Image.{layout_of};
 ghost use Rattle.spec_file.specs.Messages.{shown};

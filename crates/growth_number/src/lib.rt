@@ -1,5 +1,7 @@
 // The numbers of add, delete and storing on a pair of images, by reading alone: the pair's, those of the name and the
 // mode, the named point's move, then the call's own on the pair as that move would leave it.
+#![tactic(auto)]
+
 ghost use Rattle.std.specs.Prelude.{◌≡◌, true, ◌≤◌, ◌^◌};
 ghost use Rattle.spec_file.specs.Image.{layout_of};
 ghost use Rattle.spec_file.specs.Questions.{first_no, mode_known, removed_asks};

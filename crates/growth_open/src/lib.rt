@@ -1,5 +1,7 @@
 // What every call on a pair of images asks first: questions 1, 5 and 6 of the old image, then 21 of the new one. In
 // constant time.
+#![tactic(auto)]
+
 ghost use Rattle.std.specs.Prelude.{◌≡◌, []};
 ghost use Rattle.spec_file.specs.Questions.{open_number};
 ghost use Rattle.spec_moves.specs.Moves.{same_kind};

@@ -1,5 +1,7 @@
 // The first write of an accepted call on a pair of images: the point that it names moves, if it is still in the old
 // one.
+#![tactic(auto)]
+
 ghost use Rattle.std.specs.Prelude.{◌≡◌};
 ghost use Rattle.spec_growth.specs.Growth.{old_probe, named_number};
 ghost use Rattle.growth_named.specs.Names.{pair_of, Paired};

@@ -1,6 +1,8 @@
 // The space that the active messages of an image take, header and length of each that passes question 11: one pass over
 // the table. The letter of one message is read as "d": so the sum is that of the image after the move of its point,
 // before a byte is written.
+#![tactic(auto)]
+
 ghost use Rattle.std.specs.Prelude.{◌≡◌, true, [], ◌∷◌, ◌+◌, ◌<◌, ◌≤◌, length};
 ghost use Rattle.spec_file.specs.Bytes.{store};
 ghost use Rattle.spec_file.specs.Limits.{inactive, free_field};

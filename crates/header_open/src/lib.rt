@@ -1,5 +1,7 @@
 // Questions 1, 5 and 6 in turn, as every call but create puts them; 7 of a name and 8 of a mode. In constant time but
 // for the name's bytes.
+#![tactic(auto)]
+
 ghost use Rattle.std.specs.Prelude.{◌≡◌};
 ghost use Rattle.spec_file.specs.Questions.{open_number, name_allowed, mode_known};
 

@@ -1,5 +1,7 @@
 // Questions 5 and 6 on an image's header, in constant time. What a question cannot go on with is asked first: D's
 // formula is worked out only where K and N are in range.
+#![tactic(auto)]
+
 ghost use Rattle.std.specs.Prelude.{◌≡◌, ◌≤◌, length};
 ghost use Rattle.spec_file.specs.Limits.{header_size};
 ghost use Rattle.spec_file.specs.Questions.{version_known, header_sound};

@@ -1,5 +1,7 @@
 // The scramble: 95 numbers from offset 512 on, drawn by the generator.
 //     numbers   numbers written one behind the other
+#![tactic(auto)]
+
 pub mod numbers;
 
 ghost use Rattle.std.specs.Prelude.{◌≡◌, ◌≤◌, length};

@@ -1,4 +1,6 @@
 // Questions 1 to 3, and 6 of N, on numbers; D by its formula.
+#![tactic(auto)]
+
 ghost use Rattle.std.specs.Prelude.{◌≡◌, ◌≤◌, ◌&&◌, nat_le};
 ghost use Rattle.spec_file.specs.Image.{data_start};
 ghost use Rattle.spec_file.specs.Questions.{size_allowed, key_allowed, slots_allowed};

@@ -1,6 +1,8 @@
 // Add and delete in the form that a cut does not harm: the call is made on a copy of the image in a working slice, and
 // its result is written to the image by way of a journal.
 //     packed    compaction in this form
+#![tactic(auto)]
+
 pub mod packed;
 
 ghost use Rattle.std.specs.Prelude.{length};

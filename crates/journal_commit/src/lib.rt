@@ -1,4 +1,6 @@
 // An update by way of the journal: content, mark, and what the marked journal asks for.
+#![tactic(auto)]
+
 ghost use Rattle.std.specs.Prelude.{◌≡◌, true, cond, [], ◌∷◌, ◌+◌, ◌-◌, ◌≤◌, ◌<◌, ◌^◌, length, take};
 ghost use Rattle.spec_file.specs.Bytes.{store};
 ghost use Rattle.spec_file.specs.Calls.{settled};

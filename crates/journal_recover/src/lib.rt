@@ -1,4 +1,6 @@
 // The journal: the image written from it, and recovery. One function ends an update and is recovery.
+#![tactic(auto)]
+
 ghost use Rattle.std.specs.Prelude.{◌≡◌, true, [], ◌∷◌, ◌+◌, ◌≤◌, ◌<◌, length, take};
 ghost use Rattle.spec_file.specs.Bytes.{store};
 ghost use Rattle.spec_changes.specs.Journal.{Disk, put, written, all_written, pair_count, mark_place, journal_sound, recover_number, recovered, recoveries};

@@ -1,1 +1,2 @@
 // Laws of the definitions in crates/spec_range, of any image bytes. It holds no code.
+#![tactic(auto)]

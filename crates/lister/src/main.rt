@@ -1,6 +1,8 @@
 // The lister: reads an image of at most 65,536 bytes from standard input and prints its points. The text is
 // `lister_rows::print`'s, by its definition; here is the reading and the writing. A read that fails ends the input, and
 // a write that fails is told on standard error.
+#![tactic(auto)]
+
 use libc::{STDIN_FILENO, STDOUT_FILENO};
 use lister_rows::print;
 

@@ -1,4 +1,6 @@
 // A line for each taken slot, and the whole text.
+#![tactic(auto)]
+
 ghost use Rattle.std.specs.Prelude.{◌+◌, ◌≤◌, ◌<◌, ◌≡◌, length, take};
 ghost use Rattle.spec_file.specs.Image.{layout_of};
 ghost use Rattle.header_layout.specs.Shapes.{Open};

@@ -1,4 +1,6 @@
 // Text put into a slice from a place on; each answers the place behind it and leaves all other bytes.
+#![tactic(auto)]
+
 ghost use Rattle.std.specs.Prelude.{◌+◌, ◌≤◌, ◌<◌, [], ◌∷◌, ◌≡◌, length};
 ghost use Rattle.lister_text.specs.Puts.{Put};
 ghost use Rattle.lister_text.specs.Text.{decimal, hex_digit, hex_byte, hexes};

@@ -1,4 +1,6 @@
 // A message is read: whether it is sound, whether it is active, how long it is, and its text.
+#![tactic(auto)]
+
 ghost use Rattle.std.specs.Prelude.{◌≡◌, not, ◌&&◌, eqb, leb, ◌+◌, ◌≤◌, ◌<◌, ◌^◌, length};
 ghost use Rattle.spec_file.specs.Image.{layout_of};
 ghost use Rattle.spec_file.specs.Messages.{length_at, is_active, held, shown_length};

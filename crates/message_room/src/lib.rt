@@ -1,4 +1,6 @@
 // Questions 12 and 13: whether a message has room behind the last one.
+#![tactic(auto)]
+
 ghost use Rattle.std.specs.Prelude.{◌≡◌, length};
 ghost use Rattle.std.proofs.Math.Option.{some};
 ghost use Rattle.spec_file.specs.Bytes.{Bytes};

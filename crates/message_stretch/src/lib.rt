@@ -1,4 +1,6 @@
 // A slot's stretch, from its message's header to the message's end, and what a window of the data area shows of it.
+#![tactic(auto)]
+
 ghost use Rattle.std.specs.Prelude.{◌≡◌, ◌<◌, ◌≤◌};
 ghost use Rattle.header_layout.specs.Shapes.{Open};
 ghost use Rattle.message_stretch.specs.Checked.{start_in, end_in, Readable};

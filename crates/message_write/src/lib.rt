@@ -1,4 +1,6 @@
 // A message is written: made inactive, in place, or in new space at X.
+#![tactic(auto)]
+
 ghost use Rattle.std.specs.Prelude.{◌≡◌, true, ◌∷◌, ◌++◌, ◌+◌, ◌-◌, ◌≤◌, ◌<◌, ◌^◌, length};
 ghost use Rattle.spec_file.specs.Limits.{active, free_field, header_size};
 ghost use Rattle.spec_file.specs.Bytes.{part, store, digits};

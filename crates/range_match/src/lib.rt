@@ -1,4 +1,6 @@
 // Ranges of key bytes, a lowest and a highest byte for each position: question 22, and whether a key lies in them.
+#![tactic(auto)]
+
 ghost use Rattle.std.specs.Prelude.{◌≡◌, ◌<◌, ◌≤◌, ◌&&◌, length, ◌==◌, slice_index};
 ghost use Rattle.spec_range.specs.Ranges.{in_range, key_in_ranges, ranges_allowed};
 ghost use Rattle.range_match.specs.Positions.{Ordered, Free, AskedIn};

@@ -1,5 +1,7 @@
 // The exports for the station host, on numbers and byte slices: each call answers the documents' number, 0 when
 // accepted. host/bhtf.h declares them for C.
+#![tactic(auto)]
+
 ghost use Rattle.std.specs.Prelude.{◌≡◌, length};
 ghost use Rattle.spec_file.specs.Bytes.{Bytes};
 ghost use Rattle.spec_file.specs.Calls.{create, add, delete};

@@ -1,5 +1,7 @@
 // Delete's walk: the gap that an entry leaves is closed by entries that a search would no longer find (Knuth's
 // Algorithm R, run upwards).
+#![tactic(auto)]
+
 ghost use Rattle.std.specs.Prelude.{◌≡◌, ◌≤◌, ◌<◌};
 ghost use Rattle.spec_file.specs.Limits.{most_slots};
 ghost use Rattle.spec_file.specs.Image.{layout_of};

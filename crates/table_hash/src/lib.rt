@@ -1,4 +1,6 @@
 // The hash of a key.
+#![tactic(auto)]
+
 ghost use Rattle.std.specs.Prelude.{◌≡◌, ◌+◌, ◌-◌, ◌*◌, ◌≤◌, length};
 ghost use Rattle.spec_file.specs.Image.{hash_step, hash_from};
 

@@ -1,4 +1,6 @@
 // From a name to its slot: home, and the search from there upwards.
+#![tactic(auto)]
+
 ghost use Rattle.std.specs.Prelude.{◌≡◌, ◌+◌, ◌-◌, ◌^◌, ◌≤◌, ◌<◌, length};
 ghost use Rattle.spec_file.specs.Image.{layout_of, home, slot_bytes, put_slot};
 ghost use Rattle.spec_file.specs.Search.{search, slots_read};

@@ -1,4 +1,6 @@
 // What every call on a named point does first: questions 1, 5, 6 and 7, add's 8, and the search for the key.
+#![tactic(auto)]
+
 ghost use Rattle.spec_file.specs.Questions.{open_number};
 ghost use Rattle.std.specs.Prelude.{◌≡◌};
 ghost use Rattle.table_seek.specs.Seeks.{SoughtIs, read_of};
