@@ -178,7 +178,7 @@ module _ (img key : Bytes) where
       by-eq (lookup_offset img key) 0
       (λ z. rw (eq-eqb (lookup_offset img key) 0 z) refl)
       (λ z.
-      rw (ne_eqb (lookup_offset img key) 0 z, ne_eqb (lookup_offset img key + (g.row.W + 1)) 0 (λ e. omega arith)) refl)
+      rw (ne_eqb (lookup_offset img key) 0 z, ne_eqb (lookup_offset img key + (g.W + 1)) 0 (λ e. omega arith)) refl)
 
   text-bytes : part img (lookup_start img key) (lookup_length img key) ≡ bytes_of (lookup_text img key)
   unfolding lookup_text bytes_of

@@ -43,7 +43,7 @@ module _ (g : Layout) (img : Bytes) (i : ℕ) where
   unfolding shown_at shown is_text head_size
   shown-told =
       by_bool (is_active img at)
-      (λ a. rw (a, ne_eqb (at + (g.row.W + 1)) 0 (λ e. omega arith)) refl) (λ a. rw a refl)
+      (λ a. rw (a, ne_eqb (at + (g.W + 1)) 0 (λ e. omega arith)) refl) (λ a. rw a refl)
 
 module _ (img name : Bytes) (t : ℕ) where
   abbrev g : Layout
@@ -62,16 +62,16 @@ module _ (img name : Bytes) (t : ℕ) where
     unfolding at_epoch_number
     number-asks = first_no-opened img (at_epoch_asks g img name t) h
 
-    pub number-23 : key_dated g.row.K ≡ false → at_epoch_number img name t ≡ 23
+    pub number-23 : key_dated g.K ≡ false → at_epoch_number img name t ≡ 23
     unfolding at_epoch_asks
     number-23 k = number-asks ∙ first_no-no 23 _ _ k
 
-    module _ (k : key_dated g.row.K ≡ true) where
-      pub number-7 : prism_allowed g.row.K name ≡ false → at_epoch_number img name t ≡ 7
+    module _ (k : key_dated g.K ≡ true) where
+      pub number-7 : prism_allowed g.K name ≡ false → at_epoch_number img name t ≡ 7
       unfolding at_epoch_asks
       number-7 n = number-asks ∙ first_no-yes 23 _ _ k ∙ first_no-no 7 _ _ n
 
-      pub number-on : prism_allowed g.row.K name ≡ true → at_epoch_number img name t ≡ first_no (shown_asks g img picked)
+      pub number-on : prism_allowed g.K name ≡ true → at_epoch_number img name t ≡ first_no (shown_asks g img picked)
       unfolding at_epoch_asks
       number-on n = number-asks ∙ first_no-yes 23 _ _ k ∙ first_no-yes 7 _ _ n
 
@@ -99,8 +99,8 @@ module _ (img name : Bytes) (t : ℕ) where
   -- ---- an accepted call
   pub record Accepted (i : ℕ) : Type 0 where
     pub opened : open_number img ≡ 0
-    pub dated : least_key ≤ g.row.K
-    pub named : length name ≡ g.row.K - epoch_size
+    pub dated : least_key ≤ g.K
+    pub named : length name ≡ g.K - epoch_size
     pub met_at : picked ≡ met i
     pub sound : message_sound g img (offset_of g (slot g img i)) ≡ true
 
@@ -115,19 +115,19 @@ module _ (img name : Bytes) (t : ℕ) where
   accepted e =
       by-eq (open_number img) 0
       (λ h.
-      let asks : first_no (ask 23 (key_dated g.row.K) ∷ ask 7 (prism_allowed g.row.K name) ∷ shown_asks g img picked) ≡ 0
+      let asks : first_no (ask 23 (key_dated g.K) ∷ ask 7 (prism_allowed g.K name) ∷ shown_asks g img picked) ≡ 0
       = sym (number-asks h) ∙ e in
-      let after-23 = first_no-tail 23 (key_dated g.row.K) _ (λ z. omega arith) asks in
-      let after-7 = first_no-tail 7 (prism_allowed g.row.K name) _ (λ z. omega arith) after-23 in
+      let after-23 = first_no-tail 23 (key_dated g.K) _ (λ z. omega arith) asks in
+      let after-7 = first_no-tail 7 (prism_allowed g.K name) _ (λ z. omega arith) after-23 in
       let after-14 = first_no-tail 14 (is_met picked) _ (λ z. omega arith) after-7 in
       let is = met-slot picked (first_no-head 14 (is_met picked) _ (λ z. omega arith) after-7) in
       record {
         opened = h;
         dated =
-            leb-true least_key g.row.K (first_no-head 23 (key_dated g.row.K) _ (λ z. omega arith) asks);
+            leb-true least_key g.K (first_no-head 23 (key_dated g.K) _ (λ z. omega arith) asks);
         named =
-            eqb-true (length name) (g.row.K - epoch_size)
-            (first_no-head 7 (prism_allowed g.row.K name) _ (λ z. omega arith) after-23);
+            eqb-true (length name) (g.K - epoch_size)
+            (first_no-head 7 (prism_allowed g.K name) _ (λ z. omega arith) after-23);
         met_at = is;
         sound =
             sym (ap (met_message_sound g img) is)

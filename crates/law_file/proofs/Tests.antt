@@ -66,8 +66,8 @@ pub zero-no : {A : Type 0} (n : ℕ) (x y : A) → (n ≡ 0 → ⊥) → cond (e
 zero-no n x y h = ap (λ (b : Bool). cond b x y) (ne_eqb n 0 h)
 
 -- ---- `if !f(..)`, with r what f answered
-pub was-no : {r b : Bool} → r ≡ b → not r ≡ true → b ≡ false
-was-no {r} e t = sym e ∙ not-true r t
+pub was-no : {r b : Bool} → r ≡ b → r ≡ false → b ≡ false
+was-no e t = sym e ∙ t
 
-pub was-yes : {r b : Bool} → r ≡ b → not r ≡ false → b ≡ true
-was-yes {r} e t = sym e ∙ not-false r t
+pub was-yes : {r b : Bool} → r ≡ b → r ≡ true → b ≡ true
+was-yes e t = sym e ∙ t

@@ -38,7 +38,7 @@ loop-again c =
     let i = L.loop-i.i in
     let s = S.args.src.now in
     let f =
-    copied-block L.loop-i.dst s c.copy_eight.new.0 i i (i + 8) L.loop-i.invariant.0
+    copied-block L.loop-i.dst s c.copy_eight.new.dst i i (i + 8) L.loop-i.invariant.0
     (omega arith) (omega arith) (omega arith) c.copy_eight.ensures
     in
     (f, omega arith, f.0 ∙ sym S.requires.0)

@@ -27,8 +27,8 @@ returns c =
     let S = c in
     let s = S.args.src.now in
     let n = length s in
-    copied-whole B.copy_eight.new.0 s n
-    (copied-block F.copy_front.new.0 s B.copy_eight.new.0 (n - 8) (length S.args.dst.now - 8) n
+    copied-whole B.copy_eight.new.dst s n
+    (copied-block F.copy_front.new.dst s B.copy_eight.new.dst (n - 8) (length S.args.dst.now - 8) n
     F.copy_front.ensures (omega arith) (omega arith) (omega arith) B.copy_eight.ensures)
     refl
 

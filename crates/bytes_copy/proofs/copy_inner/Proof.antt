@@ -43,9 +43,9 @@ returns-2 c =
     let d = S.args.dst.now in
     let s = S.args.src.now in
     let n = length d in
-    let x₁ = B₁.copy_eight.new.0 in
-    let x₂ = B₂.copy_eight-2.new.0 in
-    let x₃ = B₃.copy_eight-3.new.0 in
+    let x₁ = B₁.copy_eight.new.dst in
+    let x₂ = B₂.copy_eight-2.new.dst in
+    let x₃ = B₃.copy_eight-3.new.dst in
     let f₁ =
     copied-block d s x₁ 16 16 24 S.requires.0 (omega arith) (omega arith) (omega arith) B₁.copy_eight.ensures in
     let f₂ = copied-block x₁ s x₂ 24 24 32 f₁ (omega arith) (omega arith) (omega arith) B₂.copy_eight-2.ensures in

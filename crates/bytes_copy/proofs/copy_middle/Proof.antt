@@ -20,7 +20,7 @@ copy-inner-requires c κs =
     let B = c in
     let S = c in
     let f =
-    copied-block S.args.dst.now S.args.src.now B.copy_eight.new.0 8 8 16 S.requires.0
+    copied-block S.args.dst.now S.args.src.now B.copy_eight.new.dst 8 8 16 S.requires.0
     (omega arith) (omega arith) (omega arith) B.copy_eight.ensures
     in
     (f, omega arith)
@@ -42,7 +42,7 @@ returns-2 c =
     let S = c in
     let d = S.args.dst.now in
     let s = S.args.src.now in
-    copied-block I.copy_inner.new.0 s B.copy_eight-2.new.0 (length s - 16) (length d - 16) (length s - 8)
+    copied-block I.copy_inner.new.dst s B.copy_eight-2.new.dst (length s - 16) (length d - 16) (length s - 8)
     I.copy_inner.ensures (omega arith) (omega arith) (omega arith) B.copy_eight-2.ensures
 
 pub copy_middle_spec : {M : Type 1} → statement M

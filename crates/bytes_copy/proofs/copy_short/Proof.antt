@@ -15,7 +15,7 @@ copy-middle-requires c κs =
     let d = S.args.dst.now in
     let s = S.args.src.now in
     let f =
-    copied-block d s B.copy_eight.new.0 0 0 8 (none_yet d s S.requires.0)
+    copied-block d s B.copy_eight.new.dst 0 0 8 (none_yet d s S.requires.0)
     (omega arith) (omega arith) (omega arith) B.copy_eight.ensures
     in
     (f, omega arith)

@@ -44,7 +44,7 @@ loop-again c =
     let A = S.args in
     let i = L.loop-i.i in
     let b =
-    moved-block A.s.now L.loop-i.s c.move_eight.new.0 A.from A.to A.n i i (i + 8)
+    moved-block A.s.now L.loop-i.s c.move_eight.new.s A.from A.to A.n i i (i + 8)
     S.requires.0 L.loop-i.invariant.0 (omega arith) (omega arith) (omega arith) c.move_eight.ensures
     in
     (b, omega arith)

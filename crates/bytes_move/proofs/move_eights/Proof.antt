@@ -32,9 +32,9 @@ returns c =
     let A = S.args in
     let s = A.s.now in
     let n = A.n in
-    let r = E.move_eight.new.0 in
+    let r = E.move_eight.new.s in
     moved-whole s r A.from A.to n S.requires.0
-    (moved-block s F.move_front.new.0 r A.from A.to n (n - 8) (n - 8) n S.requires.0 F.move_front.ensures
+    (moved-block s F.move_front.new.s r A.from A.to n (n - 8) (n - 8) n S.requires.0 F.move_front.ensures
     (omega arith) (omega arith) (omega arith) E.move_eight.ensures)
 
 pub move_eights_spec : {M : Type 1} → statement M

@@ -67,9 +67,9 @@ returns-2 c =
     let A = S.args in
     let s = A.s.now in
     let n = A.n in
-    let x₁ = B₁.move_eight.new.0 in
-    let x₂ = B₂.move_eight-2.new.0 in
-    let x₃ = B₃.move_eight-3.new.0 in
+    let x₁ = B₁.move_eight.new.s in
+    let x₂ = B₂.move_eight-2.new.s in
+    let x₃ = B₃.move_eight-3.new.s in
     let b₁ =
     moved-block s s x₁ A.from A.to n 16 16 24 S.requires.0 S.requires.2
     (omega arith) (omega arith) (omega arith) B₁.move_eight.ensures
@@ -82,7 +82,7 @@ returns-2 c =
     moved-block s x₂ x₃ A.from A.to n 32 (n - 32) (n - 24) S.requires.0 b₂
     (omega arith) (omega arith) (omega arith) B₃.move_eight-3.ensures
     in
-    moved-block s x₃ B₄.move_eight-4.new.0 A.from A.to n (n - 24) (n - 24) (n - 16) S.requires.0 b₃
+    moved-block s x₃ B₄.move_eight-4.new.s A.from A.to n (n - 24) (n - 24) (n - 16) S.requires.0 b₃
     (omega arith) (omega arith) (omega arith) B₄.move_eight-4.ensures
 
 pub move_inner_spec : {M : Type 1} → statement M

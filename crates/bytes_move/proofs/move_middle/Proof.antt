@@ -32,7 +32,7 @@ move-inner-requires c κs =
     let S = c in
     let A = S.args in
     let s = A.s.now in
-    let x = B.move_eight.new.0 in
+    let x = B.move_eight.new.s in
     let b =
     moved-block s s x A.from A.to A.n 8 8 16 S.requires.0 S.requires.2
     (omega arith) (omega arith) (omega arith) B.move_eight.ensures
@@ -64,16 +64,16 @@ returns-2 c =
     let A = S.args in
     let s = A.s.now in
     let n = A.n in
-    let x = B.move_eight.new.0 in
+    let x = B.move_eight.new.s in
     let b =
     moved-block s s x A.from A.to n 8 8 16 S.requires.0 S.requires.2
     (omega arith) (omega arith) (omega arith) B.move_eight.ensures
     in
-    let y = I.move_inner.new.0 in
+    let y = I.move_inner.new.s in
     let d =
     begun-then s x y A.from A.to n 16 (n - 16) S.requires.0 b I.move_inner.ensures (omega arith)
     in
-    moved-block s y E.move_eight-2.new.0 A.from A.to n (n - 16) (n - 16) (n - 8) S.requires.0 d
+    moved-block s y E.move_eight-2.new.s A.from A.to n (n - 16) (n - 16) (n - 8) S.requires.0 d
     (omega arith) (omega arith) (omega arith) E.move_eight-2.ensures
 
 pub move_middle_spec : {M : Type 1} → statement M

@@ -17,7 +17,7 @@ move-middle-requires c κs =
     let S = c in
     let A = S.args in
     let s = A.s.now in
-    let x = B.move_eight.new.0 in
+    let x = B.move_eight.new.s in
     let b = moved-first s x A.from A.to A.n S.requires.0 S.requires.1 B.move_eight.ensures in
     let l : length x ≡ length s = b.long in (
       (S.requires.0.0, omega arith, omega arith),
@@ -35,9 +35,9 @@ returns c =
     let S = c in
     let A = S.args in
     let s = A.s.now in
-    let x = B.move_eight.new.0 in
+    let x = B.move_eight.new.s in
     let b = moved-first s x A.from A.to A.n S.requires.0 S.requires.1 B.move_eight.ensures in
-    begun-then s x M.move_middle.new.0 A.from A.to A.n 8 (A.n - 8) S.requires.0 b
+    begun-then s x M.move_middle.new.s A.from A.to A.n 8 (A.n - 8) S.requires.0 b
     M.move_middle.ensures (omega arith)
 
 pub move_short_spec : {M : Type 1} → statement M

@@ -48,7 +48,7 @@ loop-again c =
     let L = c in
     let Z = c.zero_eight in
     let room : L.loop-i.i + 8 ≤ length L.loop-i.s = omega (arith, L.loop-i.invariant.2) in (
-      cleared-block L.loop-i.s Z.new.0 L.loop-i.i c.next_block-i.result L.loop-i.invariant.0 room Z.ensures
+      cleared-block L.loop-i.s Z.new.s L.loop-i.i c.next_block-i.result L.loop-i.invariant.0 room Z.ensures
           (omega (arith, c.next_block-i.ensures)),
       omega (arith, c.next_block-i.ensures),
       ap length Z.ensures ∙ length-store L.loop-i.s L.loop-i.i (zeros 8) room ∙ L.loop-i.invariant.2,
@@ -60,7 +60,7 @@ zero-eight-requires-2 c κs = omega (arith, c.loop-i.invariant.2)
 -- after the last block
 long : (c : tie.After-slice_known-2-1 invariant-loop decreases-loop)
     → let L = c in
-    length c.zero_eight-2.new.0 ≡ length L.args.s.now
+    length c.zero_eight-2.new.s ≡ length L.args.s.now
 unfolding zeros
 long c =
     let L = c in
@@ -78,8 +78,8 @@ returns-2 c =
     let L = c in
     let Z = c.zero_eight-2 in
     let n = length L.args.s.now in
-    cleared-all Z.new.0 n (long c)
-    (cleared-block L.loop-i.s Z.new.0 (n - 8) n (λ j h. L.loop-i.invariant.0 j (omega (arith, h)))
+    cleared-all Z.new.s n (long c)
+    (cleared-block L.loop-i.s Z.new.s (n - 8) n (λ j h. L.loop-i.invariant.0 j (omega (arith, h)))
     (omega (arith, L.loop-i.invariant.2)) Z.ensures (omega arith))
 
 pub clear_spec : {M : Type 1} → statement M

@@ -47,9 +47,9 @@ returns-2 c =
     let A = (start-at-put E.before.before.before).args in
     let img = A.image.now in
     let n = c.note_version in (
-      sym E.if-number-ne0.left ∙ P.ensures.0,
+      sym E.if-number-ne0.false ∙ P.ensures.0,
       n.ensures
-          ∙ ap (noted A.bytes.now A.mode) (P.ensures.1 ∙ settled-yes P.result img _ E.if-number-ne0.left)
+          ∙ ap (noted A.bytes.now A.mode) (P.ensures.1 ∙ settled-yes P.result img _ E.if-number-ne0.false)
           ∙ sym (settled-yes 0 img _ refl),
     )
 

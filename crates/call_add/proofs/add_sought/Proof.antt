@@ -51,7 +51,7 @@ returns-2 c =
     let r = reached-is A.image.now A.key.now known S.requires (sought2-at-slice-known2 c).sought-in-At-1.given.1 in
     let d = c.add_found in
     found-answer A.image.now A.key.now A.bytes.now A.mode known refl r.asked d.result
-    d.new.0 _ r.ended d.ensures.0 d.ensures.1
+    d.new.image _ r.ended d.ensures.0 d.ensures.1
 
 pub add_sought_spec : {M : Type 1} → statement M
 add_sought_spec =

@@ -40,7 +40,7 @@ unfolding noted wide major_of
 returns c =
     let A = (start-at-slice-known2 c).args in
     let w = c.write_version in
-    store-lent A.image.now version_field 8 w.new.0 (ap length w.ensures)
+    store-lent A.image.now version_field 8 w.new.part (ap length w.ensures)
     ∙ ap (store A.image.now version_field) w.ensures
     ∙ sym (rw c.if-bytes-mode.true refl)
 

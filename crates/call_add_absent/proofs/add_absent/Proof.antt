@@ -141,7 +141,7 @@ returns-4 c =
     let less : field img points_field < (layout_of img).N =
     omega (
       arith,
-      (else2-at-slice-known2 c).if-slots-read_u32.left,
+      (else2-at-slice-known2 c).if-slots-read_u32.false,
       (read-u32-at-slice-known2 c).read_u32.ensures,
       layout-slots img A.shape S.requires.0.shape,
     ) in (

@@ -41,7 +41,7 @@ write-u32-requires : tie.Need-write_u32-requires
 write-u32-requires c κs =
     omega (
       arith,
-      c.put_entry.auto.0,
+      c.put_entry.auto.image,
       (opened-facts _ (start-at-write-u32-arg c).requires.0.accepted).size_low,
     )
 

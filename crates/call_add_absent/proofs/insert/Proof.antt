@@ -42,7 +42,7 @@ start-at-take-space c = c.before.before.before.before.before.before.before.befor
 
 -- ---- with the bytes placed
 placed : (c : tie.After-take_space)
-    → c.take_space.new.0
+    → c.take_space.new.image
     ≡ take_space (layout_of (start-at-take-space c).args.image.now) (start-at-take-space c).args.image.now
     (start-at-take-space c).args.bytes.now
 placed c =
@@ -51,9 +51,9 @@ placed c =
     ∙ ap (λ (t : Bytes). take_space (layout_of A.image.now) A.image.now (t ++ A.bytes.now))
     (part-zero A.image.now _)
 
-head : (c : tie.After-take_space) → SameHead (start-at-take-space c).args.image.now c.take_space.new.0
+head : (c : tie.After-take_space) → SameHead (start-at-take-space c).args.image.now c.take_space.new.image
 head c =
-    head-space (start-at-take-space c).requires.0 c.take_space.new.0 (start-at-take-space c).args.bytes.now
+    head-space (start-at-take-space c).requires.0 c.take_space.new.image (start-at-take-space c).args.bytes.now
     (start-at-take-space c).requires.3.room (placed c)
 
 abbrev start-at-new : tie.After-new-free → tie.Start
@@ -109,7 +109,7 @@ returns : tie.Need-returns
 returns c =
     let A = (start-at-slice-known3 c).args in
     let T = (take-space-at-slice-known3 c) in
-    inserted-steps A.image.now T.take_space.last.0 c.enter.new.0 A.key.now
+    inserted-steps A.image.now T.take_space.new.image c.enter.new.image A.key.now
     A.bytes.now A.slot.0 _
     (placed T) (head T).layout (free (new-at-slice-known3 c)) c.enter.ensures
 

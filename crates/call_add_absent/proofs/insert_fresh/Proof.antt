@@ -43,8 +43,8 @@ returns c =
     let S = (start-at-slice-known2 c) in
     let A = S.args in
     let img = A.image.now in
-    let none' = fresh-none A.bytes.now A.mode (then1-at-slice-known2 c).if-mode-bytes.taken in
-    place-nothing (layout_of img) img (text S) (entered S (text S)) none' c.enter.new.0
+    let none' = fresh-none A.bytes.now A.mode (then1-at-slice-known2 c).if-mode-bytes.true in
+    place-nothing (layout_of img) img (text S) (entered S (text S)) none' c.enter.new.image
     (c.enter.ensures
     ∙ ap (enter (layout_of img) img A.slot.0 A.key.now) c.new.ensures
     ∙ sym (ap (entered S) none'))
@@ -106,10 +106,10 @@ returns-3 c =
     let S = (start-at-slice-known3 c) in
     let A = S.args in
     let img = A.image.now in
-    let some' = fresh-some A.bytes.now A.mode (else1-at-slice-known3 c).if-mode-bytes.left in
+    let some' = fresh-some A.bytes.now A.mode (else1-at-slice-known3 c).if-mode-bytes.false in
     place-done (layout_of img) img (text S) (entered S (text S)) A.bytes.now some' _
-    ((room-number-at-slice-known3 c).room_number-number.ensures A.bytes.now refl) (else2-at-slice-known3 c).if-number-ne0.left
-    c.insert.new.0
+    ((room-number-at-slice-known3 c).room_number-number.ensures A.bytes.now refl) (else2-at-slice-known3 c).if-number-ne0.false
+    c.insert.new.image
     (c.insert.ensures ∙ ap (entered S) (sym some'))
 
 pub insert_fresh_spec : {M : Type 1} → statement M

@@ -131,7 +131,7 @@ then3-at-slice-known2 c = c.before.before.before.before
 returns-3 : tie.Need-returns-then-mode-eq-REPLACE
 returns-3 c =
     let done' = c.replace in
-    renewed (else2-at-slice-known2 c) 2 done'.result done'.new.0 (then3-at-slice-known2 c).if-mode-eq-REPLACE.true
+    renewed (else2-at-slice-known2 c) 2 done'.result done'.new.image (then3-at-slice-known2 c).if-mode-eq-REPLACE.true
     done'.ensures.0 done'.ensures.1
 
 -- ---- mode 4
@@ -164,9 +164,9 @@ returns-4 c =
     let done' =
     place-nothing g img (renewed_text g img o A.bytes.now 4)
     (renewed_at g img A.slot.0 o (key_in img A.slot.0) A.bytes.now 4)
-    (withdrawn-none g img A.slot.0 o (key_in img A.slot.0) A.bytes.now) old.new.0
+    (withdrawn-none g img A.slot.0 o (key_in img A.slot.0) A.bytes.now) old.new.image
     (old.ensures ∙ sym (withdrawn-retired g img A.slot.0 o (key_in img A.slot.0) A.bytes.now)) in
-    renewed E 4 0 old.new.0 T.if-mode-eq-WITHDRAW.taken done'.0 done'.1
+    renewed E 4 0 old.new.image T.if-mode-eq-WITHDRAW.true done'.0 done'.1
 
 -- ---- mode 3
 
@@ -191,8 +191,8 @@ returns-5 c =
     let E = else2-at-else4 F in
     let S = start-at-else2 E in
     let done' = c.append in
-    renewed E 3 done'.result done'.new.0
-    (mode-three S.args.mode S.requires.2 (else1-at-else2 E).if-mode-eq-NEW.left F.if-mode-eq-REPLACE.left F.if-mode-eq-WITHDRAW.left)
+    renewed E 3 done'.result done'.new.image
+    (mode-three S.args.mode S.requires.2 (else1-at-else2 E).if-mode-eq-NEW.false F.if-mode-eq-REPLACE.false F.if-mode-eq-WITHDRAW.false)
     done'.ensures.0 done'.ensures.1
 
 pub add_present_spec : {M : Type 1} → statement M

@@ -154,7 +154,7 @@ returns-3 c =
     appended-some g img A.slot.0 o (key_in img A.slot.0) bytes (else1-at-slice-known2 c).if-bytes-eq0.false in
     place-done g img (renewed_text g img o bytes 3) (renewed_at g img A.slot.0 o (key_in img A.slot.0) bytes 3)
     (text S) longer room.result (room.ensures (text S) (sized L)) (else2-at-slice-known2 c).if-number-ne0.false
-    new.new.0
+    new.new.image
     (new.ensures
     ∙ ap (λ (t : Bytes). relocated g img A.slot.0 o (key_in img A.slot.0) (t ++ bytes))
     (ap (part img (o + A.shape.head)) L.shown_length-before.ensures ∙ shown-part S.requires.0 o)

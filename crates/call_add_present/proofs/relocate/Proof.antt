@@ -52,8 +52,8 @@ take-space-requires c κs =
     let old = (retire-at-text-start c).retire in
     let open₀ = S.requires.0 in
     let o = S.args.o.0 in
-    let same = head-retire open₀ old.last.0 o S.requires.2 old.ensures in
-    let free = retired-free open₀ old.last.0 o S.requires.2 old.ensures in (
+    let same = head-retire open₀ old.new.image o S.requires.2 old.ensures in
+    let free = retired-free open₀ old.new.image o S.requires.2 old.ensures in (
       same-open same open₀,
       omega (arith, c.text_start.ensures, free, S.requires.3),
       record { small = S.requires.4.small; room = omega (arith, free, same.size, S.requires.4.room) },
@@ -90,10 +90,10 @@ set-offset-requires c κs =
     let open₀ = S.requires.0 in
     let f = opened-facts _ open₀.accepted in
     let same =
-    head-relocated open₀ old.last.0 S.args.o.0 S.requires.2 old.ensures
-    space.new.0 S.args.bytes.now start.result.0 S.args.before start.ensures
+    head-relocated open₀ old.new.image S.args.o.0 S.requires.2 old.ensures
+    space.new.image S.args.bytes.now start.result.0 S.args.before start.ensures
     S.requires.3 S.requires.4 space.ensures in (
-      placed-opened space.new.0 S.args.shape (same-open same open₀),
+      placed-opened space.new.image S.args.shape (same-open same open₀),
       S.requires.1,
       omega (arith, x.new-free.ensures, x.read_u32.ensures, f.free-high, f.size-high),
     )
@@ -128,9 +128,9 @@ returns c =
     let space = (take-space-at-slice-known4 c).take_space in
     let x = new-at-slice-known4 c in
     let entry = c.set_offset in
-    relocated-steps S.requires.0 old.last.0 A.o.0 S.requires.2 old.ensures space.last.0 A.bytes.now
+    relocated-steps S.requires.0 old.new.image A.o.0 S.requires.2 old.ensures space.new.image A.bytes.now
     start.result.0 A.before start.ensures S.requires.3 S.requires.4 space.ensures
-    entry.new.0 A.slot.0 x.new-free.result.0 S.requires.1 (x.new-free.ensures ∙ x.read_u32.ensures)
+    entry.new.image A.slot.0 x.new-free.result.0 S.requires.1 (x.new-free.ensures ∙ x.read_u32.ensures)
     entry.ensures
 
 pub relocate_spec : {M : Type 1} → statement M

@@ -67,7 +67,7 @@ returns c =
     let g = layout_of img in
     let new = c.overwrite in
     place-nothing g img (renewed_text g img o bytes 2) (renewed_at g img A.slot.0 o (key_in img A.slot.0) bytes 2)
-    (nothing T) new.new.0
+    (nothing T) new.new.image
     (new.ensures ∙ sym (replaced-written g img A.slot.0 o (key_in img A.slot.0) bytes (nothing T)))
 
 -- ---- they do not, or there is no offset, so that all of them are placed
@@ -135,7 +135,7 @@ returns-3 c =
     let new = c.relocate in
     let more = longer E.before.before.before in
     place-done g img (renewed_text g img o bytes 2) (renewed_at g img A.slot.0 o (key_in img A.slot.0) bytes 2)
-    bytes more room.result (room.ensures bytes refl) E.if-number-ne0.left new.new.0
+    bytes more room.result (room.ensures bytes refl) E.if-number-ne0.false new.new.image
     (new.ensures
     ∙ ap (relocated g img A.slot.0 o (key_in img A.slot.0)) (text-none img (o + A.shape.head) bytes)
     ∙ sym (renewed-moved g img A.slot.0 o (key_in img A.slot.0) bytes 2 bytes more))

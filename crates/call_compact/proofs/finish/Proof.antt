@@ -17,7 +17,7 @@ read-u32-requires : tie.Need-read_u32-requires
 read-u32-requires c κs =
     let Z = c in
     let S = c in
-    omega (arith, Z.zero_from.auto.0, (opened-facts S.args.image.now S.requires.0.accepted).size_low)
+    omega (arith, Z.zero_from.auto.image, (opened-facts S.args.image.now S.requires.0.accepted).size_low)
 
 cast-if1 : tie.Need-overflow_cast-read_u32
 cast-if1 c = search rules
@@ -29,7 +29,7 @@ returns : tie.Need-returns-then-read_u32-end
 returns c =
     let Z = c in
     let A = Z.args in
-    finish-same A.image.now Z.zero_from.new.0 A.end c.read_u32.result Z.zero_from.ensures
+    finish-same A.image.now Z.zero_from.new.image A.end c.read_u32.result Z.zero_from.ensures
     c.read_u32.ensures c.if-read_u32-end.true
 
 new-requires : tie.Need-new-requires
@@ -40,7 +40,7 @@ set-free-requires c κs =
     let Z = c in
     let S = c in
     let o = opened-facts S.args.image.now S.requires.0.accepted in (
-      omega (arith, Z.zero_from.auto.0, o.size_low),
+      omega (arith, Z.zero_from.auto.image, o.size_low),
       omega (arith, c.new.ensures, shape-area S.requires.0, S.requires.1),
       omega (arith, c.new.ensures, S.requires.2, o.size-high),
     )
@@ -56,9 +56,9 @@ returns-2 c =
     let Z = c in
     let S = c in
     let A = S.args in
-    let x = Z.zero_from.new.0 in
+    let x = Z.zero_from.new.image in
     finish-lower A.image.now x A.end E.read_u32.result Z.zero_from.ensures
-    E.read_u32.ensures E.if-read_u32-end.false P.set_free.new.0
+    E.read_u32.ensures E.if-read_u32-end.false P.set_free.new.image
     (P.set_free.ensures ∙ ap₂ (λ (d n : ℕ). set_free d x n) (shape-area S.requires.0) N.new.ensures)
 
 pub finish_spec : {M : Type 1} → statement M

@@ -21,7 +21,7 @@ read-u32-requires : tie.Need-read_u32-free-requires
 read-u32-requires c κs =
     let F = c in
     let S = c in
-    omega (arith, F.forget_dead-bytes.auto.0, (opened-facts S.args.image.now S.requires.opened.accepted).size_low)
+    omega (arith, F.forget_dead-bytes.auto.image, (opened-facts S.args.image.now S.requires.opened.accepted).size_low)
 
 cast-free : tie.Need-overflow_cast-free
 cast-free c = search rules
@@ -43,7 +43,7 @@ free-is : (c : tie.After-at) → c.read_u32-free.result ≡ field (start c).args
 free-is c =
     let F = (forgot c).forget_dead-bytes in
     c.read_u32-free.ensures
-    ∙ front-field (start c).args.image.now F.last.0 F.ensures.stage.size F.ensures.stage.front
+    ∙ front-field (start c).args.image.now F.new.image F.ensures.stage.size F.ensures.stage.front
     free_field (omega arith)
 
 add-if1 : tie.Need-overflow_add-at
@@ -55,7 +55,7 @@ add-if1 c =
     omega (
       arith,
       area-is c,
-      bytes_fit img F.last.0 S.args.shape F.result S.requires F.ensures,
+      bytes_fit img F.new.image S.args.shape F.result S.requires F.ensures,
       o.free-high,
       o.size-high,
     )
@@ -69,13 +69,13 @@ returns c =
     let F = (forgot T).forget_dead-bytes in
     let S = start T in
     let img = S.args.image.now in
-    subst (λ (n : ℕ). Stage (layout_of img) img F.last.0 (field img free_field) n) (sym (free-is T))
-    (tight-stage img F.last.0 S.args.shape F.result S.requires F.ensures
+    subst (λ (n : ℕ). Stage (layout_of img) img F.new.image (field img free_field) n) (sym (free-is T))
+    (tight-stage img F.new.image S.args.shape F.result S.requires F.ensures
     (ap (λ (n : ℕ). n + F.result) (sym (area-is T)) ∙ c.if-at-bytes.true ∙ free-is T))
 
 -- the first stage, from which all are moved
 begun : (c : tie.After-at)
-    → Begun (start c).args.image.now (forgot c).forget_dead-bytes.new.0 (start c).args.shape
+    → Begun (start c).args.image.now (forgot c).forget_dead-bytes.new.image (start c).args.shape
 begun c = record { sound = (start c).requires; low = omega arith; stage = (forgot c).forget_dead-bytes.ensures.stage }
 
 move-all-requires : tie.Need-move_all-requires

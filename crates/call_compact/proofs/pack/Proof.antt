@@ -12,7 +12,7 @@ finish-requires : tie.Need-finish-requires
 finish-requires c κs =
     let G = c in
     let S = c in
-    stage-place S.args.image.now G.gather-end.new.0 S.args.shape G.gather-end.result S.requires
+    stage-place S.args.image.now G.gather-end.new.image S.args.shape G.gather-end.result S.requires
     G.gather-end.ensures
 
 same_length : tie.Need-shape_of-image
@@ -24,7 +24,7 @@ returns c =
     let G = c in
     let S = c in
     P.finish.ensures
-    ∙ stage-end S.args.image.now G.gather-end.new.0 S.args.shape G.gather-end.result S.requires
+    ∙ stage-end S.args.image.now G.gather-end.new.image S.args.shape G.gather-end.result S.requires
     G.gather-end.ensures
 
 pub pack_spec : {M : Type 1} → statement M

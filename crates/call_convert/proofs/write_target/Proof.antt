@@ -51,8 +51,8 @@ carry-all-requires c κs =
     let W = c in
     let S = c.before.before.before.before.before.before.before.before in
     let img = S.args.source.now in
-    let t = W.write_bare.new.1.0 in
-    let size : length t ≡ length S.args.target.now = W.write_bare.auto.1.0 in
+    let t = W.write_bare.new.target in
+    let size : length t ≡ length S.args.target.now = W.write_bare.auto.target in
     record {
       source = S.requires.0.opened;
       bytes = S.requires.0.bytes;
@@ -80,7 +80,7 @@ returns c =
     let S = c in
     let img = S.args.source.now in
     P.carry_all.ensures.same
-    ∙ ap (converted img) (P.carry_all.auto.1.0 ∙ W.write_bare.auto.1.0)
+    ∙ ap (converted img) (P.carry_all.auto.target ∙ W.write_bare.auto.target)
 
 pub write_target_spec : {M : Type 1} → statement M
 write_target_spec =

@@ -147,7 +147,7 @@ remove-requires c κs =
       (start-at-remove-arg c).requires.0,
       met-within m.1 (start-at-remove-arg c).requires.1,
       at,
-      was-yes (message-sound-at-remove-arg c).message_sound.ensures (else1-at-remove-arg c).if-not-message_sound.left,
+      was-yes (message-sound-at-remove-arg c).message_sound.ensures (else1-at-remove-arg c).if-not-message_sound.false,
       c.read_u32-points.ensures,
       omega (arith, c.if-points-eq0.false),
     )
@@ -181,7 +181,7 @@ returns-4 c =
     let is = met-is m.1 in (
       sym (ap (λ (x : Probe). first_no (removed_asks g (img S) x)) is
           ∙ removed-0 g (img S) i (is-sound (else1-at-slice-known2 c))
-          (some-point (img S) p.result p.ensures (else2-at-slice-known2 c).if-points-eq0.left)),
+          (some-point (img S) p.result p.ensures (else2-at-slice-known2 c).if-points-eq0.false)),
       c.remove.ensures ∙ sym (ap (deleted g (img S)) is) ∙ sym (settled-yes 0 (img S) _ refl),
     )
 

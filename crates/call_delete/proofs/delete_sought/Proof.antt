@@ -39,7 +39,7 @@ returns-2 c =
     let A = S.args in
     let r = reached-is A.image.now A.key.now true S.requires (sought2-at-slice-known2 c).sought-in-At-1.given.1 in
     let d = c.delete_found in
-    found-answer A.image.now A.key.now r.asked d.result d.new.0 _ r.ended d.ensures.0
+    found-answer A.image.now A.key.now r.asked d.result d.new.image _ r.ended d.ensures.0
     d.ensures.1
 
 pub delete_sought_spec : {M : Type 1} → statement M

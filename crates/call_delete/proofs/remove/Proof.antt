@@ -21,14 +21,14 @@ start-at-write-u32 c = c.before.before.before.before.before.before.before
 -- the image after C is written, and its header
 counted : (c : tie.After-write_u32)
     → let A = (start-at-write-u32 c).args in
-    c.write_u32.new.0 ≡ set_field (retire A.image.now A.o.0) 20 (A.points - 1)
+    c.write_u32.new.s ≡ set_field (retire A.image.now A.o.0) 20 (A.points - 1)
 counted c =
     let R = c in
     let A = R.args in
     c.write_u32.ensures ∙ ap (λ (b : Bytes). set_field b 20 (A.points - 1)) R.retire.ensures
 
 head : (c : tie.After-write_u32)
-    → SameHead (start-at-write-u32 c).args.image.now c.write_u32.new.0
+    → SameHead (start-at-write-u32 c).args.image.now c.write_u32.new.s
 head c =
     let S = start-at-write-u32 c in
     let A = S.args in
@@ -58,7 +58,7 @@ write-u32-requires c κs =
     let S = c in
     let A = S.args in
     let f = retire-opened A.image.now (opened-facts A.image.now S.requires.0.accepted) A.o.0 S.requires.3 in
-    let e : 24 ≤ length R.retire.new.0 = omega (arith, f.size_low, ap length R.retire.ensures) in
+    let e : 24 ≤ length R.retire.new.image = omega (arith, f.size_low, ap length R.retire.ensures) in
     e
 
 close-requires : tie.Need-close-requires
@@ -76,7 +76,7 @@ returns c =
     let W = c.before.before.before.before.before.before in
     let S = c in
     let A = S.args in
-    removed A.image.now A.i.0 A.o.0 A.points W.write_u32.new.0 C.close.new.0 S.requires.2
+    removed A.image.now A.i.0 A.o.0 A.points W.write_u32.new.s C.close.new.image S.requires.2
     S.requires.4
     (counted W) (head W).layout C.close.ensures
 

@@ -34,7 +34,7 @@ start c = c.before.before.before.before.before.before.before
 accepted : (c : tie.Else-number-ne0)
     → let A = (start c).args in
     grow_select_number (pair (start c)) A.lowest.now A.highest.now (length A.list.now) ≡ 0
-accepted c = sym c.select_pair_number-number.ensures ∙ c.if-number-ne0.left
+accepted c = sym c.select_pair_number-number.ensures ∙ c.if-number-ne0.false
 
 granted : (c : tie.Else-number-ne0)
     → let A = (start c).args in
@@ -131,7 +131,7 @@ returns c =
     let S = c.before.before.before.before.before.before.before in
     let A = S.args in
     grow-refused (pair S) A.lowest.now A.highest.now A.list.now _ c.select_pair_number-number.ensures
-    c.if-number-ne0.taken
+    c.if-number-ne0.true
 
 asked-positions-requires : tie.Need-asked_positions-asked-requires
 asked-positions-requires c κs =

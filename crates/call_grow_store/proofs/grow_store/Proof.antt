@@ -121,7 +121,7 @@ move-named-at-move-some-arg2 c = c.before.before.before.before.before.before.bef
 move-some-requires : tie.Need-move_some-requires
 move-some-requires c κs =
     let A = (start-at-move-some-arg2 c).args in
-    let z = sym (store-number-at-move-some-arg2 c).store_number-number.ensures ∙ (else1-at-move-some-arg2 c).if-number-ne0.left in
+    let z = sym (store-number-at-move-some-arg2 c).store_number-number.ensures ∙ (else1-at-move-some-arg2 c).if-number-ne0.false in
     asked A.old.now A.new.now A.key.now A.records.now A.width z _ _
     (read-shape-at-move-some-arg2 c).read_shape-shape.ensures
     (read-shape2-at-move-some-arg2 c).read_shape-larger.ensures _ _ _
@@ -203,7 +203,7 @@ store-records-at-slice-known7 c = c.before.before.before.before.before.before.be
 returns-2 : tie.Need-returns
 returns-2 c =
     let A = (start-at-slice-known7 c).args in
-    let z = sym (store-number-at-slice-known7 c).store_number-number.ensures ∙ (else1-at-slice-known7 c).if-number-ne0.left in
+    let z = sym (store-number-at-slice-known7 c).store_number-number.ensures ∙ (else1-at-slice-known7 c).if-number-ne0.false in
     left A.old.now A.new.now A.key.now A.records.now A.width z _ _
     (read-shape-at-slice-known7 c).read_shape-shape.ensures
     (read-shape2-at-slice-known7 c).read_shape-larger.ensures _ _ _ (move-named-at-slice-known7 c).move_named.ensures

@@ -19,7 +19,7 @@ start c = c.before.before.before.before.before.before
 accepted : (c : tie.Else-number-ne0)
     → let A = (start c).args in
     select_number A.image.now A.lowest.now A.highest.now (length A.list.now) ≡ 0
-accepted c = sym c.select_number-number.ensures ∙ c.if-number-ne0.left
+accepted c = sym c.select_number-number.ensures ∙ c.if-number-ne0.false
 
 granted : (c : tie.Else-number-ne0)
     → let A = (start c).args in
@@ -44,7 +44,7 @@ returns c =
     let A = N.args in
     let e = N.select_number-number.ensures in
     let r = select-refused A.image.now A.lowest.now A.highest.now A.list.now
-    (λ z. c.if-number-ne0.taken (e ∙ z)) in (
+    (λ z. c.if-number-ne0.true (e ∙ z)) in (
       e ∙ sym (select-number A.image.now A.lowest.now A.highest.now A.list.now),
       (sym r.0, sym r.1),
     )

@@ -46,12 +46,12 @@ returns c =
     let S = c in
     let A = S.args in
     let size : ℕ = A.end - A.at in
-    let is : C.copy.new.0 ≡ part A.new.now A.at size = unfold part in C.copy.ensures in
+    let is : C.copy.new.dst ≡ part A.new.now A.at size = unfold part in C.copy.ensures in
     let stop : ℕ = A.to + size in
-    let long : length C.copy.new.0 ≡ stop - A.to =
+    let long : length C.copy.new.dst ≡ stop - A.to =
     ap (λ (t : Bytes). length t) is ∙ part_length A.new.now A.at size (omega (arith, S.requires.0, S.requires.1))
     ∙ omega arith in
-    (store-lent A.out.now A.to stop C.copy.new.0 long ∙ ap (store A.out.now A.to) is, refl)
+    (store-lent A.out.now A.to stop C.copy.new.dst long ∙ ap (store A.out.now A.to) is, refl)
 
 pub put_part_spec : {M : Type 1} → statement M
 put_part_spec =

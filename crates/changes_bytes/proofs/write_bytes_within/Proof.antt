@@ -105,7 +105,7 @@ loop-again c =
     let r = R.run_end-end.result in
     let at = L.loop-at.at in
     writing_more (λ (rs : List Pair). new_bytes rs new) (part-piece new) (part_step new) S.args.out.now
-    S.args.place (old L) new S.requires.1 L.loop-at.out L.loop-at.to at r P.put_part-to.new.0
+    S.args.place (old L) new S.requires.1 L.loop-at.out L.loop-at.to at r P.put_part-to.new.out
     P.put_part-to.result c.next_change-at-in-loop-at.result L.loop-at.invariant R.run_end-end.ensures c.next_change-at-in-loop-at.ensures
     (P.put_part-to.ensures.0 ∙ ap (store L.loop-at.out L.loop-at.to) (part-is new at (r - at)))
     (P.put_part-to.ensures.1 ∙ ap (λ (n : ℕ). L.loop-at.to + n) (sym (long R)))

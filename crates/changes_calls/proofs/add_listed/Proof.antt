@@ -82,14 +82,14 @@ accepted E = sym (done E).add-number.ensures.0 ∙ E.if-number-ne0.false
 
 held : (E : tie.Else-number-ne0)
     → let D : tie.After-add-number = done E in
-    before (found D).of_add-windows.result (kept D).keep.last.0 D.add-number.last.0
+    before (found D).of_add-windows.result (kept D).keep.new.work D.add-number.new.image
     ≡ (start (asked D).before).args.image.now
 held E =
     let D = done E in
     let S = start (asked D).before in
     let w = (found D).of_add-windows in
-    windows-hold (call S) S.args.image.now S.args.work.now D.add-number.last.0 (kept D).keep.last.0
-    w.result w.ensures.0 w.ensures.1 (roomy (asked D)) (accepted E) D.add-number.ensures.1 D.add-number.kept.0
+    windows-hold (call S) S.args.image.now S.args.work.now D.add-number.new.image (kept D).keep.new.work
+    w.result w.ensures.0 w.ensures.1 (roomy (asked D)) (accepted E) D.add-number.ensures.1 D.add-number.auto.image
     (kept D).keep.ensures
 
 returns-2 : tie.Need-returns-then-number-ne0
@@ -97,7 +97,7 @@ returns-2 c =
     let D = c.before.before.before in
     let S = start (asked D).before in
     lists-refused (call S) S.args.image.now (length S.args.work.now) S.args.list.now (fits (asked D))
-    D.add-number.result D.add-number.new.0 D.add-number.ensures.0 c.if-number-ne0.true
+    D.add-number.result D.add-number.new.image D.add-number.ensures.0 c.if-number-ne0.true
     (D.add-number.ensures.1
     ∙ add-leaves S.args.image.now S.args.key.now S.args.bytes.now S.args.mode
     (λ h. c.if-number-ne0.true (D.add-number.ensures.0 ∙ h)))
@@ -109,12 +109,12 @@ fill-list-within-requires c κs =
     let S = start (asked D).before in
     let w = (found D).of_add-windows in (
       record {
-        sorted = subst (λ (n : ℕ). Sorted w.result n) (sym D.add-number.kept.0) w.ensures.0;
-        roomy = omega (arith, D.add-number.kept.0, (kept D).keep.kept.0, roomy (asked D));
+        sorted = subst (λ (n : ℕ). Sorted w.result n) (sym D.add-number.auto.image) w.ensures.0;
+        roomy = omega (arith, D.add-number.auto.image, (kept D).keep.auto.work, roomy (asked D));
       },
       omega (
         arith,
-        D.add-number.kept.0,
+        D.add-number.auto.image,
         add_small S.args.image.now S.args.key.now S.args.bytes.now S.args.mode (accepted E),
       ),
       allowed-list _ _ (length S.args.list.now) (fits (asked D)),
@@ -136,10 +136,10 @@ returns-3 c =
     let D = done E in
     let S = start (asked D).before in
     let list = S.args.list.now in
-    let new = D.add-number.last.0 in
+    let new = D.add-number.new.image in
     lists-done (call S) S.args.image.now (length S.args.work.now) list (fits (asked D))
-    new F.fill_list_within.new.0 F.fill_list_within.result (accepted E) D.add-number.ensures.1
-    (sym D.add-number.kept.0)
+    new F.fill_list_within.new.list F.fill_list_within.result (accepted E) D.add-number.ensures.1
+    (sym D.add-number.auto.image)
     (F.fill_list_within.ensures.0 ∙ ap (λ (t : Bytes). length (changes_in (length list) t new)) (held E))
     (F.fill_list_within.ensures.1
     ∙ ap (λ (t : Bytes). store list 0 (pair_bytes (changes_in (length list) t new))) (held E))

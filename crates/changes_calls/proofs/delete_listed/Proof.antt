@@ -82,22 +82,22 @@ accepted E = sym (done E).delete-number.ensures.0 ∙ E.if-number-ne0.false
 
 held : (E : tie.Else-number-ne0)
     → let D : tie.After-delete-number = done E in
-    before (found D).of_delete-windows.result (kept D).keep.last.0 D.delete-number.last.0
+    before (found D).of_delete-windows.result (kept D).keep.new.work D.delete-number.new.image
     ≡ (start (asked D).before).args.image.now
 held E =
     let D = done E in
     let S = start (asked D).before in
     let w = (found D).of_delete-windows in
-    windows-hold (call S) S.args.image.now S.args.work.now D.delete-number.last.0 (kept D).keep.last.0
+    windows-hold (call S) S.args.image.now S.args.work.now D.delete-number.new.image (kept D).keep.new.work
     w.result w.ensures.0 w.ensures.1 (roomy (asked D)) (accepted E) D.delete-number.ensures.1
-    D.delete-number.kept.0 (kept D).keep.ensures
+    D.delete-number.auto.image (kept D).keep.ensures
 
 returns-2 : tie.Need-returns-then-number-ne0
 returns-2 c =
     let D = c.before.before.before in
     let S = start (asked D).before in
     lists-refused (call S) S.args.image.now (length S.args.work.now) S.args.list.now (fits (asked D))
-    D.delete-number.result D.delete-number.new.0 D.delete-number.ensures.0 c.if-number-ne0.true
+    D.delete-number.result D.delete-number.new.image D.delete-number.ensures.0 c.if-number-ne0.true
     (D.delete-number.ensures.1
     ∙ delete-leaves S.args.image.now S.args.key.now
     (λ h. c.if-number-ne0.true (D.delete-number.ensures.0 ∙ h)))
@@ -109,12 +109,12 @@ fill-list-within-requires c κs =
     let S = start (asked D).before in
     let w = (found D).of_delete-windows in (
       record {
-        sorted = subst (λ (n : ℕ). Sorted w.result n) (sym D.delete-number.kept.0) w.ensures.0;
-        roomy = omega (arith, D.delete-number.kept.0, (kept D).keep.kept.0, roomy (asked D));
+        sorted = subst (λ (n : ℕ). Sorted w.result n) (sym D.delete-number.auto.image) w.ensures.0;
+        roomy = omega (arith, D.delete-number.auto.image, (kept D).keep.auto.work, roomy (asked D));
       },
       omega (
         arith,
-        D.delete-number.kept.0,
+        D.delete-number.auto.image,
         delete-small S.args.image.now S.args.key.now (accepted E),
       ),
       allowed-list _ _ (length S.args.list.now) (fits (asked D)),
@@ -136,10 +136,10 @@ returns-3 c =
     let D = done E in
     let S = start (asked D).before in
     let list = S.args.list.now in
-    let new = D.delete-number.last.0 in
+    let new = D.delete-number.new.image in
     lists-done (call S) S.args.image.now (length S.args.work.now) list (fits (asked D))
-    new F.fill_list_within.new.0 F.fill_list_within.result (accepted E) D.delete-number.ensures.1
-    (sym D.delete-number.kept.0)
+    new F.fill_list_within.new.list F.fill_list_within.result (accepted E) D.delete-number.ensures.1
+    (sym D.delete-number.auto.image)
     (F.fill_list_within.ensures.0 ∙ ap (λ (t : Bytes). length (changes_in (length list) t new)) (held E))
     (F.fill_list_within.ensures.1
     ∙ ap (λ (t : Bytes). store list 0 (pair_bytes (changes_in (length list) t new))) (held E))

@@ -98,7 +98,7 @@ loop-again c =
     let r = R.run_end-end.result in
     let at = L.loop-at.at in
     writing_more pair_bytes pair-piece pair_step S.args.list.now S.args.place (old L)
-    S.args.new.now S.requires.2 L.loop-at.list L.loop-at.to at r P.put_pair.new.0 (L.loop-at.to + 8)
+    S.args.new.now S.requires.2 L.loop-at.list L.loop-at.to at r P.put_pair.new.list (L.loop-at.to + 8)
     c.next_change-at-in-loop-at.result L.loop-at.invariant R.run_end-end.ensures c.next_change-at-in-loop-at.ensures
     (P.put_pair.ensures ∙ ap (store L.loop-at.list L.loop-at.to) (piece_is at (r - at)))
     (ap (λ (n : ℕ). L.loop-at.to + n) (sym (length-piece (record { at = at; size = r - at }))))

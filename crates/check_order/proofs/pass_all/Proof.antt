@@ -92,7 +92,7 @@ step-requires c κs =
 same-length-2 : tie.Need-shape_of-keys-then-front-eq0 invariant-loop decreases-loop
 same-length-2 c =
     let P = c.before.before.before.before in
-    P.step-front.auto.1.1.0 ∙ (loop-at-step P).loop-lo.invariant.0
+    P.step-front.auto.keys ∙ (loop-at-step P).loop-lo.invariant.0
 
 returns-2 : tie.Need-returns-then-front-eq0 invariant-loop decreases-loop
 returns-2 c e = absurd (not-both false e refl)
@@ -108,7 +108,7 @@ loop-again c =
     let M = c in
     let L = loop-at-step P in
     let w = P.step-front.ensures in (
-      P.step-front.auto.1.1.0 ∙ L.loop-lo.invariant.0,
+      P.step-front.auto.keys ∙ L.loop-lo.invariant.0,
       omega (arith, L.loop-lo.invariant.1, w.0),
       omega (arith, w.1, M.lesser.ensures),
       w.2,

@@ -23,8 +23,8 @@ returns c z o =
     let img = A.image.now in
     let w = c.end_of_all.ensures z in
     ordered-on (start_in img) (end_in img) A.shape.slots A.lo A.hi A.next
-    (stretch-full img A.shape S.requires.0) S.requires.1 S.requires.2 P.sort_starts.new.0 w.0
-    (sym (P.sort_starts.auto.0 ∙ S.requires.4))
+    (stretch-full img A.shape S.requires.0) S.requires.1 S.requires.2 P.sort_starts.new.keys w.0
+    (sym (P.sort_starts.auto.keys ∙ S.requires.4))
     c.end_of_all.result w.1 o
 
 pub pass_window_spec : {M : Type 1} → statement M

@@ -50,11 +50,11 @@ slice-relend-prefix-pass-window c = search rules
 -- the keys in use
 in_use : (c : tie.After-pass_window-arg-1)
     → let P = c in
-    length (take P.list_starts-n.result P.list_starts-n.new.1.1.0) ≡ P.list_starts-n.result
+    length (take P.list_starts-n.result P.list_starts-n.new.keys) ≡ P.list_starts-n.result
 in_use c =
     let E = c in
     let P = c in
-    length-take-le P.list_starts-n.result P.list_starts-n.new.1.1.0 (omega (arith, E.if-keys-n.false))
+    length-take-le P.list_starts-n.result P.list_starts-n.new.keys (omega (arith, E.if-keys-n.false))
 
 slice-aggregate-pass-window : tie.Need-slice_bounds-pass_window-end-2
 slice-aggregate-pass-window c = sym (in_use c)

@@ -120,7 +120,7 @@ loop-again c =
     let A = S.args in
     let img = A.image.now in
     let n = (M.lesser-span.result + 63) / 64 in (
-      length_front L.loop-lo.map W.window-front.new.1.1.0 n W.window-front.auto.1.1.0 ∙ L.loop-lo.invariant.0,
+      length_front L.loop-lo.map W.window-front.new.map n W.window-front.auto.map ∙ L.loop-lo.invariant.0,
       omega (arith, L.loop-lo.invariant.1),
       omega (arith, M.lesser-span.ensures, L.loop-lo.invariant.2),
       swept-on (start_in img) (end_in img) A.bound L.loop-lo.lo (L.loop-lo.lo + M.lesser-span.result) L.loop-lo.best

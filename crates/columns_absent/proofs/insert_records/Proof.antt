@@ -38,11 +38,11 @@ abbrev start-at-place : tie.After-place_records → tie.Start
 start-at-place c = c.before.before.before.before.before.before.before
 
 -- with the columns placed
-head : (c : tie.After-place_records) → SameHead (start-at-place c).args.image.now c.place_records.new.0
+head : (c : tie.After-place_records) → SameHead (start-at-place c).args.image.now c.place_records.new.image
 head c =
     let S = start-at-place c in
     let A = S.args in
-    head-space S.requires.0 c.place_records.new.0 (columns A.width A.records.now)
+    head-space S.requires.0 c.place_records.new.image (columns A.width A.records.now)
     (omega (arith, length-stored A.width A.records.now S.requires.4, S.requires.3.room)) c.place_records.ensures
 
 free : (c : tie.After-new-free) → c.new-free.result.0 ≡ field (start-at-new c).args.image.now free_field
@@ -69,7 +69,7 @@ returns : tie.Need-returns
 returns c =
     let P = place-at-slice-known3 c in
     let A = (start-at-place P).args in
-    inserted-steps A.image.now P.place_records.last.0 c.enter.new.0 A.key.now
+    inserted-steps A.image.now P.place_records.new.image c.enter.new.image A.key.now
     (columns A.width A.records.now) A.slot.0 _
     P.place_records.ensures (head P).layout (free (new-at-place P)) c.enter.ensures
 

@@ -157,7 +157,7 @@ returns-4 c =
     let S = start-at-else1 E in
     let img = S.args.image.now in
     let is = empty-is (found-at-else1 E).found-1.given.1 in (
-      sym Z.if-number-ne0.left ∙ asked R ∙ sym (ap (number S) is ∙ placing E),
+      sym Z.if-number-ne0.false ∙ asked R ∙ sym (ap (number S) is ∙ placing E),
       c.insert_records.ensures
           ∙ sym (settled-yes 0 img (after S (empty (slot_at E))) refl)
           ∙ ap (settled 0 img) (sym (ap (after S) is)),

@@ -83,7 +83,7 @@ returns-3 c =
     let R = c.read_columns in
     let long = length-read stored (whole E) in
     fills-all stored out (whole E) (omega arith) _
-    (store-lent out 0 (length stored - 1) R.new.0 (ap length R.ensures ∙ omega (arith, long))
+    (store-lent out 0 (length stored - 1) R.new.out (ap length R.ensures ∙ omega (arith, long))
     ∙ ap (store out 0) R.ensures)
 
 pub fill_spec : {M : Type 1} → statement M

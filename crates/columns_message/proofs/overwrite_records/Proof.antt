@@ -162,11 +162,11 @@ returns c =
     let recs = A.records.now in
     let i = inside S in
     overwrite-known (layout_of img) img (columns A.width recs) (1 + length recs) A.shape.head
-    (length-stored A.width recs S.requires.4) (head-width S.requires.0) P.write_records.last.0
+    (length-stored A.width recs S.requires.4) (head-width S.requires.0) P.write_records.new.space
     (P.write_records.ensures ∙ ap (λ (w : ℕ). message w (columns A.width recs)) (width_is S.requires.0))
     A.o.0 L.length_at.result S.requires.2 L.length_at.ensures (ends L).short
     (omega (arith, L.length_at.ensures, i.end))
-    z.new.0 at.result at.ensures z.ensures
+    z.new.s at.result at.ensures z.ensures
 
 pub overwrite_records_spec : {M : Type 1} → statement M
 overwrite_records_spec =

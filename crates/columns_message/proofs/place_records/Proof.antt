@@ -97,7 +97,7 @@ set-free-requires c κs =
     let k = known S in
     let f = k.opened in
     let end = x.result + A.shape.head + (1 + length A.records.now) in
-    let kept = same_len_mid x.result (end - x.result) A.image.now w.last.0 w.kept.0 in (
+    let kept = same_len_mid x.result (end - x.result) A.image.now w.new.space w.auto.space in (
       omega (arith, kept, f.size_low),
       omega (arith, c.new.ensures, x.ensures, area-field S.requires.0, f.free-low),
       omega (arith, c.new.ensures, x.ensures, k.room, f.size-high),
@@ -121,7 +121,7 @@ returns c =
     c.set_free.ensures
     ∙ ap (set_free A.shape.area.0 _) N.new.ensures
     ∙ place-known (layout_of img) img (columns A.width recs) (1 + length recs) A.shape.head
-    (length-stored A.width recs S.requires.2) (known S).is-head P.write_records.last.0
+    (length-stored A.width recs S.requires.2) (known S).is-head P.write_records.new.space
     (P.write_records.ensures ∙ ap (λ (w : ℕ). message w (columns A.width recs)) (width_is S.requires.0))
     R.read_u32-free.result A.shape.area.0 R.read_u32-free.ensures (shape-area S.requires.0)
 

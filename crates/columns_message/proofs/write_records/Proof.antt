@@ -45,11 +45,11 @@ returns c =
     let S = start-at-header H in
     let A = S.args in
     let recs = A.records.now in
-    let t = H.write_head.last.0 in
+    let t = H.write_head.new.space in
     let v = c.write_columns in
     let long = length-stored A.width recs S.requires.2 in
-    store-lent t A.head (length t) v.new.0
-    (ap length v.ensures ∙ omega (arith, long, H.write_head.kept.0, S.requires.1))
+    store-lent t A.head (length t) v.new.space
+    (ap length v.ensures ∙ omega (arith, long, H.write_head.auto.space, S.requires.1))
     ∙ ap₂ (λ (b y : Bytes). store b A.head y) H.write_head.ensures v.ensures
     ∙ written-records A.space.now recs A.width A.head (omega (arith, S.requires.0.low)) S.requires.2 S.requires.1
 

@@ -60,8 +60,8 @@ place-records-requires c κs =
     let R = c.before.before.before in
     let S = start-at-retire R in
     let o = S.args.o.0 in
-    let same = head-retire S.requires.0 R.retire.new.0 o S.requires.2 R.retire.ensures in
-    let free = retired-free S.requires.0 R.retire.new.0 o S.requires.2 R.retire.ensures in (
+    let same = head-retire S.requires.0 R.retire.new.image o S.requires.2 R.retire.ensures in
+    let free = retired-free S.requires.0 R.retire.new.image o S.requires.2 R.retire.ensures in (
       same-open same S.requires.0,
       record { small = S.requires.3.small; room = omega (arith, free, same.size, S.requires.3.room) },
       S.requires.4,
@@ -78,24 +78,24 @@ start-at-place c = c.before.before.before.before.before.before.before.before.bef
 -- the text has none of the old one before it
 placed : (c : tie.After-place_records)
     → let S : tie.Start = start-at-place c in
-    let img₁ : Bytes = (retire-at-place c).retire.new.0 in
-    c.place_records.new.0
+    let img₁ : Bytes = (retire-at-place c).retire.new.image in
+    c.place_records.new.image
     ≡ take_space (layout_of img₁) img₁ (part img₁ (S.args.o.0 + S.args.shape.head) 0 ++ text S)
 placed c =
     let S = start-at-place c in
-    let img₁ = (retire-at-place c).retire.new.0 in
+    let img₁ = (retire-at-place c).retire.new.image in
     c.place_records.ensures
     ∙ ap (take_space (layout_of img₁) img₁) (sym (text-none img₁ (S.args.o.0 + S.args.shape.head) (text S)))
 
 below : (c : tie.Start) → c.args.o.0 + c.args.shape.head + 0 ≤ field c.args.image.now free_field
 below c = omega (arith, head-end c.requires.0 c.args.o.0 c.requires.2)
 
-same : (c : tie.After-place_records) → SameHead (start-at-place c).args.image.now c.place_records.new.0
+same : (c : tie.After-place_records) → SameHead (start-at-place c).args.image.now c.place_records.new.image
 same c =
     let S = start-at-place c in
     let old = (retire-at-place c).retire in
-    head-relocated S.requires.0 old.last.0 S.args.o.0 S.requires.2 old.ensures
-    c.place_records.new.0 (text S) (S.args.o.0 + S.args.shape.head) 0 refl
+    head-relocated S.requires.0 old.new.image S.args.o.0 S.requires.2 old.ensures
+    c.place_records.new.image (text S) (S.args.o.0 + S.args.shape.head) 0 refl
     (below S) (fits S) (placed c)
 
 -- X before
@@ -108,7 +108,7 @@ set-offset-requires c κs =
     let S = start-at-place P in
     let x = new-at-place P in
     let f = opened-facts _ S.requires.0.accepted in (
-      placed-opened P.place_records.new.0 S.args.shape (same-open (same P) S.requires.0),
+      placed-opened P.place_records.new.image S.args.shape (same-open (same P) S.requires.0),
       S.requires.1,
       omega (arith, x.new-free.ensures, x.read_u32.ensures, f.free-high, f.size-high),
     )
@@ -128,9 +128,9 @@ returns c =
     let old = (retire-at-place P).retire in
     let x = new-at-place P in
     let entry = c.set_offset in
-    relocated-steps S.requires.0 old.last.0 A.o.0 S.requires.2 old.ensures P.place_records.last.0 (text S)
+    relocated-steps S.requires.0 old.new.image A.o.0 S.requires.2 old.ensures P.place_records.new.image (text S)
     (A.o.0 + A.shape.head) 0 refl (below S) (fits S) (placed P)
-    entry.new.0 A.slot.0 x.new-free.result.0 S.requires.1 (x.new-free.ensures ∙ x.read_u32.ensures)
+    entry.new.image A.slot.0 x.new-free.result.0 S.requires.1 (x.new-free.ensures ∙ x.read_u32.ensures)
     entry.ensures
     ∙ ap (relocated (layout_of img) img A.slot.0 A.o.0 (key_in img A.slot.0))
     (text-none img (A.o.0 + A.shape.head) (text S))

@@ -91,7 +91,7 @@ returns c =
     let img = A.image.now in
     let g = layout_of img in
     let new = c.overwrite_records in
-    place-nothing g img (placed S) (after S) (nothing T) new.new.0
+    place-nothing g img (placed S) (after S) (nothing T) new.new.image
     (new.ensures
     ∙ sym (replaced-written g img A.slot.0 A.o.0 (key_in img A.slot.0) (text S) (nothing T)))
 
@@ -162,8 +162,8 @@ returns-3 c =
     let img = A.image.now in
     let g = layout_of img in
     let new = c.relocate_records in
-    place-done g img (placed S) (after S) (text S) (longer E) R.room-number.result (asked R) Z.if-number-ne0.left
-    new.new.0
+    place-done g img (placed S) (after S) (text S) (longer E) R.room-number.result (asked R) Z.if-number-ne0.false
+    new.new.image
     (new.ensures
     ∙ sym (renewed-moved g img A.slot.0 A.o.0 (key_in img A.slot.0) (text S) 2 (text S) (longer E)))
 

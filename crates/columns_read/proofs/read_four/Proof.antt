@@ -25,34 +25,34 @@ Further L out k =
     Turn A.width A.n out A.stored.now A.a A.e A.j 4 L.loop-r.r (A.j + k)
 
 module _ (c : tie.After-read_byte invariant-loop decreases-loop) where
-  one : Further c.before.before.before c.read_byte.new.0 1
+  one : Further c.before.before.before c.read_byte.new.out 1
   one =
-      read_next _ (turn-first c.loop.invariant (omega arith)) (omega arith) (omega arith) refl _
+      read_next _ (turn-first c.loop-r.invariant (omega arith)) (omega arith) (omega arith) refl _
       c.read_byte.ensures
 
 module _ (c : tie.After-read_byte-in-loop-r invariant-loop decreases-loop) where
-  two : let B = c.before.before.before.before in
-      Further B.before.before.before c.read-byte2.new.0 2
+  two : let B = c in
+      Further c.before.before.before.before.before.before.before c.read_byte-in-loop-r.new.out 2
   two =
       read_next _ (one c.before.before.before.before) (omega arith) (omega arith) (omega arith) _
-      c.read-byte2.ensures
+      c.read_byte-in-loop-r.ensures
 
 module _ (c : tie.After-read_byte-in-loop-r-2 invariant-loop decreases-loop) where
-  three : let C = c.before.before.before.before in
-      let B = C.before.before.before.before in
-      Further B.before.before.before c.read-byte3.new.0 3
+  three : let C = c in
+      let B = c in
+      Further c.before.before.before.before.before.before.before.before.before.before.before c.read_byte-in-loop-r-2.new.out 3
   three =
       read_next _ (two c.before.before.before.before) (omega arith) (omega arith) (omega arith) _
-      c.read-byte3.ensures
+      c.read_byte-in-loop-r-2.ensures
 
 module _ (c : tie.After-read_byte-in-loop-r-3 invariant-loop decreases-loop) where
-  four : let D = c.before.before.before.before in
-      let C = D.before.before.before.before in
-      let B = C.before.before.before.before in
-      Further B.before.before.before c.read-byte4.new.0 4
+  four : let D = c in
+      let C = c in
+      let B = c in
+      Further c.before.before.before.before.before.before.before.before.before.before.before.before.before.before.before c.read_byte-in-loop-r-3.new.out 4
   four =
       read_next _ (three c.before.before.before.before) (omega arith) (omega arith) (omega arith) _
-      c.read-byte4.ensures
+      c.read_byte-in-loop-r-3.ensures
 
 read-byte-requires : tie.Need-read_byte-requires invariant-loop decreases-loop
 read-byte-requires c κs = (c.loop-r.invariant.begun.0.sized, omega arith, omega arith)

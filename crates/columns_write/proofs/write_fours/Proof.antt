@@ -28,32 +28,32 @@ Further L space k =
     RunTo A.width A.n A.records.now space A.a A.e A.j 1 (L.loop-r.r + k)
 
 module _ (c : tie.After-write_byte invariant-loop decreases-loop) where
-  one : Further c.before.before.before c.write_byte.new.0 1
-  one = written_one _ c.loop.invariant (omega arith) refl _ c.write_byte.ensures
+  one : Further c.before.before.before c.write_byte.new.space 1
+  one = written_one _ c.loop-r.invariant (omega arith) refl _ c.write_byte.ensures
 
 module _ (c : tie.After-write_byte-in-loop-r invariant-loop decreases-loop) where
-  two : let B = c.before.before.before.before in
-      Further B.before.before.before c.write-byte2.new.0 2
-  two = written_one _ (one c.before.before.before.before) (omega arith) (omega arith) _ c.write-byte2.ensures
+  two : let B = c in
+      Further c.before.before.before.before.before.before.before c.write_byte-in-loop-r.new.space 2
+  two = written_one _ (one c.before.before.before.before) (omega arith) (omega arith) _ c.write_byte-in-loop-r.ensures
 
 module _ (c : tie.After-write_byte-in-loop-r-2 invariant-loop decreases-loop) where
-  three : let C = c.before.before.before.before in
-      let B = C.before.before.before.before in
-      Further B.before.before.before c.write-byte3.new.0 3
+  three : let C = c in
+      let B = c in
+      Further c.before.before.before.before.before.before.before.before.before.before.before c.write_byte-in-loop-r-2.new.space 3
   three =
-      written_one _ (two c.before.before.before.before) (omega arith) (omega arith) _ c.write-byte3.ensures
+      written_one _ (two c.before.before.before.before) (omega arith) (omega arith) _ c.write_byte-in-loop-r-2.ensures
 
 module _ (c : tie.After-write_byte-in-loop-r-3 invariant-loop decreases-loop) where
   four : let D = c.before.before.before.before in
-      let C = D.before.before.before.before in
-      let B = C.before.before.before.before in
-      Further B.before.before.before c.write-byte4.new.0 4
+      let C = c in
+      let B = c in
+      Further c.before.before.before.before.before.before.before.before.before.before.before.before.before.before.before c.write_byte-in-loop-r-3.new.space 4
   four =
       let D = c.before.before.before.before in
-      let C = D.before.before.before.before in
-      let B = C.before.before.before.before in
-      let more = B.loop-test.true in
-      written_one _ (three D) (omega (arith, more)) (omega arith) _ c.write-byte4.ensures
+      let C = c in
+      let B = c in
+      let more = B.loop-r-test.true in
+      written_one _ (three D) (omega (arith, more)) (omega arith) _ c.write_byte-in-loop-r-3.ensures
 
 write-byte-requires : tie.Need-write_byte-requires invariant-loop decreases-loop
 write-byte-requires c κs = (c.loop-r.invariant.begun.0.sized, omega arith, omega arith)

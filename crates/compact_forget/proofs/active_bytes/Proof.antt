@@ -46,11 +46,11 @@ returns-2 c =
     (ap (is_active img) (sym O.offset_of-at.ensures) ∙ was-no c.is_active.ensures c.if-not-is_active.true))
 
 -- what is known once the message is known to be active
-module _ (c : tie.Else2) where
-  abbrev O : tie.After-offset-of
+module _ (c : tie.Else-not-is_active) where
+  abbrev O : tie.After-offset_of-at
   O = c.before.before
 
-  abbrev E : tie.Else1
+  abbrev E : tie.Else-is_vacant
   E = O.before
 
   abbrev S : tie.Start
@@ -63,11 +63,11 @@ module _ (c : tie.Else2) where
   i = S.args.i.0
 
   slot-some : vacant (layout_of img) (slot (layout_of img) img i) ≡ false
-  slot-some = sym E.before.is-vacant.ensures ∙ E.if1.left
+  slot-some = sym E.is-vacant.ensures ∙ E.if1.left
 
   active-yes : is_active img (offset_in img i) ≡ true
   active-yes =
-      ap (is_active img) (sym O.offset-of.ensures) ∙ was-yes c.before.is-active.ensures c.if2.false
+      ap (is_active img) (sym O.offset-of.ensures) ∙ was-yes c.is_active.ensures c.if-not-is_active.false
 
 length-at-requires : tie.Need-length_at-requires
 length-at-requires c κs =
@@ -78,7 +78,7 @@ length-at-requires c κs =
 sum_is : (c : tie.After-length_at)
     → (S c.before).args.shape.head + c.length_at.result ≡ active_in (img c.before) (i c.before)
 sum_is c =
-    let E = c in
+    let E = c.before in
     ap₂ ◌+◌ (shape-head (S E).requires.0)
     (c.length_at.ensures ∙ ap (length_at (layout_of (img E)) (img E)) (O E).offset-of.ensures)
     ∙ sym (active-is (img E) (i E) (slot-some E) (active-yes E))

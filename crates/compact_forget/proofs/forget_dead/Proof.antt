@@ -137,7 +137,7 @@ loop-again c =
       omega (arith, I.loop-test.taken),
       forgetting-on img s S.requires x L.loop.i
           (omega (arith, I.loop-test.taken, layout-slots img s S.requires.opened.shape)) L.loop.invariant.1
-          P.forget.new.0
+          P.forget.new.image
           (P.forget.ensures ∙ ap (λ (n : ℕ). cond (dead_in x n) (with_offset x n 0) x) N.new-in-loop-i.ensures),
       omega (arith, L.loop.invariant.2, (added (summed c)).0, active_on img s S.requires L.loop.i),
     )

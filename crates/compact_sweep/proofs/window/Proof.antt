@@ -38,8 +38,8 @@ returns c =
     let F = c in
     let A = F.args in
     λ img st.
-    subst (λ (n : ℕ). Stage (layout_of img) img M.moves.new.0 (A.lo + 4 * n) M.moves.result)
-    F.fill.auto.1.1.0 (M.moves.ensures img st)
+    subst (λ (n : ℕ). Stage (layout_of img) img M.moves.new.image (A.lo + 4 * n) M.moves.result)
+    F.fill.auto.chart (M.moves.ensures img st)
 
 pub window_spec : {M : Type 1} → statement M
 window_spec =

@@ -44,9 +44,9 @@ returns c = let S = c in
     let p = S.args.p in
     let n = S.args.n in
     let w = c.copy in
-    let e : w.new.0 ≡ part src p n = w.ensures ∙ part-lent src p n in
+    let e : w.new.dst ≡ part src p n = w.ensures ∙ part-lent src p n in
     let m : n ≡ p + n - p = omega arith in
-    store-lent t p (p + n) w.new.0 (ap length e ∙ part_length src p n S.requires.0 ∙ m) ∙ ap (store t p) e
+    store-lent t p (p + n) w.new.dst (ap length e ∙ part_length src p n S.requires.0 ∙ m) ∙ ap (store t p) e
 
 pub carry_spec : {M : Type 1} → statement M
 carry_spec =

@@ -102,13 +102,13 @@ returns c = let W = c in
     let t = S.args.target.now in
     let r = room src S.requires.0.accepted in
     let is = S.requires.0.shape in
-    let v : W.write_entry.new.0 ≡ bare_slot g src i =
+    let v : W.write_entry.new.part ≡ bare_slot g src i =
     W.write_entry.ensures
     ∙ ap₂ slot_bytes N.key_of-key.ensures N.new.ensures
     ∙ bare-slot g src r i (low S) in
-    let size : length W.write_entry.new.0 ≡ a + (s.keylen + 4) - a =
+    let size : length W.write_entry.new.part ≡ a + (s.keylen + 4) - a =
     ap length v ∙ omega (arith, length-bare_slot g src r i (low S), slot-room src s is) in
-    store-lent t a (a + (s.keylen + 4)) W.write_entry.new.0 size
+    store-lent t a (a + (s.keylen + 4)) W.write_entry.new.part size
     ∙ ap₂ (store t) (A.at-a.ensures ∙ A.start.ensures ∙ sym (slot-place src s is i)) v
 
 pub carry_key_spec : {M : Type 1} → statement M

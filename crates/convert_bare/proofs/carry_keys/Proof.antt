@@ -54,7 +54,7 @@ add-i : tie.Need-overflow_add-i invariant-loop decreases-loop
 add-i c =
     let I = turn c in
     let S = I.before.before.before.before in
-    omega (arith, (header S.args.source.now S.args.shape S.requires.0).slots-high, I.loop-i-test.taken)
+    omega (arith, (header S.args.source.now S.args.shape S.requires.0).slots-high, I.loop-i-test.true)
 
 loop-less : tie.Need-loop-i-smaller invariant-loop decreases-loop
 loop-less c = omega (arith, (turn c).loop-i-test.true)
@@ -69,11 +69,11 @@ loop-again c =
     let g = layout_of src in
     let i = L.loop.i in
     let t = L.loop.target in
-    let low : i < g.N = omega (arith, I.loop-i-test.taken, layout-slots src S.args.shape S.requires.0.shape) in
-    let one : P.carry_key.new.1.0 ≡ store t (slot_start g i) (bare_slot g src i) =
+    let low : i < g.N = omega (arith, I.loop-i-test.true, layout-slots src S.args.shape S.requires.0.shape) in
+    let one : P.carry_key.new.target ≡ store t (slot_start g i) (bare_slot g src i) =
     P.carry_key.ensures ∙ ap (λ (k : ℕ). store t (slot_start g k) (bare_slot g src k)) P.new.ensures in (
-      omega (arith, I.loop-i-test.taken),
-      P.carry_key.auto.1.0 ∙ L.loop.invariant.1,
+      omega (arith, I.loop-i-test.true),
+      P.carry_key.auto.target ∙ L.loop.invariant.1,
       ap (λ (x : Bytes). store x (slot_start g (i + 1)) (bare_slots g src (g.N - (i + 1)) (i + 1))) one
           ∙ keys_on g src (room src S.requires.0.accepted) t i low (omega (arith, S.requires.1, L.loop.invariant.1))
           ∙ L.loop.invariant.2,

@@ -37,7 +37,7 @@ returns c =
     let S = c in
     let t = S.args.target.now in
     let w = c.write_version in
-    store-lent t version_field 8 w.new.0 (w.auto.0 ∙ mid_len version_field 8 t (omega (arith, S.requires.1)))
+    store-lent t version_field 8 w.new.part (w.auto.part ∙ mid_len version_field 8 t (omega (arith, S.requires.1)))
     ∙ ap (store t version_field) w.ensures
 
 pub carry_version_spec : {M : Type 1} → statement M

@@ -94,9 +94,9 @@ set-offset-requires c κs =
     let t = S.args.target.now in
     let f = opened-facts t S.requires.0.accepted in
     let same =
-    head-relocated S.requires.0 t 0 (sound S) (none-retired t) P.take_space.new.0 S.args.text.now
+    head-relocated S.requires.0 t 0 (sound S) (none-retired t) P.take_space.new.image S.args.text.now
     T.text_start.result.0 0 (from_is T) (low S) (room S) P.take_space.ensures in (
-      placed-opened P.take_space.new.0 S.args.to (same-open same S.requires.0),
+      placed-opened P.take_space.new.image S.args.to (same-open same S.requires.0),
       S.requires.1,
       omega (arith, N.new-free.ensures, N.read_u32.ensures, f.free-high, f.size-high),
     )
@@ -113,9 +113,9 @@ returns c =
     let S = start-at-text-start T in
     let A = S.args in
     let t = A.target.now in
-    relocated-steps S.requires.0 t 0 (sound S) (none-retired t) P.take_space.new.0 A.text.now
+    relocated-steps S.requires.0 t 0 (sound S) (none-retired t) P.take_space.new.image A.text.now
     T.text_start.result.0 0 (from_is T) (low S) (room S) P.take_space.ensures
-    E.set_offset.new.0 A.i.0 N.new-free.result.0 S.requires.1 (N.new-free.ensures ∙ N.read_u32.ensures)
+    E.set_offset.new.image A.i.0 N.new-free.result.0 S.requires.1 (N.new-free.ensures ∙ N.read_u32.ensures)
     E.set_offset.ensures
     ∙ ap (λ (old : Bytes). relocated (layout_of t) t A.i.0 0 (key_in t A.i.0) (old ++ A.text.now))
     (part-zero t _)

@@ -61,8 +61,8 @@ returns-2 c =
     (sym n.0, sym n.1)
 
 -- what is known once the message is known to be active
-module _ (c : tie.Else2) where
-  abbrev O : tie.After-offset-of
+module _ (c : tie.Else-not-is_active) where
+  abbrev O : tie.After-offset_of-at
   O = c.before.before
 
   abbrev S : tie.Start
@@ -75,11 +75,11 @@ module _ (c : tie.Else2) where
   i = S.args.i.0
 
   slot-some : vacant_in img i ≡ false
-  slot-some = sym O.before.before.is-vacant.ensures ∙ O.before.if1.left
+  slot-some = sym O.is-vacant.ensures ∙ O.if1.left
 
   active-yes : is_active img (offset_in img i) ≡ true
   active-yes =
-      ap (is_active img) (sym O.offset-of.ensures) ∙ was-yes c.before.is-active.ensures c.if2.false
+      ap (is_active img) (sym O.offset-of.ensures) ∙ was-yes c.is_active.ensures c.if-not-is_active.false
 
 length-at-requires : tie.Need-length_at-m-requires
 length-at-requires c κs = ((S c).requires.0.opened, inside (O c))
@@ -88,12 +88,12 @@ length-is : (c : tie.After-length_at-m)
     → c.length_at-m.result
     ≡ length_at (layout_of (img c.before)) (img c.before) (offset_in (img c.before) (i c.before))
 length-is c =
-    let E = c in
+    let E = c.before in
     c.length_at-m.ensures ∙ ap (length_at (layout_of (img E)) (img E)) (O E).offset-of.ensures
 
 add-bytes : tie.Need-overflow_add-bytes
 add-bytes c =
-    let E = c in
+    let E = c.before in
     omega (
       arith,
       length-is c,
@@ -104,7 +104,7 @@ add-bytes c =
 
 returns-3 : tie.Need-returns
 returns-3 c =
-    let E = c in
+    let E = c.before in
     let n = need-active (img E) (i E) (slot-some E) (active-yes E) in
     (ap₂ ◌+◌ (S E).requires.1 (length-is c) ∙ sym n.0, ap₂ leb (length-is c) (S E).requires.2 ∙ sym n.1)
 

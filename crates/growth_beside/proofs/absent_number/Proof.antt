@@ -107,7 +107,7 @@ returns-5 c =
     let S = (start-at-room-beside c) in
     let A = S.args in
     let e = only-empty A.found c.in-Empty.keys1 in
-    asked-fresh A.old.now A.new.now A.m A.mode (probe_of A.found) (else1-at-room-beside c).if-mode-eq-WITHDRAW.left
+    asked-fresh A.old.now A.new.now A.m A.mode (probe_of A.found) (else1-at-room-beside c).if-mode-eq-WITHDRAW.false
     e.0 e.1 _
     (ap₂ ◌+◌ c.read_u32.ensures
     c.read_u32-2.ensures)

@@ -55,7 +55,7 @@ loop-again c =
           ∙ drawn-stored A.image.now A.seed i S.step-number.result e (omega arith),
       e ∙ drawn-state A.seed i,
       omega arith,
-      W.write_u32.auto.0 ∙ L.loop-i.invariant.3,
+      W.write_u32.auto.s ∙ L.loop-i.invariant.3,
     )
 
 same_length : tie.Need-shape_of-image invariant-loop decreases-loop

@@ -55,9 +55,9 @@ abbrev img : tie.After-delete-number → Bytes
 img D = (start D).args.image.now
 
 -- the call was made on the image as it was
-held : (D : tie.After-delete-number) → take (length (img D) - 0) (drop 0 (copy D).put_part.new.0) ≡ img D
+held : (D : tie.After-delete-number) → take (length (img D) - 0) (drop 0 (copy D).put_part.new.out) ≡ img D
 held D =
-    work-holds (start D).args.work.now (img D) (copy D).put_part.new.0 (asked D).if-work-size.false
+    work-holds (start D).args.work.now (img D) (copy D).put_part.new.out (asked D).if-work-size.false
     (copy D).put_part.ensures.0
 
 number_is : (D : tie.After-delete-number) → D.delete-number.result ≡ (call (start D) (img D)).answer.number
@@ -65,18 +65,18 @@ number_is D =
     D.delete-number.ensures.0 ∙ ap (λ (t : Bytes). (call (start D) t).answer.number) (held D)
 
 -- its result is as long as the image, and stands at the front of the working slice
-long : (D : tie.After-delete-number) → length D.delete-number.new.0 ≡ length (img D)
-long D = D.delete-number.auto.0 ∙ ap (λ (t : Bytes). length t) (held D)
+long : (D : tie.After-delete-number) → length D.delete-number.new.image ≡ length (img D)
+long D = D.delete-number.auto.image ∙ ap (λ (t : Bytes). length t) (held D)
 
 abbrev result : tie.After-delete-number → Bytes
 result D =
     take (length (img D) - 0)
-    (drop 0 (put_mid 0 (length (img D) - 0) (copy D).put_part.new.0 D.delete-number.new.0))
+    (drop 0 (put_mid 0 (length (img D) - 0) (copy D).put_part.new.out D.delete-number.new.image))
 
-is-result : (D : tie.After-delete-number) → result D ≡ D.delete-number.new.0
+is-result : (D : tie.After-delete-number) → result D ≡ D.delete-number.new.image
 is-result D =
-    part-again (copy D).put_part.new.0 D.delete-number.new.0 (length (img D)) (long D ∙ omega arith)
-    (omega (arith, (asked D).if-work-size.false, (copy D).put_part.auto.0))
+    part-again (copy D).put_part.new.out D.delete-number.new.image (length (img D)) (long D ∙ omega arith)
+    (omega (arith, (asked D).if-work-size.false, (copy D).put_part.auto.out))
 
 returns-2 : tie.Need-returns-then-number-ne0
 returns-2 c =
@@ -125,8 +125,8 @@ returns-3 c =
     let E = c.before.before.before.before.before.before.before.before in
     let D = done E in
     let S = start D in
-    journals-asked (call S) (img D) (length S.args.work.now) S.args.journal.now (asked D).if-work-size.left
-    U.update.result (result D) U.update.new.0 U.update.new.1.1.0 (accepted E)
+    journals-asked (call S) (img D) (length S.args.work.now) S.args.journal.now (asked D).if-work-size.false
+    U.update.result (result D) U.update.new.image U.update.new.journal (accepted E)
     (is-result D ∙ D.delete-number.ensures.1 ∙ ap (λ (t : Bytes). (call S t).after) (held D))
     (same D) (delete-small (img D) S.args.key.now (accepted E))
     U.update.ensures.0 U.update.ensures.1 U.update.ensures.2

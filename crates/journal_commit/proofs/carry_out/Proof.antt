@@ -70,8 +70,8 @@ loop-again c =
     let A = S.args in
     carrying-next A.image.now A.new.now A.journal.now S.requires.0 S.requires.1 S.requires.3 A.pairs
     S.requires.2 A.n S.requires.4 L.loop-k.image L.loop-k.journal L.loop-k.from L.loop-k.k L.loop-k.invariant
-    W.write_number-from.new.0 W.write_number-from.new.1.1.0 W.write_number-from.result
-    W.write_number-from.ensures.0 W.write_number-from.auto.0 W.write_number-from.auto.1.1.0 T.loop-k-test.true
+    W.write_number-from.new.image W.write_number-from.new.journal W.write_number-from.result
+    W.write_number-from.ensures.0 W.write_number-from.auto.image W.write_number-from.auto.journal T.loop-k-test.true
     W.write_number-from.ensures.1 W.write_number-from.ensures.2
 
 same_length : tie.Need-shape_of-image invariant-loop decreases-loop

@@ -39,7 +39,7 @@ write-pairs-requires : tie.Need-write_pairs-requires
 write-pairs-requires c κs =
     let U = c.before.before.before in
     let S = start U in
-    (S.requires.0, S.requires.1, omega (arith, (room S).0, U.write_u32.auto.0))
+    (S.requires.0, S.requires.1, omega (arith, (room S).0, U.write_u32.auto.s))
 
 abbrev count : tie.After-write_pairs → tie.After-write_u32
 count P = P.before.before.before.before
@@ -59,7 +59,7 @@ write-bytes-requires c κs =
     let P = c.before.before.before in
     let U = count P in
     let S = start U in
-    (S.requires.0, omega (arith, (room S).1, S.requires.2, U.write_u32.kept.0, P.write_pairs.auto.0))
+    (S.requires.0, omega (arith, (room S).1, S.requires.2, U.write_u32.auto.s, P.write_pairs.auto.list))
 
 same_length : tie.Need-shape_of-journal
 same_length c = search rules

@@ -26,7 +26,7 @@ returns c =
     let S = c in
     let A = S.args in (
       does-content A.image.now A.new.now A.journal.now A.pairs A.k A.from T.if-k-eq0.true
-          W.write_content.new.0 W.write_content.ensures,
+          W.write_content.new.journal W.write_content.ensures,
       λ h. refl,
       λ h. absurd (omega (arith, T.if-k-eq0.true)),
     )
@@ -44,7 +44,7 @@ returns-2 c =
     let S = c in
     let A = S.args in (
       does-mark A.image.now A.new.now A.journal.now A.pairs A.k A.from T.if-k-eq1.true
-          C.set_mark.new.0 C.set_mark.ensures,
+          C.set_mark.new.journal C.set_mark.ensures,
       λ h. refl,
       λ h. absurd (omega (arith, T.if-k-eq1.true)),
     )
@@ -72,7 +72,7 @@ returns-3 c =
     let A = S.args in
     let two : 2 ≤ A.k = omega (arith, E.if-k-eq1.false, E.if-k-eq0.false) in (
       does-later A.image.now A.new.now A.journal.now A.pairs A.k A.from two
-          W.write_one.new.0 W.write_one.new.1.0 W.write_one.ensures.0,
+          W.write_one.new.image W.write_one.new.journal W.write_one.ensures.0,
       λ h. absurd (omega arith),
       λ h f. W.write_one.ensures.1 f,
     )

@@ -112,7 +112,7 @@ returns-5 c =
     recover-marked S.args.image.now S.args.journal.now (omega (arith, (some J).if-end-eq0.false))
     (is-marked S.args.journal.now (looked J).if-journal-last.false) (sound E) (R.read_u32-pairs.result + 1)
     (omega (arith, counted R))
-    W.settle.new.0 W.settle.new.1.0 W.settle.ensures
+    W.settle.new.image W.settle.new.journal W.settle.ensures
 
 pub recover_spec : {M : Type 1} → statement M
 recover_spec =

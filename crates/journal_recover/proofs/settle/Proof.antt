@@ -72,13 +72,13 @@ loop-again c =
     by_le (k + 1) S.args.pairs
     (λ h. going_more img j S.requires.0 S.args.n L.loop-k.image L.loop-k.journal L.loop-k.from k L.loop-k.invariant
     (omega (arith, S.requires.1)) S.args.pairs S.requires.1 T.loop-k-test.true
-    W.write_one-from.new.0 W.write_one-from.new.1.0 W.write_one-from.result
-    W.write_one-from.ensures.0 (W.write_one-from.ensures.1 (omega arith)) W.write_one-from.auto.0
-    W.write_one-from.auto.1.0)
+    W.write_one-from.new.image W.write_one-from.new.journal W.write_one-from.result
+    W.write_one-from.ensures.0 (W.write_one-from.ensures.1 (omega arith)) W.write_one-from.auto.image
+    W.write_one-from.auto.journal)
     (λ h. going-last img j S.requires.0 S.args.n L.loop-k.image L.loop-k.journal L.loop-k.from k L.loop-k.invariant
     (omega (arith, S.requires.1, S.requires.2, T.loop-k-test.true)) S.args.pairs S.requires.1 T.loop-k-test.true
-    W.write_one-from.new.0 W.write_one-from.new.1.0 W.write_one-from.result
-    W.write_one-from.ensures.0 W.write_one-from.auto.0 W.write_one-from.auto.1.0)
+    W.write_one-from.new.image W.write_one-from.new.journal W.write_one-from.result
+    W.write_one-from.ensures.0 W.write_one-from.auto.image W.write_one-from.auto.journal)
 
 same_length : tie.Need-shape_of-image invariant-loop decreases-loop
 same_length c = c.loop-k.invariant.size

@@ -25,7 +25,7 @@ returns c =
     let S = c in
     let A = S.args in (
       one-stretch A.image.now A.journal.now A.pairs A.k A.from T.if-k-pairs.true
-          W.write_stretch.new.0 A.journal.now W.write_stretch.ensures.0 refl,
+          W.write_stretch.new.image A.journal.now W.write_stretch.ensures.0 refl,
       λ h. W.write_stretch.ensures.1,
     )
 
@@ -42,7 +42,7 @@ returns-2 c =
     let S = c in
     let A = S.args in (
       one-mark A.image.now A.journal.now A.pairs A.k A.from (omega (arith, E.if-k-pairs.false))
-          A.image.now C.clear_mark.new.0 refl C.clear_mark.ensures,
+          A.image.now C.clear_mark.new.journal refl C.clear_mark.ensures,
       λ h. absurd (omega (arith, E.if-k-pairs.false)),
     )
 

@@ -73,7 +73,7 @@ put-lines-requires c κs =
     let room = length-append heading (lines (layout_of img) img shape.slots 0) in
     let H = P.put_bytes-at in (
       record { accepted = open₀; shape = R.read_shape.ensures },
-      omega (arith, S.requires, ap length text, room, H.ensures.ends, H.auto.0),
+      omega (arith, S.requires, ap length text, room, H.ensures.ends, H.auto.out),
     )
 
 same-length-2 : tie.Need-shape_of-out

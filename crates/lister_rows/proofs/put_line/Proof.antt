@@ -57,7 +57,7 @@ length_told c =
 
 after-decimal : (c : tie.After-put_decimal-a)
     → c.put_decimal-a.result + (1 + length (key_text (start c)) + 1 + length (length_told (start c)) + 1)
-    ≤ length c.put_decimal-a.new.0
+    ≤ length c.put_decimal-a.new.out
 after-decimal c =
     let S = start c in
     let img = S.args.image.now in
@@ -68,30 +68,30 @@ after-decimal c =
       line-length (layout_of img) img S.args.i.0,
       ap (λ (m : ℕ). length (decimal m)) c.number.ensures,
       P.ensures.ends,
-      P.auto.0,
+      P.auto.out,
     )
 
 after-byte : (c : tie.After-put_byte-b)
     → let S : tie.Start = start (decimal-put c) in
-    c.put_byte-b.result + (length (key_text S) + 1 + length (length_told S) + 1) ≤ length c.put_byte-b.new.0
+    c.put_byte-b.result + (length (key_text S) + 1 + length (length_told S) + 1) ≤ length c.put_byte-b.new.out
 after-byte c =
     let P = c.put_byte-b in
-    omega (arith, after-decimal (decimal-put c), P.ensures.ends, P.auto.0)
+    omega (arith, after-decimal (decimal-put c), P.ensures.ends, P.auto.out)
 
 after-key : (c : tie.After-put_key-c)
     → let S : tie.Start = start (decimal-put (byte_put c)) in
-    c.put_key-c.result + (1 + length (length_told S) + 1) ≤ length c.put_key-c.new.0
+    c.put_key-c.result + (1 + length (length_told S) + 1) ≤ length c.put_key-c.new.out
 after-key c =
     let P = c.put_key-c in
     let key = ap (λ (x : Bytes). length (hexes x)) c.key_of.ensures in
-    omega (arith, after-byte (byte_put c), key, P.ensures.ends, P.auto.0)
+    omega (arith, after-byte (byte_put c), key, P.ensures.ends, P.auto.out)
 
 after-byte2 : (c : tie.After-put_byte-d)
     → let S : tie.Start = start (decimal-put (byte_put (key-put c))) in
-    c.put_byte-d.result + (length (length_told S) + 1) ≤ length c.put_byte-d.new.0
+    c.put_byte-d.result + (length (length_told S) + 1) ≤ length c.put_byte-d.new.out
 after-byte2 c =
     let P = c.put_byte-d in
-    omega (arith, after-key (key-put c), P.ensures.ends, P.auto.0)
+    omega (arith, after-key (key-put c), P.ensures.ends, P.auto.out)
 
 -- ---- the needs
 put-byte-requires : tie.Need-put_byte-b-requires
@@ -118,7 +118,7 @@ put-byte-requires-3 : tie.Need-put_byte-requires
 put-byte-requires-3 c κs =
     let F = c.before.before.before in
     let P = F.put_length-e in
-    omega (arith, after-byte2 (byte2-put F), P.ensures.ends, P.auto.1.1.1.0)
+    omega (arith, after-byte2 (byte2-put F), P.ensures.ends, P.auto.out)
 
 same_length : tie.Need-shape_of-out
 same_length c = search rules

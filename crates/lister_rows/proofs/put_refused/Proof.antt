@@ -19,7 +19,7 @@ put-decimal-requires : tie.Need-put_decimal-b-requires
 put-decimal-requires c κs =
     let A = c in
     let S = c in
-    omega (arith, S.requires, refused-length S.args.number, A.put_bytes-a.ensures.ends, A.put_bytes-a.auto.0)
+    omega (arith, S.requires, refused-length S.args.number, A.put_bytes-a.ensures.ends, A.put_bytes-a.auto.out)
 
 put-byte-requires : tie.Need-put_byte-requires
 put-byte-requires c κs =
@@ -31,9 +31,9 @@ put-byte-requires c κs =
       S.requires,
       refused-length S.args.number,
       A.put_bytes-a.ensures.ends,
-      A.put_bytes-a.auto.0,
+      A.put_bytes-a.auto.out,
       B.put_decimal-b.ensures.ends,
-      B.put_decimal-b.auto.0,
+      B.put_decimal-b.auto.out,
     )
 
 same_length : tie.Need-shape_of-out

@@ -32,9 +32,9 @@ returns c =
     let A = c.args in
     let end = A.at + length A.bytes.now in
     let C = c.copy in
-    let l : length C.new.0 ≡ end - A.at = omega (arith, ap length C.ensures) in
+    let l : length C.new.dst ≡ end - A.at = omega (arith, ap length C.ensures) in
     let out = A.out.now in
-    record { bytes = store-lent out A.at end C.new.0 l ∙ ap (store out A.at) C.ensures; ends = refl }
+    record { bytes = store-lent out A.at end C.new.dst l ∙ ap (store out A.at) C.ensures; ends = refl }
 
 pub put_bytes_spec : {M : Type 1} → statement M
 put_bytes_spec =

@@ -155,7 +155,7 @@ returns c =
     overwrite-steps (layout_of img) img v S.args.o.0 m.result S.args.shape.head
     (head-width S.requires.0) S.requires.2
     m.ensures (ends L).1 (omega (arith, m.ensures, (inside S).0))
-    w.last.0 z.new.0 at.result at.ensures
+    w.new.space z.new.s at.result at.ensures
     (w.ensures
     ∙ ap₂ (λ (k : ℕ) (t : Bytes). message k (t ++ v)) (width_is S.requires.0) (part-zero _ S.args.shape.head))
     z.ensures

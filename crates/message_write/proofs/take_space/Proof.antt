@@ -83,7 +83,7 @@ write-message-requires c κs =
     let A = (start-at-write-message-arg c).args in
     let end = x.result + A.shape.head + (A.before + length A.bytes.now) in (
       k.1,
-      mid_len x.result end u.new.0 (omega (arith, u.auto.0, x.ensures, k.3)) ∙ omega arith,
+      mid_len x.result end u.new.s (omega (arith, u.auto.s, x.ensures, k.3)) ∙ omega arith,
     )
 
 new-requires : tie.Need-new-requires
@@ -122,8 +122,8 @@ set-free-requires c κs =
     let k = facts S in
     let f = k.0 in
     let end = x.result + S.args.shape.head + (S.args.before + length S.args.bytes.now) in
-    let kept = same_len_mid x.result (end - x.result) u.last.0 w.last.0 w.kept.0 in (
-      omega (arith, kept, u.kept.0, f.size_low),
+    let kept = same_len_mid x.result (end - x.result) u.new.s w.new.space w.auto.space in (
+      omega (arith, kept, u.auto.s, f.size_low),
       omega (arith, c.new.ensures, x.ensures, area-field S.requires.0, f.free-low),
       omega (arith, c.new.ensures, x.ensures, k.3, f.size-high),
     )
@@ -176,14 +176,14 @@ returns c =
     let k = facts S in
     let below : from + n ≤ x.result = omega (arith, x.ensures, S.requires.1) in
     let room : x.result + head + (n + length v) ≤ length img = omega (arith, x.ensures, k.3) in
-    let copied : u.last.0 ≡ store img (x.result + head) (part img from n) =
+    let copied : u.new.s ≡ store img (x.result + head) (part img from n) =
     u.ensures ∙ ap (λ (p : ℕ). store img (x.result + head) (part img p n)) (at-at-slice-known4 c).at.ensures in
     c.set_free.ensures
     ∙ ap₂ (set_free A.shape.area.0)
-    (place-steps (layout_of img) img v x.result from n head k.2 below room u.last.0 w.last.0 copied
+    (place-steps (layout_of img) img v x.result from n head k.2 below room u.new.s w.new.space copied
     (w.ensures
     ∙ ap (λ (k : ℕ). message k
-    (part (mid_of x.result (x.result + head + (n + length v) - x.result) u.last.0) head n ++ v))
+    (part (mid_of x.result (x.result + head + (n + length v) - x.result) u.new.s) head n ++ v))
     (width_is S.requires.0)))
     c.new.ensures
     ∙ take_space-set (layout_of img) img v x.result from n head k.2 below room A.shape.area.0

@@ -43,7 +43,7 @@ write-u32-requires c κs =
 
 same-length-2 : tie.Need-shape_of-space
 same-length-2 c =
-    c.write_u32.auto.0
+    c.write_u32.auto.s
     ∙ length-set c.args.space.now 0 97
 
 returns-2 : tie.Need-returns

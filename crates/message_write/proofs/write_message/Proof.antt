@@ -22,12 +22,12 @@ start-at-write-head c = c.before.before.before.before
 
 -- with the header written, the space is as long as before
 kept : (c : tie.After-write_head)
-    → length c.write_head.new.0 ≡ length (start-at-write-head c).args.space.now
-kept c = c.write_head.auto.0
+    → length c.write_head.new.space ≡ length (start-at-write-head c).args.space.now
+kept c = c.write_head.auto.space
 
 long : (c : tie.After-write_head)
     → let S : tie.Start = start-at-write-head c in
-    length c.write_head.new.0 ≡ S.args.head + S.args.before + length S.args.bytes.now
+    length c.write_head.new.space ≡ S.args.head + S.args.before + length S.args.bytes.now
 long c = kept c ∙ (start-at-write-head c).requires.1
 
 add-from : tie.Need-overflow_add-from
@@ -49,7 +49,7 @@ copy-requires : tie.Need-copy-requires
 copy-requires c κs =
     let W = c.before.before.before in
     let A = (start-at-copy-arg c).args in
-    let t = W.write_head.new.0 in
+    let t = W.write_head.new.space in
     mid_len (A.head + A.before) (length t) t (omega arith) ∙ omega (arith, long W)
 
 abbrev write-head-at-slice-known3 : tie.After-slice_known-3-1 → tie.After-write_head
@@ -66,8 +66,8 @@ same_length c =
     let v = c.copy in
     let W = (write-head-at-slice-known3 c) in
     let A = (start-at-slice-known3 c).args in
-    let t = W.write_head.last.0 in
-    same_len_mid (A.head + A.before) (length t - (A.head + A.before)) t v.new.0 v.auto.0 ∙ kept W
+    let t = W.write_head.new.space in
+    same_len_mid (A.head + A.before) (length t - (A.head + A.before)) t v.new.dst v.auto.dst ∙ kept W
 
 returns : tie.Need-returns
 returns c =
@@ -76,8 +76,8 @@ returns c =
     let S = (start-at-slice-known3 c) in
     let n = S.args.before in
     let head = S.args.head in
-    let t = W.write_head.last.0 in
-    store-lent t (head + n) (length t) v.new.0 (ap length v.ensures ∙ omega (arith, long W))
+    let t = W.write_head.new.space in
+    store-lent t (head + n) (length t) v.new.dst (ap length v.ensures ∙ omega (arith, long W))
     ∙ ap₂ (λ (b y : Bytes). store b (head + n) y) W.write_head.ensures v.ensures
     ∙ written_at S.args.space.now S.args.bytes.now n head (omega (arith, S.requires.0.low)) S.requires.1
 

@@ -61,13 +61,13 @@ then1-at-next2 c = c.before.before.before.before.before
 
 -- a turn: the state at its end, and the measure
 turn : (c : tie.After-next-j-in-loop-shape invariant-loop decreases-loop)
-    → After (then1-at-next2 c).loop-shape.invariant c.look-gap.new.0
+    → After (then1-at-next2 c).loop-shape.invariant c.look-gap.new.image
     c.look-gap.result.0 c.next-j-in-loop-shape.result.0
 turn c =
     let T = then1-at-next2 c in
     let looked = c.look-gap in
     walking-turn T.loop-shape.invariant _ _ _
-    (was-no T.is_vacant.ensures T.loop-shape-test.taken) looked.ensures.image-is looked.ensures.hole-is
+    (was-no T.is_vacant.ensures T.loop-shape-test.true) looked.ensures.image-is looked.ensures.hole-is
     c.next-j-in-loop-shape.ensures
 
 loop-less : tie.Need-loop-shape-smaller invariant-loop decreases-loop
@@ -79,7 +79,7 @@ loop-again c = (turn c).0
 same_length : tie.Need-shape_of-image invariant-loop decreases-loop
 same_length c =
     let L = c in
-    L.loop-shape.invariant.head.size ∙ L.clear_slot.auto.0
+    L.loop-shape.invariant.head.size ∙ L.clear_slot.auto.image
 
 returns : tie.Need-returns invariant-loop decreases-loop
 returns c =

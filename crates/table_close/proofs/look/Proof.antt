@@ -55,7 +55,7 @@ returns-2 c =
     let e = looked-moves (layout_of img) img S.args.hole.0 S.args.j.0
     (sym (stays-code img s S.requires.0.shape S.args.hole.0 S.args.j.0 _
     E.Home-of.ensures)
-    ∙ sym E.stays.ensures ∙ E.if-stays.left) in
+    ∙ sym E.stays.ensures ∙ E.if-stays.false) in
     record { hole-is = sym e.0; image-is = c.move_slot.ensures ∙ sym e.1 }
 
 pub look_spec : {M : Type 1} → statement M

@@ -50,7 +50,7 @@ copy-apart-requires c κs =
 
 -- the image half way: the entry stands in the hole too
 half : (c : tie.After-copy_apart)
-    → c.copy_apart.new.0
+    → c.copy_apart.new.s
     ≡ put_slot (layout_of c.args.image.now)
     c.args.image.now
     c.args.hole.0

@@ -63,10 +63,10 @@ kept D = D.before.before.before.before
 -- the working slice begins with the image as it was
 held : (D : tie.After-compact-number)
     → let img : Bytes = (start (asked D).before).args.image.now in
-    take (length img - 0) (drop 0 (kept D).put_part.new.0) ≡ img
+    take (length img - 0) (drop 0 (kept D).put_part.new.out) ≡ img
 held D =
     let S = start (asked D).before in
-    work-holds S.args.work.now S.args.image.now (kept D).put_part.new.0 (roomy (asked D))
+    work-holds S.args.work.now S.args.image.now (kept D).put_part.new.out (roomy (asked D))
     (kept D).put_part.ensures.0
 
 returns-2 : tie.Need-returns-then-number-ne0
@@ -74,7 +74,7 @@ returns-2 c =
     let D = c.before.before.before in
     let S = start (asked D).before in
     lists-refused compact S.args.image.now (length S.args.work.now) S.args.list.now (fits (asked D))
-    D.compact-number.result D.compact-number.new.0 D.compact-number.ensures.0 c.if-number-ne0.true
+    D.compact-number.result D.compact-number.new.image D.compact-number.ensures.0 c.if-number-ne0.true
     (D.compact-number.ensures.1
     ∙ compact-leaves S.args.image.now
     (λ h. c.if-number-ne0.true (D.compact-number.ensures.0 ∙ h)))
@@ -88,7 +88,7 @@ part-fill-list-start c = search rules
 part-fill-list-end : tie.Need-slice_bounds-fill_list-end
 part-fill-list-end c =
     let D = c.before.before.before.before in
-    omega (arith, roomy (asked D), (kept D).put_part.auto.0)
+    omega (arith, roomy (asked D), (kept D).put_part.auto.out)
 
 -- where the call was accepted
 abbrev done : tie.Else-number-ne0 → tie.After-compact-number
@@ -99,10 +99,10 @@ fill-list-requires c κs =
     let E = c.before.before in
     let D = done E in
     let S = start (asked D).before in
-    let is : length (take (length S.args.image.now - 0) (drop 0 (kept D).put_part.last.0))
+    let is : length (take (length S.args.image.now - 0) (drop 0 (kept D).put_part.new.out))
     ≡ length S.args.image.now =
     ap (λ (t : Bytes). length t) (held D) in (
-      is ∙ sym D.compact-number.kept.0,
+      is ∙ sym D.compact-number.auto.image,
       omega (
         arith,
         is,
@@ -128,10 +128,10 @@ returns-3 c =
     let D = done E in
     let S = start (asked D).before in
     let list = S.args.list.now in
-    let new = D.compact-number.last.0 in
+    let new = D.compact-number.new.image in
     lists-done compact S.args.image.now (length S.args.work.now) list (fits (asked D))
-    new F.fill_list.new.0 F.fill_list.result (sym D.compact-number.ensures.0 ∙ E.if-number-ne0.false)
-    D.compact-number.ensures.1 (sym D.compact-number.kept.0)
+    new F.fill_list.new.list F.fill_list.result (sym D.compact-number.ensures.0 ∙ E.if-number-ne0.false)
+    D.compact-number.ensures.1 (sym D.compact-number.auto.image)
     (F.fill_list.ensures.0 ∙ ap (λ (t : Bytes). length (changes_in (length list) t new)) (held D))
     (F.fill_list.ensures.1 ∙ ap (λ (t : Bytes). store list 0 (pair_bytes (changes_in (length list) t new))) (held D))
 

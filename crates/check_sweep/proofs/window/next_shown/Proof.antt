@@ -51,10 +51,10 @@ returns c =
     (L.loop.invariant.0, omega (arith, L.loop.invariant.1, L.stop-at.ensures.1), L.loop.invariant.2)
 
 add-i : tie.Need-overflow_add-i invariant-loop decreases-loop
-add-i c = omega (arith, (turn c.before).loop-i-test.taken)
+add-i c = omega (arith, (turn c.before).loop-i-test.true)
 
 loop-less : tie.Need-loop-i-smaller invariant-loop decreases-loop
-loop-less c = omega (arith, (turn c.before).loop-i-test.taken)
+loop-less c = omega (arith, (turn c.before).loop-i-test.true)
 
 loop-again : tie.Need-loop-i-preserved invariant-loop decreases-loop
 loop-again c =
@@ -69,7 +69,7 @@ loop-again c =
     let o : W.at-o.result ≡ offset_in img i =
     W.at-o.ensures ∙ W.offset_of.ensures
     ∙ ap (offset_in img) W.new.ensures in
-    let l = I.loop-i-test.taken in (
+    let l = I.loop-i-test.true in (
       omega (arith, L.loop.invariant.0),
       omega (arith, l),
       unseen-on (start_in img) (end_in img) A.lo A.hi A.from i L.loop.invariant.2

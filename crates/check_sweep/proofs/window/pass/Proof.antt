@@ -92,19 +92,19 @@ claim-requires c κs =
 same_length : tie.Need-shape_of-map-then-claim invariant-loop decreases-loop
 same_length c =
     let C = c in
-    C.claim.auto.0 ∙ C.loop-i.invariant.0
+    C.claim.auto.map ∙ C.loop-i.invariant.0
 
 -- how slot i's places were claimed
 claimed : (c : tie.After-claim invariant-loop decreases-loop) (b : Bool) → c.claim.result ≡ b
     → let L : tie.At-loop-i invariant-loop decreases-loop = c.before.before.before.before.before.before in
     let S : tie.Start invariant-loop decreases-loop = start L in
-    Claimed L.loop-i.map c.claim.new.0 (c.Shown-of.result.from - S.args.lo)
+    Claimed L.loop-i.map c.claim.new.map (c.Shown-of.result.from - S.args.lo)
     (c.lesser.result - S.args.lo) b
 claimed c b e =
     let L = c.before.before.before.before.before.before in
     let lo = (start L).args.lo in
     let from = c.Shown-of.result.from in
-    subst (λ (t : Bool). Claimed L.loop-i.map c.claim.new.0 (from - lo) (c.lesser.result - lo) t) e
+    subst (λ (t : Bool). Claimed L.loop-i.map c.claim.new.map (from - lo) (c.lesser.result - lo) t) e
     c.claim.ensures
 
 returns : tie.Need-returns-then-claim invariant-loop decreases-loop
@@ -118,7 +118,7 @@ returns c =
     let r = P.Shown-of.result in
     passing-met (start_in img) (end_in img) A.lo A.hi A.best A.carried L.loop-i.map L.loop-i.i
     L.loop-i.next L.loop-i.invariant.1 P.loop-i-test.true r.from r.end
-    (piece P) C.claim.new.0 C.lesser.result C.lesser.ensures S.requires.0.clear
+    (piece P) C.claim.new.map C.lesser.result C.lesser.ensures S.requires.0.clear
     (claimed C _ c.if-claim.true)
 
 carried-on-requires : tie.Need-carried_on-next-requires invariant-loop decreases-loop
@@ -140,7 +140,7 @@ next-shown-requires-2 c κs =
     (S.requires.0, omega (arith, (turn c).loop-i-test.true))
 
 loop-less : tie.Need-loop-i-smaller invariant-loop decreases-loop
-loop-less c = omega (arith, (turn c.before).loop-i-test.taken, c.next_shown-i-in-loop-i.ensures.0)
+loop-less c = omega (arith, (turn c.before).loop-i-test.true, c.next_shown-i-in-loop-i.ensures.0)
 
 loop-again : tie.Need-loop-i-preserved invariant-loop decreases-loop
 loop-again c =
@@ -153,12 +153,12 @@ loop-again c =
     let img = A.image.now in
     let r = P.Shown-of.result in
     let n = c.next_shown-i-in-loop-i in (
-      C.claim.kept.0 ∙ L.loop.invariant.0,
-      passing-over (start_in img) (end_in img) A.lo A.hi A.best C.claim.last.0 (L.loop.i + 1)
+      C.claim.auto.map ∙ L.loop.invariant.0,
+      passing-over (start_in img) (end_in img) A.lo A.hi A.best C.claim.new.map (L.loop.i + 1)
           E.carried_on-next.result n.result
           (passing-on (start_in img) (end_in img) A.lo A.hi A.best A.carried L.loop.map L.loop.i
           L.loop.next L.loop.invariant.1 P.loop-test.taken r.from r.end
-          (piece P) C.claim.last.0 C.lesser.result C.lesser.ensures S.requires.0.order
+          (piece P) C.claim.new.map C.lesser.result C.lesser.ensures S.requires.0.order
           (claimed C _ E.if-claim.false) E.carried_on-next.result E.carried_on-next.ensures)
           n.ensures.0 n.ensures.1 n.ensures.2,
     )

@@ -11,7 +11,7 @@ pass-requires : tie.Need-pass-requires
 pass-requires c κs =
     let Z = c in
     let S = c in
-    (S.requires.0, omega (arith, S.requires.1, Z.clear.auto.0), marked-zeros _ _ Z.clear.ensures)
+    (S.requires.0, omega (arith, S.requires.1, Z.clear.auto.map), marked-zeros _ _ Z.clear.ensures)
 
 same_length : tie.Need-shape_of-map
 same_length c = search rules

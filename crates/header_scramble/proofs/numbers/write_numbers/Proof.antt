@@ -57,7 +57,7 @@ loop-again c =
           ∙ ap (λ (t : Bytes). set_field t (A.at + 4 * i) (get_or xs i 0)) L.loop-i.invariant.0
           ∙ number-stored A.image.now A.at xs i (omega arith) (omega arith),
       omega arith,
-      W.write_u32.auto.0 ∙ L.loop-i.invariant.2,
+      W.write_u32.auto.s ∙ L.loop-i.invariant.2,
     )
 
 same_length : tie.Need-shape_of-image invariant-loop decreases-loop
