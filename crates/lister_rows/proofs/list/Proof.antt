@@ -35,10 +35,7 @@ returns c =
     let S = c in
     let img = S.args.image.now in
     let text = listed-closed img O.open_number-number.result O.open_number-number.ensures I.if-number-ne0.true in
-    put_same (sym text) P.Put-refused.ensures
-
-slice-aggregate-put-bytes : tie.Need-GONE-slice-aggregate-put-bytes
-slice-aggregate-put-bytes c = search rules
+    put_same (sym text) P.put_refused.ensures
 
 put-bytes-requires : tie.Need-put_bytes-at-requires
 put-bytes-requires c κs =
