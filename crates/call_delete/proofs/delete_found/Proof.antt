@@ -25,16 +25,16 @@ img c = c.args.image.now
 abbrev Sound? : Bytes → ℕ → Bool → Type 0
 Sound? b i t = message_sound (layout_of b) b (offset_of (layout_of b) (slot (layout_of b) b i)) ≡ t
 
-abbrev match-keys1-at-else1 : tie.Else-not-message_sound → tie.In-Met-1
-match-keys1-at-else1 c = c.before.before.before.before.before
+abbrev match-keys1-at-else1 : tie.Else-not-message_sound → tie.In-Met
+match-keys1-at-else1 c = c.before.before.before
 
 abbrev start-at-else1 : tie.Else-not-message_sound → tie.Start
-start-at-else1 c = c.before.before.before.before.before.before.before
+start-at-else1 c = c.before.before.before.before.before
 
-abbrev found-at-else1 : tie.Else-not-message_sound → tie.In-Met-2
-found-at-else1 c = c.before.before.before.before
+abbrev found-at-else1 : tie.Else-not-message_sound → tie.In-Met
+found-at-else1 c = c.before.before.before
 
-is-sound : (c : tie.Else-not-message_sound) → Sound? (img (start-at-else1 c)) (found-at-else1 c).found-1.given.0.0.0 true
+is-sound : (c : tie.Else-not-message_sound) → Sound? (img (start-at-else1 c)) (found-at-else1 c).in-Met.slot.0 true
 is-sound c =
     ap (message_sound (layout_of (img (start-at-else1 c))) (img (start-at-else1 c)))
     (sym c.offset_of-o.ensures)
@@ -53,19 +53,19 @@ enum-known-found c = search rules
 returns : tie.Need-returns-in_default
 returns c =
     let S = c.before.before in
-    refused (img S) _ _ 14 refl (removed-14 _ _ _ (other-met S.args.found c.in_default.keys2)) (λ z. omega arith)
+    refused (img S) _ _ 14 refl (removed-14 _ _ _ (other-met S.args.found c.in_default.in_default-own.keys2)) (λ z. omega arith)
 
 abbrev start-at-offset-of-arg : tie.In-Met → tie.Start
-start-at-offset-of-arg c = c.before.before.before.before
+start-at-offset-of-arg c = c.before.before
 
 offset-of-requires : tie.Need-offset_of-o-requires
 offset-of-requires c κs = (
   (start-at-offset-of-arg c).requires.0,
-  met-within c.found-1.given.1 (start-at-offset-of-arg c).requires.1,
+  met-within c.in-Met.is (start-at-offset-of-arg c).requires.1,
 )
 
 abbrev start-at-message-sound-arg : tie.After-offset_of-o → tie.Start
-start-at-message-sound-arg c = c.before.before.before.before.before
+start-at-message-sound-arg c = c.before.before.before
 
 message-sound-requires : tie.Need-message_sound-requires
 message-sound-requires c κs = (start-at-message-sound-arg c).requires.0
@@ -73,14 +73,14 @@ message-sound-requires c κs = (start-at-message-sound-arg c).requires.0
 same_length : tie.Need-shape_of-image-then-not-message_sound
 same_length c = search rules
 
-abbrev match-keys1-at-then1 : tie.Then-not-message_sound → tie.In-Met-1
-match-keys1-at-then1 c = c.before.before.before.before.before
+abbrev match-keys1-at-then1 : tie.Then-not-message_sound → tie.In-Met
+match-keys1-at-then1 c = c.before.before.before
 
 abbrev start-at-then1 : tie.Then-not-message_sound → tie.Start
-start-at-then1 c = c.before.before.before.before.before.before.before
+start-at-then1 c = c.before.before.before.before.before
 
-abbrev found-at-then1 : tie.Then-not-message_sound → tie.In-Met-2
-found-at-then1 c = c.before.before.before.before
+abbrev found-at-then1 : tie.Then-not-message_sound → tie.In-Met
+found-at-then1 c = c.before.before.before
 
 returns-2 : tie.Need-returns-then-not-message_sound
 returns-2 c =
@@ -92,11 +92,11 @@ returns-2 c =
     refused (img S) _ _ 11 (met-is m.1) (removed-11 (layout_of (img S)) (img S) m.0.0.0 (unsound (img S) _ bad))
     (λ z. omega arith)
 
-abbrev found-at-read-u32-arg : tie.Else-not-message_sound → tie.In-Met-2
-found-at-read-u32-arg c = c.before.before.before.before
+abbrev found-at-read-u32-arg : tie.Else-not-message_sound → tie.In-Met
+found-at-read-u32-arg c = c.before.before.before
 
 abbrev start-at-read-u32-arg : tie.Else-not-message_sound → tie.Start
-start-at-read-u32-arg c = c.before.before.before.before.before.before.before
+start-at-read-u32-arg c = c.before.before.before.before.before
 
 read-u32-requires : tie.Need-read_u32-points-requires
 read-u32-requires c κs = omega (arith, (opened-facts _ (start-at-read-u32-arg c).requires.0.accepted).size_low)
@@ -108,10 +108,10 @@ abbrev offset-of-arg-at-then2 : tie.Then-points-eq0 → tie.In-Met
 offset-of-arg-at-then2 c = c.before.before.before.before.before
 
 abbrev start-at-then2 : tie.Then-points-eq0 → tie.Start
-start-at-then2 c = c.before.before.before.before.before.before.before.before.before
+start-at-then2 c = c.before.before.before.before.before.before.before
 
-abbrev found-at-then2 : tie.Then-points-eq0 → tie.In-Met-2
-found-at-then2 c = c.before.before.before.before.before.before
+abbrev found-at-then2 : tie.Then-points-eq0 → tie.In-Met
+found-at-then2 c = c.before.before.before.before.before
 
 returns-3 : tie.Need-returns-then-points-eq0
 returns-3 c =
@@ -125,14 +125,14 @@ returns-3 c =
 abbrev offset-of-at-remove-arg : tie.After-remove-arg-1 → tie.After-offset_of-o
 offset-of-at-remove-arg c = c.before.before.before.before.before
 
-abbrev found-at-remove-arg : tie.After-remove-arg-1 → tie.In-Met-2
-found-at-remove-arg c = c.before.before.before.before.before.before.before
+abbrev found-at-remove-arg : tie.After-remove-arg-1 → tie.In-Met
+found-at-remove-arg c = c.before.before.before.before.before.before
 
 abbrev start-at-offset-of : tie.After-offset_of-o → tie.Start
-start-at-offset-of c = c.before.before.before.before.before
+start-at-offset-of c = c.before.before.before
 
 abbrev start-at-remove-arg : tie.After-remove-arg-1 → tie.Start
-start-at-remove-arg c = c.before.before.before.before.before.before.before.before.before.before
+start-at-remove-arg c = c.before.before.before.before.before.before.before.before
 
 abbrev message-sound-at-remove-arg : tie.After-remove-arg-1 → tie.After-message_sound
 message-sound-at-remove-arg c = c.before.before.before.before
@@ -159,10 +159,10 @@ abbrev else1-at-slice-known2 : tie.After-slice_known-2-1 → tie.Else-not-messag
 else1-at-slice-known2 c = c.before.before.before.before.before.before
 
 abbrev start-at-slice-known2 : tie.After-slice_known-2-1 → tie.Start
-start-at-slice-known2 c = c.before.before.before.before.before.before.before.before.before.before.before.before.before
+start-at-slice-known2 c = c.before.before.before.before.before.before.before.before.before.before.before
 
-abbrev found-at-slice-known2 : tie.After-slice_known-2-1 → tie.In-Met-2
-found-at-slice-known2 c = c.before.before.before.before.before.before.before.before.before.before
+abbrev found-at-slice-known2 : tie.After-slice_known-2-1 → tie.In-Met
+found-at-slice-known2 c = c.before.before.before.before.before.before.before.before.before
 
 abbrev read-u32-at-slice-known2 : tie.After-slice_known-2-1 → tie.After-read_u32-points
 read-u32-at-slice-known2 c = c.before.before.before.before.before

@@ -155,14 +155,14 @@ else2-at-end c = c.before.before.before.before
 returns-3 : tie.Need-returns
 returns-3 c =
     let Z = else2-at-end c in
-    let R = Z.before in
+    let R = Z in
     let E = else1-at-room R in
     let S = start-at-else1 E in
     let A = S.args in
     let img = A.image.now in
     let g = layout_of img in
     let new = c.relocate_records in
-    place-done g img (placed S) (after S) (text S) (longer E) R.room-number.result (asked R) Z.if-number-ne0.false
+    place-done g img (placed S) (after S) (text S) (longer E) R.room_number-number.result (asked R) Z.if-number-ne0.false
     new.new.image
     (new.ensures
     ∙ sym (renewed-moved g img A.slot.0 A.o.0 (key_in img A.slot.0) (text S) 2 (text S) (longer E)))
