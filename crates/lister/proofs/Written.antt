@@ -1,6 +1,6 @@
 -- A text that was put at the start of a slice is the slice's front.
 -- Assumes nothing.
-use Rattle.std.proofs.Common.{arith, ◌≡◌, ap₂, ◌∙◌, ℕ, ◌++◌, length, take, drop}
+use Rattle.std.proofs.Common.{arith, ◌≡◌, ap₂, ◌∙◌, ℕ, length, take, drop}
 use Rattle.std.proofs.Math.Seq.{take-append_seam}
 use Rattle.spec_file.specs.Bytes.{Bytes, store}
 use Rattle.lister_text.specs.Puts.{Put}

@@ -1,10 +1,8 @@
 -- What was read, and its text. Assumes nothing.
-use Rattle.std.proofs.Common.{◌≡◌, ◌≤◌, arith, subst, take, length}
+use Rattle.std.proofs.Common.{◌≤◌, arith, subst, take, length}
 use Rattle.std.proofs.lemmas.List.{length-take-le}
 use Rattle.std.proofs.lemmas.Result.{on_ok_weaker}
 use Rattle.std.specs.Io.KnownBytes.{Appends}
-use Rattle.spec_file.specs.Bytes.{Bytes}
-use Rattle.lister_rows.specs.Listed.{printed}
 use Rattle.lister.proofs.Written.{put-text}
 use Rattle.lister.proofs.list_input.Goals as goal
 
@@ -15,8 +13,7 @@ returns g c =
     let few : length (take got input) ≤ 65537 =
     omega (arith, length-take-le got input c.read_full-got.ensures.within, c.read_full-got.auto.buf) in
     let text = put-text _ _ _ _ c.print-end.ensures.text in
-    on_ok_weaker c.write_all.result (λ w.
-    (
+    on_ok_weaker c.write_all.result (λ w. (
       take got input,
       few,
       c.read_full-got.ensures.bytes,

@@ -3,7 +3,6 @@ use native.Mathlib.Omega.{arith}
 use mathlib.Core.Path.{refl, sym, ap, ◌∙◌}
 use lib.ListN.{length, length-append}
 use Rattle.spec_file.specs.Image.{layout_of}
-use Rattle.law_file.proofs.Opened.{opened-facts}
 use Rattle.table_search.proofs.Headers.{layout-slots}
 use Rattle.lister_rows.specs.Listed.{heading, lines}
 use Rattle.lister_text.proofs.Putting.{put_same, put_on}
