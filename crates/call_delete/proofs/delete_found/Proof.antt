@@ -85,11 +85,11 @@ found-at-then1 c = c.before.before.before
 returns-2 : tie.Need-returns-then-not-message_sound
 returns-2 c =
     let S = (start-at-then1 c) in
-    let m = (found-at-then1 c).found-1.given in
-    let bad : Sound? (img S) m.0.0.0 false =
+    let m = (found-at-then1 c).in-Met in
+    let bad : Sound? (img S) m.slot.0 false =
     ap (message_sound (layout_of (img S)) (img S)) (sym c.offset_of-o.ensures)
     ∙ was-no c.message_sound.ensures c.if-not-message_sound.true in
-    refused (img S) _ _ 11 (met-is m.1) (removed-11 (layout_of (img S)) (img S) m.0.0.0 (unsound (img S) _ bad))
+    refused (img S) _ _ 11 (met-is m.is) (removed-11 (layout_of (img S)) (img S) m.slot.0 (unsound (img S) _ bad))
     (λ z. omega arith)
 
 abbrev found-at-read-u32-arg : tie.Else-not-message_sound → tie.In-Met
@@ -116,9 +116,9 @@ found-at-then2 c = c.before.before.before.before.before
 returns-3 : tie.Need-returns-then-points-eq0
 returns-3 c =
     let S = (start-at-then2 c) in
-    let m = (found-at-then2 c).found-1.given in
-    refused (img S) _ _ 11 (met-is m.1)
-    (removed-11 (layout_of (img S)) (img S) m.0.0.0
+    let m = (found-at-then2 c).in-Met in
+    refused (img S) _ _ 11 (met-is m.is)
+    (removed-11 (layout_of (img S)) (img S) m.slot.0
     (no-point (img S) _ (is-sound c.before.before) (sym c.read_u32-points.ensures ∙ c.if-points-eq0.true)))
     (λ z. omega arith)
 
@@ -142,10 +142,10 @@ else1-at-remove-arg c = c.before.before.before
 
 remove-requires : tie.Need-remove-requires
 remove-requires c κs =
-    let m = (found-at-remove-arg c).found-1.given in
+    let m = (found-at-remove-arg c).in-Met in
     let at = (offset-of-at-remove-arg c).offset_of-o.ensures in (
       (start-at-remove-arg c).requires.0,
-      met-within m.1 (start-at-remove-arg c).requires.1,
+      met-within m.is (start-at-remove-arg c).requires.1,
       at,
       was-yes (message-sound-at-remove-arg c).message_sound.ensures (else1-at-remove-arg c).if-not-message_sound.false,
       c.read_u32-points.ensures,
@@ -174,11 +174,11 @@ returns-4 : tie.Need-returns
 unfolding deleted
 returns-4 c =
     let S = (start-at-slice-known2 c) in
-    let m = (found-at-slice-known2 c).found-1.given in
-    let i = m.0.0.0 in
+    let m = (found-at-slice-known2 c).in-Met in
+    let i = m.slot.0 in
     let g = layout_of (img S) in
     let p = (read-u32-at-slice-known2 c).read_u32-points in
-    let is = met-is m.1 in (
+    let is = met-is m.is in (
       sym (ap (λ (x : Probe). first_no (removed_asks g (img S) x)) is
           ∙ removed-0 g (img S) i (is-sound (else1-at-slice-known2 c))
           (some-point (img S) p.result p.ensures (else2-at-slice-known2 c).if-points-eq0.false)),

@@ -142,7 +142,7 @@ returns-4 c =
     let W = c in
     let T = c.before.before.before in
     let Q = search-at-else3 T in
-    let E = Q in
+    let E = Q.before in
     let S = start-at-else2 E in
     locates-new (pair S) S.args.key.now (accepted (shape-at-else2 E).before) (allowed E) _
     (probe_of W.search-sought.result.found)

@@ -100,13 +100,13 @@ returns-2 : tie.Need-returns-then-not-message_sound
 returns-2 c =
     let S = (start-at-nothing2 c) in
     let r = c.nothing-then-not-message_sound.ensures in
-    let m = (found-at-nothing2 c).found-1.given in
-    let bad : Sound? (img S) m.0.0.0 false =
+    let m = (found-at-nothing2 c).in-Met in
+    let bad : Sound? (img S) m.slot.0 false =
     ap (message_sound (layout_of (img S)) (img S)) (sym c.offset_of-o.ensures)
     ∙ was-no c.message_sound.ensures c.if-not-message_sound.true in
-    met-shows (met-is m.1)
-    (shows-refused (layout_of (img S)) (img S) (met m.0.0.0) _ _ _
-    (r.0 ∙ sym (shown-11 (layout_of (img S)) (img S) m.0.0.0 bad))
+    met-shows (met-is m.is)
+    (shows-refused (layout_of (img S)) (img S) (met m.slot.0) _ _ _
+    (r.0 ∙ sym (shown-11 (layout_of (img S)) (img S) m.slot.0 bad))
     (λ z. omega (arith, r.0)) r.1 r.2)
 
 is-active-requires : tie.Need-is_active-requires
@@ -128,9 +128,9 @@ returns-3 : tie.Need-returns-then-not-is_active
 returns-3 c =
     let S = (start-at-nothing3 c) in
     let r = c.nothing-then-not-is_active.ensures in
-    let m = (found-at-nothing3 c).found-1.given in
-    met-shows (met-is m.1)
-    (shows-inactive (layout_of (img S)) (img S) m.0.0.0 (is-sound c.before.before.before) _ _ _ r.0
+    let m = (found-at-nothing3 c).in-Met in
+    met-shows (met-is m.is)
+    (shows-inactive (layout_of (img S)) (img S) m.slot.0 (is-sound c.before.before.before) _ _ _ r.0
     (ap (is_active (img S)) (sym (offset-of-at-nothing3 c).offset_of-o.ensures)
     ∙ was-no c.is_active.ensures c.if-not-is_active.true)
     r.1 r.2)
@@ -173,11 +173,11 @@ else1-at-length-at c = c.before.before.before.before
 returns-4 : tie.Need-returns
 returns-4 c =
     let S = (start-at-length-at c) in
-    let m = (found-at-length-at c).found-1.given in
+    let m = (found-at-length-at c).in-Met in
     let g = layout_of (img S) in
     let at = (offset-of-at-length-at c).offset_of-o.ensures in
-    met-shows (met-is m.1)
-    (shows-active g (img S) m.0.0.0 (is-sound (else1-at-length-at c)) _ _ _ refl
+    met-shows (met-is m.is)
+    (shows-active g (img S) m.slot.0 (is-sound (else1-at-length-at c)) _ _ _ refl
     (ap (is_active (img S)) (sym at)
     ∙ was-yes c.is_active.ensures c.if-not-is_active.false)
     (omega (arith, c.text_start-start.ensures, at, shape-head S.requires.0))

@@ -59,12 +59,12 @@ present : (O : tie.After-offset_of-o) (w : Windows)
     → DeleteOnly A.args.image.now (probe_of A.args.found) w
 present O w h key e =
     let S = start O in
-    let m = O.found-1.given in
-    let l = met-within m.1 S.requires.1 in
+    let m = O.in-Met in
+    let l = met-within m.is S.requires.1 in
     delete-present S.args.image.now w (slot_of O)
     (omega (arith, l, layout-slots S.args.image.now S.args.shape S.requires.0.shape))
     (opened-room S.args.image.now (opened-facts S.args.image.now S.requires.0.accepted))
-    h key (e ∙ met-is m.1)
+    h key (e ∙ met-is m.is)
 
 returns-2 : tie.Need-returns-then-not-message_sound
 returns-2 c =

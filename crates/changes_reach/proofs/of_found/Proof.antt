@@ -45,22 +45,22 @@ none-requires c κs = search rules
 returns : tie.Need-returns-in-Met
 returns c =
     let A = c.args in
-    let m = c.found-1.given in (
+    let m = c.in-Met in (
       c.of_present.ensures.0,
-      λ key bytes mode e len. add-present A.image.now A.m c.of_present.result m.0.0.0
-          c.of_present.ensures.1 key bytes mode (e ∙ met-is m.1) len,
+      λ key bytes mode e len. add-present A.image.now A.m c.of_present.result m.slot.0
+          c.of_present.ensures.1 key bytes mode (e ∙ met-is m.is) len,
     )
 
 returns-2 : tie.Need-returns-in-Empty
 returns-2 c =
     let N = c in
     let A = N.args in
-    let m = N.found-in-Empty-1.given in
+    let m = N.in-Empty in
     let w = c.of_entry.result in (
       c.of_entry.ensures.0,
-      λ key bytes mode e len. add-new A.image.now A.m w m.0.0.0
-          (subst (λ (a : ℕ). Entry A.image.now m.0.0.0 a A.m w) N.new.ensures c.of_entry.ensures.1)
-          key bytes mode (e ∙ empty-is m.1) len,
+      λ key bytes mode e len. add-new A.image.now A.m w m.slot.0
+          (subst (λ (a : ℕ). Entry A.image.now m.slot.0 a A.m w) N.new.ensures c.of_entry.ensures.1)
+          key bytes mode (e ∙ empty-is m.is) len,
     )
 
 returns-3 : tie.Need-returns-in-Exhausted

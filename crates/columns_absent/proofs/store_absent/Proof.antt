@@ -152,7 +152,7 @@ returns-4 : tie.Need-returns
 unfolding added_at fresh_text
 returns-4 c =
     let Z = else2-at-end c in
-    let R = Z in
+    let R = Z.before in
     let E = else1-at-room R in
     let S = start-at-else1 E in
     let img = S.args.image.now in

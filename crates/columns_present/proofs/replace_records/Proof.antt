@@ -155,7 +155,7 @@ else2-at-end c = c.before.before.before.before
 returns-3 : tie.Need-returns
 returns-3 c =
     let Z = else2-at-end c in
-    let R = Z in
+    let R = Z.before in
     let E = else1-at-room R in
     let S = start-at-else1 E in
     let A = S.args in

@@ -117,8 +117,8 @@ summed c = c.before.before.before.before.before
 
 add-i : tie.Need-overflow_add-i invariant-loop decreases-loop
 add-i c =
-    let I = (summed c).before.before.before in
-    let S = I.before.before.before in
+    let I = summed c in
+    let S = I in
     omega (arith, (header S.args.image.now S.args.shape S.requires.opened).slots-high, I.loop-i-test.true)
 
 loop-less : tie.Need-loop-i-smaller invariant-loop decreases-loop
@@ -128,9 +128,9 @@ loop-again : tie.Need-loop-i-preserved invariant-loop decreases-loop
 loop-again c =
     let P = c in
     let N = c in
-    let I = (summed c).before.before.before in
-    let L = I.before in
-    let S = L.before.before in
+    let I = summed c in
+    let L = I in
+    let S = L in
     let img = S.args.image.now in
     let s = S.args.shape in
     let x = L.loop-i.image in (

@@ -74,7 +74,7 @@ same-length-4 c = search rules
 returns-2 : tie.Need-returns-then-number-ne0 invariant-loop decreases-loop
 returns-2 c =
     let M = moved_at c.before in
-    let A = M in
+    let A = M.before in
     let L = loop-at (searched A) in
     stage-refused _ _ _ _ _ _ _ _ _ L.loop-left.invariant (slot_at A) (found A) _ _ _ M.move_point-number.ensures c.if-number-ne0.true
 
@@ -95,7 +95,7 @@ loop-less c = omega (arith, more c)
 loop-again : tie.Need-loop-left-preserved invariant-loop decreases-loop
 loop-again c =
     let M = moved_at c.before.before in
-    let A = M in
+    let A = M.before in
     let L = loop-at (searched A) in
     stage-on _ _ _ _ _ _ _ _ _ L.loop-left.invariant (slot_at A) (found A) _ _ _ M.move_point-number.ensures
     c.if-number-ne0.false (more c) _ c.number-from.ensures

@@ -47,7 +47,7 @@ turn c = c.before.before.before.before
 
 returns : tie.Need-returns-then-wrapping_sub_usize-span invariant-loop decreases-loop
 returns c =
-    let L = (turn c.before).before in
+    let L = turn c.before in
     (L.loop-i.invariant.0, omega (arith, L.loop-i.invariant.1, L.stop_at-stop.ensures.1), L.loop-i.invariant.2)
 
 add-i : tie.Need-overflow_add-i invariant-loop decreases-loop

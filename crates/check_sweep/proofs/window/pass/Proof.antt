@@ -146,8 +146,8 @@ loop-again : tie.Need-loop-i-preserved invariant-loop decreases-loop
 loop-again c =
     let E = c.before in
     let C = claim-at-end E in
-    let P = C in
-    let L = P in
+    let P = C.before.before.before in
+    let L = P.before.before.before in
     let S = start L in
     let A = S.args in
     let img = A.image.now in
