@@ -8,7 +8,6 @@ use lib.ListN.{length}
 use Rattle.spec_file.specs.Image.{layout_of}
 use Rattle.spec_file.specs.Questions.{ask, first_no}
 use Rattle.spec_conversion.specs.Convert.{lengths_told, target_holds, converted}
-use Rattle.law_file.proofs.Tests.{was-no, was-yes}
 use Rattle.law_file.proofs.Outcomes.{settled-yes, settled-no}
 use Rattle.header_layout.proofs.Shaped.{shape-head, shape-area, head-range}
 use Rattle.call_convert.proofs.Told.{other-head, other-most, asks-20, asks-13, asks-0, number-sound, checked-all}
