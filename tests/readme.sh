@@ -4,7 +4,7 @@
 # printed. Besides: the numbers of must-fail edits, crates and seeded faults on the pages are those of the tree, the entries of
 # docs/DECISIONS.md stand in the order of their numbers, docs/layers.svg and docs/FUNCTIONS.md are what docs/layers.awk and
 # docs/functions.awk make, and links to headings lead somewhere. The last line is 'N passed, M failed'.
-#   LIB=path    the library, from the repository's root; target/staticlib/libstation.a unless given
+#   LIB=path    the library, from the repository's root; crates/station/out/libstation.a unless given
 #   BHTF=path   a command that is already built, with bhtf-mqtt beside it, in place of building them
 #   --samples   prints what the commands print, to be looked at when a sample is written
 set -u
