@@ -110,6 +110,9 @@ told() {
   fi
 }
 
+# of_function: of lines FILE FACT, where FILE is one of the files of a function's proof, its folder in the place of it, for a goal has one name there
+of_function() { sed -E 's#/(Proof|Answers|Invariants)\.antt # #'; }
+
 # in_full EDIT FACT: tries the edit, and holds what is refused to the fact
 in_full() {
   local edit=$1 room own file name reason status=0
@@ -120,7 +123,7 @@ in_full() {
     if grep -qE "$ill" "$room/said"; then
       echo "$edit is not well formed: $(grep -m 1 -E "$ill" "$room/said" | cut -c1-200)"
       status=1
-    elif ! cut -d' ' -f1,2 <<<"$own" | grep -qxF -- "$2"; then
+    elif ! cut -d' ' -f1,2 <<<"$own" | of_function | grep -qxF -- "$(of_function <<<"$2")"; then
       echo "$edit does not fall at $2, but at: $(cut -d' ' -f1,2 <<<"$own" | uniq | tr '\n' ' ')"
       status=1
     elif grep -qE "$shape" <<<"$own"; then
@@ -194,7 +197,7 @@ fall() {
     *) echo "$edit: $line"; return 1 ;;
   esac
   at=$(first "$edit")
-  if [ "$at" = "$fact" ]; then return 0; fi
+  if [ "$(of_function <<<"$at")" = "$(of_function <<<"$fact")" ]; then return 0; fi
   in_full_count=$((in_full_count + 1))
   in_full "$edit" "$fact"
 }
