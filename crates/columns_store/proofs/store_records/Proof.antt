@@ -37,8 +37,8 @@ start-at-sought2 c = c.before.before.before.before.before
 
 reached : (c : tie.In-At)
     → let A = (start-at-sought2 c).args in
-    let s = c.sought-in-At-1.given.0 in
-    Reached A.image.now A.key.now true s.0 s.1.0 s.1.1.0
+    let s = c.in-At in
+    Reached A.image.now A.key.now true s.shape s.found s.field-2
 reached c =
     let A = (start-at-sought2 c).args in
     reached-is A.image.now A.key.now true c.seek-sought.ensures c.in-At.is
