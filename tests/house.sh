@@ -16,9 +16,9 @@ allowed=tests/house-allowed.txt
 times() { sort | uniq -c | awk -v rule="$1" '{ print rule, $1, $2 }'; }
 
 found() {
-  grep -rE --include='*.rt' --include='*.antt' '^.{121}' crates | grep -vE '^[^:]*: *(pub )?(ghost )?use ' | cut -d: -f1 | times columns
+  grep -rE --exclude-dir=out --include='*.rt' --include='*.antt' '^.{121}' crates | grep -vE '^[^:]*: *(pub )?(ghost )?use ' | cut -d: -f1 | times columns
   # a chain is written tight, c.before.before; one with spaces may go on in the next line
-  find crates -name '*.antt' | sort | xargs awk '
+  find crates -name out -prune -o -name '*.antt' -print | sort | xargs awk '
     function ended() {
       gsub(/ +/, " ", text)
       n = gsub(chain, "", text)
@@ -28,7 +28,7 @@ found() {
     FNR == 1 { if (file) ended(); file = FILENAME; text = "" }
     { text = text " " $0 }
     END { ended() }'
-  find crates -name '*.rt' -o -name '*.antt' | sort | xargs awk '
+  find crates -name out -prune -o '(' -name '*.rt' -o -name '*.antt' ')' -print | sort | xargs awk '
     FNR == 1 { bare = $0 !~ /^(--|\/\/)/; modules = 0 }
     /^pub mod / { modules++ }
     bare && (FILENAME ~ /\/Lib\.antt$/ ? modules == 4 : FNR == 1) { print "head", 1, FILENAME }'
