@@ -8,7 +8,7 @@
 set -u
 quick=0
 [ "${1:-}" = --quick ] && { quick=1; shift; }
-LIB=${LIB:-target/staticlib/libstation.a}
+LIB=${LIB:-crates/station/out/libstation.a}
 cd "$(dirname "$0")/.." || exit 2
 LIB=$(realpath "$LIB") || exit 2
 directory=${1:-target/bench}

@@ -20,7 +20,7 @@
 #                            sections of docs/PERFORMANCE.md
 #     --self                 plain C in the library's place, to test the
 #                            benchmark; writes to target/bench only
-#     LIB=path               of the library (default: rt staticlib station)
+#     LIB=path               of the library (default: rt lib in crates/station)
 #
 # The last line is 'N passed, M failed': comparisons of images, answers and
 # contents. Exit status 1 if one failed or a subject did.
@@ -66,8 +66,8 @@ find_library() {
     make -s -C bench standin || return
     LIB=$PWD/$bin/libstandin.a
   elif [ -z "$LIB" ]; then
-    LIB=$PWD/target/staticlib/libstation.a
-    [ -f "$LIB" ] || rt staticlib station
+    LIB=$PWD/crates/station/out/libstation.a
+    [ -f "$LIB" ] || (cd crates/station && rt lib)
   fi
   [ -f "$LIB" ]
 }

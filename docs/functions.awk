@@ -17,7 +17,7 @@ function sentence(words) {
 
 FILENAME == "crates.txt" && /^# ---- / { words = ""; next }
 FILENAME == "crates.txt" && /^# / { words = substr($0, 3); next }
-FILENAME == "crates.txt" && /^[a-z0-9_]+:/ { name = $0; sub(/:.*/, "", name); crate[++crates] = name; holds[name] = words; next }
+FILENAME == "crates.txt" && /^[a-z0-9_]+( staticlib)?:/ { name = $0; sub(/[ :].*/, "", name); crate[++crates] = name; holds[name] = words; next }
 FILENAME == "crates.txt" { next }
 
 FILENAME ~ /\.rt$/ && !/^ *\/\// && match($0, /(^| )fn [a-z0-9_]+/) {
@@ -52,8 +52,9 @@ END {
   print "`tests/readme.sh` fails if it is older than these. [ARCHITECTURE](ARCHITECTURE.md) says how the parts belong together, and"
   print "[PROMISES](PROMISES.md) which definition a call meets.\n"
   print "## The proved library\n"
-  print "Each function stands with its contract; its proof is `proofs/FUNCTION/Proof.antt` of the same crate. Crates of definitions and laws have no"
-  print "functions, and are in [a table of ARCHITECTURE](ARCHITECTURE.md#which-specification-file-is-which-crates).\n"
+  print "Each function stands with its contract; its proof is in the folder `proofs/FUNCTION` of the same crate, and where there is none the prover"
+  print "finds it. Crates of definitions and laws have no functions, and are in"
+  print "[a table of ARCHITECTURE](ARCHITECTURE.md#which-specification-file-is-which-crates).\n"
   print "| Crate | What it holds | Functions |\n|---|---|---|"
   for (i = 1; i <= crates; i++) {
     name = crate[i]

@@ -66,15 +66,15 @@ function host(what, says, x) {
   next
 }
 
-/^[a-z_]+:/ {
+/^[a-z_]+( staticlib)?:/ {
   name = $1
-  sub(/:.*/, "", name)
+  sub(/[ :].*/, "", name)
   of[name] = group
   crates++
   short = name
   if (index(name, group) == 1) short = substr(name, length(group) + 1)
   names[group] = names[group] (names[group] == "" ? "" : ", ") short
-  for (i = 2; i <= NF; i++) needs[name] = needs[name] " " $i
+  for (i = $1 ~ /:/ ? 2 : 3; i <= NF; i++) needs[name] = needs[name] " " $i
 }
 
 END {

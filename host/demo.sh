@@ -2,7 +2,7 @@
 # Builds the library and the command, and runs the main job on the control
 # points of a small site. What it makes stays in the folder demo beside the
 # command.
-#   LIB=path   another archive than target/staticlib/libstation.a, from the
+#   LIB=path   another archive than crates/station/out/libstation.a, from the
 #              repository's root
 #   RT=path    the prover's command, if it is not rt
 #   OUT=path   where to build, from host/; build unless given
@@ -41,7 +41,8 @@ show_into() {
 
 # Is the archive missing, or older than a source of it?
 stale() {
-  [ ! -e "$1" ] || [ -n "$(find crates crates.txt -newer "$1" -print -quit)" ]
+  [ ! -e "$1" ] ||
+    [ -n "$(find crates crates.txt -path 'crates/*/out' -prune -o -type f -newer "$1" -print -quit)" ]
 }
 
 # How many crates the library rests on, itself included.
@@ -54,12 +55,12 @@ crates() {
       n = split(rests[name], below, " ")
       for (i = 1; i <= n; i++) count(below[i])
     }
-    !/^#/ && NF { rests[$1] = $2 }
+    !/^#/ && NF { sub(/ .*/, "", $1); rests[$1] = $2 }
     END { count("station"); print all }' crates.txt
 }
 
-# Proves the library: a line for each crate, numbered, and all that was
-# said if it fails.
+# Proves the library: a line for each crate that was not proved yet, numbered,
+# and all that was said if it fails.
 prove() {
   local rt=${RT:-rt} log
   if ! command -v "$rt" >/dev/null; then
@@ -68,10 +69,11 @@ prove() {
     echo "somebody else made, LIB=path/to/libstation.a host/demo.sh does without it." >&2
     exit 2
   fi
+  rt=$(realpath -s "$(command -v "$rt")")
   log=$(mktemp)
-  if ! "$rt" staticlib station 2>&1 | tee "$log" | awk -v all="$(crates)" '
-    /^rt: ([a-z0-9_]+ proved|target\/staticlib\/)/ { sub(/^rt: /, ++n " of " all ": ") }
-    /^rt: |^[0-9]+ of / { print; fflush() }'; then
+  if ! (cd crates/station && "$rt" lib) 2>&1 | tee "$log" | awk -v all="$(crates)" '
+    /^rt: chose --jobs [0-9]+ for / { name = $NF }
+    /^logic=proved / { print ++n " of " all ": " name " proved"; fflush() }'; then
     cat "$log" >&2
     rm -f "$log"
     exit 1
@@ -80,9 +82,9 @@ prove() {
 }
 
 build() {
-  archive=${LIB:-target/staticlib/libstation.a}
+  archive=${LIB:-crates/station/out/libstation.a}
   if [ -z "${LIB:-}" ] && stale "$archive"; then
-    say "Prove the library and write its archive: $(crates) crates, five to ten minutes the first time."
+    say "Prove the library and write its archive: $(crates) crates, which takes long the first time."
     prove
   fi
   say "Build the command"

@@ -1,25 +1,36 @@
 #!/usr/bin/env bash
-# Contracts that are assumed, not proved: only the lister's check may rest on any, and docs/PROMISES.md names each as trusted.
-# Run after `rt ci` or `rt check`, which leave what each check said in target/log.
+# Contracts that are assumed, not proved: of what is linked or run only the lister may rest on any, and docs/PROMISES.md names each as trusted.
+# Both are checked once more, over the libraries that `rt ci` left, with a list of those contracts in their whole graph.
 set -u
 cd "$(dirname "$0")/.." || exit 2
-logs=target/log
+said=$(mktemp) || exit 2
+trap 'rm -f "$said"' EXIT
 bad=0
-for crate in $(sed -n 's/^\([a-z_]*\):.*/\1/p' crates.txt); do
-  if ! grep -qs '^logic=proved ' "$logs/$crate.say"; then
-    echo "$logs/$crate.say tells of no proof"
-    bad=1
-  elif [ "$crate" != lister ] && grep -E '(^| )axioms[ =]' "$logs/$crate.say"; then
-    echo "$crate rests on assumed contracts"
-    bad=1
+
+# assumed CRATE: what the check of a static library or a program rests on, a name a line
+assumed() {
+  if ! .ci/rattle check "$1" "crates/$1" --list-axioms >"$said" 2>&1 || ! grep -q '^logic=proved ' "$said"; then
+    echo "$1 was not proved: $(tail -n 1 "$said")" >&2
+    return 1
   fi
-done
-assumed=$(sed -nE 's/^axioms [a-z]+: (.*) \(.*/\1/p' "$logs/lister.say" | tr -d ' ' | tr ',' '\n' | sort)
-named=$(grep -oE '`(libc|io|os)::[A-Za-z0-9_:]+`' docs/PROMISES.md | tr -d '`' | sort -u)
-if [ -z "$assumed" ] || [ "$assumed" != "$named" ]; then
-  echo "what the lister's check assumes (<) is not what docs/PROMISES.md names (>):"
-  diff <(echo "$assumed") <(echo "$named") | grep '^[<>]'
+  grep -q '^axioms ' "$said" || { echo "the check of $1 has no list of what it assumes" >&2; return 1; }
+  sed -nE 's/^ +([^ ]+) +reached$/\1/p' "$said" | sort
+  # the last line counts them, where there are any
+  [ "$(grep -c ' reached$' "$said")" -eq "$(tail -n 1 "$said" | grep -oE ' axioms=[0-9]+' | grep -oE '[0-9]+' || echo 0)" ] ||
+    { echo "the list of $1 is not what its last line counts" >&2; return 1; }
+}
+
+exports=$(assumed station) || bad=1
+if [ -n "$exports" ]; then
+  echo "the exports rest on assumed contracts:" $exports
   bad=1
 fi
-[ "$bad" -eq 0 ] && echo "assumed by the lister alone:" $assumed
+lister=$(assumed lister) || bad=1
+named=$(grep -oE '`(libc|io|os|std)(::[A-Za-z0-9_]+)+`' docs/PROMISES.md | tr -d '`' | sort -u)
+if [ -z "$lister" ] || [ "$lister" != "$named" ]; then
+  echo "what the lister's check assumes (<) is not what docs/PROMISES.md names (>):"
+  diff <(echo "$lister") <(echo "$named") | grep '^[<>]'
+  bad=1
+fi
+[ "$bad" -eq 0 ] && echo "assumed by the lister alone:" $lister
 exit "$bad"

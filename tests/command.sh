@@ -2,7 +2,7 @@
 # End to end tests of the command bhtf. A line for each test; the last line is
 # 'N passed, M failed', and the status 0 only if M is 0.
 #   LIB=path     the library, from the repository's root;
-#                target/staticlib/libstation.a unless given
+#                crates/station/out/libstation.a unless given
 #   LDLIBS=..    if it needs more
 #   STANDIN=yes  the plain C of tests/reference in its place
 set -u
@@ -152,14 +152,16 @@ holds "it leaves a plan" grep -q "^</svg>" "$work/demo/demo/plan.svg"
 holds "and says how to install" grep -q '^make -C .*/host install LIB=.*/gcc/parts.a ' "$work/demonstrated"
 
 # The demonstration from nothing, with a program in rt's place.
-mkdir "$work/tree" && cp -r host .ci "$work/tree" && mkdir "$work/tree/crates"
-printf '# a crate\nwords:\ntable: words\nother: words\nstation: table words\n' >"$work/tree/crates.txt"
+mkdir "$work/tree" && cp -r host .ci "$work/tree" && mkdir -p "$work/tree/crates/station"
+printf '# a crate\nwords:\ntable: words\nother: words\nstation staticlib: table words\n' >"$work/tree/crates.txt"
 stand_in() { # STATUS: what rt says, and the archive
   cat >"$work/rt" <<EOF
 #!/bin/sh
-printf 'rt: words proved (13 s)\nfn words::a: proved\nlibrary words: modules loaded=1\nrt: table proved (2 s)\nrt: target/staticlib/libstation.a has the functions\n'
+for crate in words table station; do
+  printf 'rt: chose --jobs 2 for %s\nfn %s::a: proved\nlibrary words: modules loaded=1\nlogic=proved functions=1\n' "\$crate" "\$crate"
+done
 echo 'words of an error' >&2
-mkdir -p target/staticlib && cp "$work/gcc/parts.a" target/staticlib/libstation.a
+mkdir -p out && cp "$work/gcc/parts.a" out/libstation.a
 exit $1
 EOF
   chmod 755 "$work/rt"
@@ -168,13 +170,13 @@ gives "the demonstration without rt says what to get" 2 'no command no-such-rt. 
   env -u LIB RT=no-such-rt "$work/tree/host/demo.sh"
 stand_in 1
 gives "a proof that fails ends it, with all that was said" 1 'words of an error' env -u LIB RT="$work/rt" "$work/tree/host/demo.sh"
-rm -r "$work/tree/target"
+rm -r "$work/tree/crates/station/out"
 stand_in 0
 gives "proving shows a line for each crate" 0 '^2 of 3: table proved' \
   env -u LIB RT="$work/rt" OUT="$work/demo2" "$work/tree/host/demo.sh"
-same "and no more" '1 of 3: words proved (13 s)
-2 of 3: table proved (2 s)
-3 of 3: target/staticlib/libstation.a has the functions' "$(grep -E 'proved|loaded|error|functions' "$work/out")"
+same "and no more" '1 of 3: words proved
+2 of 3: table proved
+3 of 3: station proved' "$(grep -E 'proved|loaded|error|functions' "$work/out")"
 
 cd "$work" || exit 2
 

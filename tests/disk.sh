@@ -2,7 +2,7 @@
 # The file layer does to a disk what crates/spec_disk speaks of: its system calls are noted, a letter for each (tests/file/actions.c),
 # and held to the lists of actions `commit` and `recovery`, for which the promises are proved; with the process killed behind each of
 # them, and each flush hidden once, which must be seen. The last line is 'N passed, M failed'.
-#   LIB=path     the proved library; target/staticlib/libstation.a unless given
+#   LIB=path     the proved library; crates/station/out/libstation.a unless given
 set -u
 cd "$(dirname "$0")/.." || exit 2
 passed=0

@@ -3,16 +3,19 @@
 #     # a lookup that always answers 14
 #     # falls at: proofs/lookup/Proof.antt returns
 #     # guards: lookup
-# Held to the log that `rt ci` or `rt must-fail` left of it: that fact must be among those that the prover refused in themselves,
-# none of those may be refused because the edit changed the code's shape, and the edited file itself must be well formed.
+# Held to what the prover says of it: that fact must be among those that it refused in themselves, and none of those may be refused because
+# the edit changed the code's shape. `rt ci` prints of each edit the first fact that was refused, and refuses itself what is not well formed. An
+# edit of which that is another fact is tried once more, in full, over the libraries that `rt ci` left.
 # A fact that is false and a proof that no longer fits look alike to the prover, but for two reasons by which a fact is seen to be
-# false: numbers at which it fails, and two sides that, computed, differ in a number. The line before the last says of how many.
+# false: numbers at which it fails, and two sides that, computed, differ in a number.
 # The last line is 'N passed, M failed'.
+#   tests/falls.sh [FILE]          every edit, by what `rt ci` printed into FILE; target/ci, as .ci/run leaves it, unless given
+#   tests/falls.sh EDIT..          these edits alone, in full, with all that the prover refused in them
 #   tests/falls.sh --list [WORD]   the edits with their words and facts, as they are written; those that guard WORD alone
-#   tests/falls.sh EDIT..      these edits alone, and all that the prover refused in them
 set -u
 cd "$(dirname "$0")/.." || exit 2
 . tests/tally.sh
+. tests/edited.sh
 
 # What edits guard: the calls, then what is said of many of them, then what they stand on. Each word has an edit.
 words='create add delete lookup count walk check compact convert select at-epoch store-columns read-columns listed next-change journaled recover
@@ -21,55 +24,157 @@ words='create add delete lookup count walk check compact convert select at-epoch
 # guarded EDIT: the words of its third line
 guarded() { sed -n '3s/^# guards: //p' "$1"; }
 
+# ---- one edit in full ----
+
+# applied EDIT FOLDER: the edit, to the crate's files in FOLDER
+applied() {
+  local line file='' old=''
+  while IFS= read -r line; do
+    case $line in
+      'file: '*) file=$2/${line#file: } ;;
+      'old: '*) old=${line#old: } ;;
+      new:*)
+        line=${line#new:}
+        edited "$old" "${line# }" "$file" >"$2/edited" || { echo "$1: what it replaces does not stand once in its file"; return 1; }
+        mv "$2/edited" "$file"
+        ;;
+    esac
+  done <"$1"
+}
+
+# tried EDIT FOLDER: what the prover says of the edited crate, in the file said of FOLDER. Where libraries are missing, rt makes them first.
+tried() {
+  local crate=${1#crates/} part status
+  crate=${crate%%/*}
+  for part in src specs proofs; do [ ! -d "crates/$crate/$part" ] || cp -r "crates/$crate/$part" "$2"; done
+  applied "$1" "$2" || return 1
+  .ci/rattle check "$crate" "$2" >"$2/said" 2>&1
+  status=$?
+  if [ "$status" -eq 4 ]; then
+    (cd "crates/$crate" && rt check) >"$2/said" 2>&1 || { echo "$crate itself is not proved: $(grep -m 1 error "$2/said")"; return 1; }
+    KEPT=yes .ci/rattle check "$crate" "$2" >"$2/said" 2>&1
+    status=$?
+  fi
+  if [ "$status" -eq 0 ]; then
+    echo "$1: the crate is proved with it"
+    return 1
+  fi
+  grep -q '^logic=not-proved' "$2/said" || { echo "$1: the prover gave no verdict: $(tail -n 1 "$2/said")"; return 1; }
+}
+
 # refused LOG: what the prover refused in itself, a line each: file, fact, reason. What only rests on it is left out.
 refused() {
-  sed -nE \
-    -e 's|^[^ ]*/(proofs/[^ :]*):[0-9]+:[0-9]+: error: `([^`]*)`: (.*)|\1 \2 \3|p' \
-    -e 's|^fn [^ ]*: no proof: .*/(proofs/[^ ;]*); `search` does not close `([^`]*)`.*|\1 \2 no proof is found|p' "$1" |
-    grep -v 'was not admitted (it has holes'
+  awk '
+    function tell() { if (fact != "") print fact; fact = "" }
+    /^  / { if (fact != "") fact = fact $0; next }
+    { tell() }
+    match($0, /^[^ ]*proofs\/[^ :]*:[0-9]+:[0-9]+: error: `[^`]*`: /) {
+      split($0, part, ":")
+      sub(/^.*proofs\//, "proofs/", part[1])
+      reason = substr($0, RLENGTH + 1)
+      name = substr($0, 1, RLENGTH)
+      sub(/`: $/, "", name)
+      sub(/.*`/, "", name)
+      fact = part[1] " " name " " reason
+      next
+    }
+    match($0, /^fn [^ ]*: no proof: .*proofs\/[^ ;]*; `search` did not prove /) {
+      file = substr($0, 1, RLENGTH)
+      sub(/;.*/, "", file)
+      sub(/^.*proofs\//, "proofs/", file)
+      n = split(substr($0, RLENGTH), part, "`")
+      for (i = 2; i < n; i += 2) print file, part[i], "no proof is found"
+    }
+    END { tell() }' "$1" | grep -v 'was not admitted'
 }
 
 # The prover's words where the edited definition or code is none: a name that is not in scope, a type that does not fit.
-ill='^[^ ]*/(specs|src)/[^ :]*:[0-9]+:[0-9]+: error: '
+ill='^[^ ]*(specs|src)/[^ :]*:[0-9]+:[0-9]+: error|^[^ ]*error\[[a-z-]+\]'
 
 # The prover's words where a proof names a step that the code no longer has.
-shape='^[^ ]+ [^ ]+ (`[^`]*`: module `[^`]*` has no `|record `|`[^`]*` is not in scope)'
+shape='^[^ ]+ [^ ]+ .*(has no `|has no field|`[^`]*` is not in scope)'
 
 # The prover's words where a fact is seen to be false.
-number='`([0-9]+|true|false)`'
-seen="(the goal fails, at |^computed as far as they go, the two types (differ only|first differ) where one has $number \(expected\) and the other has $number \(found\))"
-seen_false=0 differ=0 unproved=0
+bare='([0-9]+|true|false)' number='`([0-9]+|true|false)`'
+seen="(the goal fails, at |computed as far as they go, the two types (differ only|first differ) where one has $number \\(expected\\) and the other has $number \\(found\\)"
+seen+="|the two types are .Path [^ ]+ $bare $bare. \\(expected\\) and .Path [^ ]+ $bare $bare. \\(found\\))"
 
-# told FILE FACT REASON: how a fact was refused
+# told REASON: how a fact was refused
 told() {
-  if grep -qE "$seen" <<<"$3"; then
+  if grep -qE "$seen" <<<"$1"; then
     echo false
-  elif grep -qE 'the two types (differ|first differ)|^expected type' <<<"$3"; then
+  elif grep -qE 'the two types (differ|first differ|are)|^expected type' <<<"$1"; then
     echo differs
   else
     echo unproved
   fi
 }
 
-# judge REFUSED FACT: counts how the fact was refused; a fact may be refused at several places
-judge() {
-  local file fact reason ways=
-  while read -r file fact reason; do
-    [ "$file $fact" != "$2" ] || ways+=" $(told "$file" "$fact" "$reason")"
-  done <<<"$1"
-  case $ways in
-    *false*) seen_false=$((seen_false + 1)) ;;
-    *differs*) differ=$((differ + 1)) ;;
-    *) unproved=$((unproved + 1)) ;;
-  esac
+# of_function: of lines FILE FACT, where FILE is one of the files of a function's proof, its folder in the place of it, for a goal has one name there
+of_function() { sed -E 's#/(Proof|Answers|Invariants)\.antt # #'; }
+
+# in_full EDIT FACT: tries the edit, and holds what is refused to the fact
+in_full() {
+  local edit=$1 room own file name reason status=0
+  room=$(mktemp -d) || return 1
+  if tried "$edit" "$room"; then
+    own=$(refused "$room/said")
+    [ -z "$shown" ] || while read -r file name reason; do echo "$file $name $(told "$reason"): $reason"; done <<<"$own" | cut -c1-300
+    if grep -qE "$ill" "$room/said"; then
+      echo "$edit is not well formed: $(grep -m 1 -E "$ill" "$room/said" | cut -c1-200)"
+      status=1
+    elif ! cut -d' ' -f1,2 <<<"$own" | of_function | grep -qxF -- "$(of_function <<<"$2")"; then
+      echo "$edit does not fall at $2, but at: $(cut -d' ' -f1,2 <<<"$own" | uniq | tr '\n' ' ')"
+      status=1
+    elif grep -qE "$shape" <<<"$own"; then
+      echo "$edit changes the code's shape: $(grep -m 1 -E "$shape" <<<"$own" | cut -c1-200)"
+      status=1
+    fi
+  else
+    status=1
+  fi
+  rm -rf "$room"
+  return $status
 }
 
-# crates/NAME/must-fail/LABEL.edit left target/must-fail/NAME/LABEL/.log
-log_of() { sed -E 's|^crates/(.*)/must-fail/(.*)\.edit$|target/must-fail/\1/\2/.log|' <<<"$1"; }
+# ---- what rt ci printed of it ----
+
+# function_at FILE LINE: of a .rt file, the function that begins or stands there, with its attributes, and without them
+function_at() {
+  awk -v line="$2" '
+    /^ *#\[/ { if (!above) above = FNR; next }
+    match($0, /(^| )fn [a-z0-9_]+/) {
+      if ((above ? above : FNR) <= line) { name = substr($0, RSTART, RLENGTH); sub(/.*fn /, "", name) }
+    }
+    { above = 0 }
+    END { print name }' "$1"
+}
+
+# printed EDIT: of the edit, what rt ci printed
+printed() {
+  local label=${1#crates/}
+  label=${label/must-fail\//}
+  sed -n "s|^rt: must-fail $label: ||p" "$log" | head -n 1
+}
+
+# first EDIT: the fact that the line names, file and name; nothing where it names none
+first() {
+  local says fact file line name
+  says=$(printed "$1" | sed -E 's/^refused, as it must be(: | \()//')
+  fact=$(sed -nE 's/^(.*: )?(note: )?(\.\/)?(proofs\/[^ :]*):[0-9]+:[0-9]+: error: `([^`]*)`: .*/\4 \5/p' <<<"$says")
+  if [ -n "$fact" ]; then echo "$fact"; return; fi
+  # a function for which rattle finds the proof itself: a place in the code, and the goal in the last parentheses
+  read -r file line name < <(sed -nE 's/^note: (src\/[^ :]*):([0-9]+):[0-9]+: [^;]*\(`([^`]*)`\).*/\1 \2 \3/p' <<<"$says")
+  [ -n "$name" ] || return
+  fact=${file#src/}
+  fact=${fact%.rt}/$(function_at "${1%/must-fail/*}/$file" "$line")
+  echo "proofs/${fact#lib/}/Answers.antt $name"
+}
+
+in_full_count=0
 
 fall() {
-  local edit=$1 log says fact own file name reason
-  log=$(log_of "$edit")
+  local edit=$1 says fact line at
   says=$(sed -n '1s/^# //p' "$edit")
   fact=$(sed -n '2s/^# falls at: //p' "$edit")
   if [ -z "$says" ] || [ -z "$fact" ]; then
@@ -80,22 +185,21 @@ fall() {
     echo "$edit does not say in its third line which of these it guards: $(echo $words)"
     return 1
   fi
-  [ -f "$log" ] || { echo "$edit left no log"; return 1; }
-  if grep -qE "$ill" "$log"; then
-    echo "$edit is not well formed: $(grep -m 1 -E "$ill" "$log" | sed -E 's|^[^ ]*/(specs\|src)/|\1/|' | cut -c1-200)"
-    return 1
+  if [ -n "$shown" ]; then
+    in_full "$edit" "$fact"
+    return
   fi
-  own=$(refused "$log")
-  [ -z "$shown" ] || while read -r file name reason; do echo "$file $name $(told "$file" "$name" "$reason"): $reason"; done <<<"$own" | cut -c1-300
-  if ! cut -d' ' -f1,2 <<<"$own" | grep -qxF -- "$fact"; then
-    echo "$edit does not fall at $fact, but at: $(cut -d' ' -f1,2 <<<"$own" | uniq | tr '\n' ' ')"
-    return 1
-  fi
-  if grep -qE "$shape" <<<"$own"; then
-    echo "$edit changes the code's shape: $(grep -m 1 -E "$shape" <<<"$own" | cut -c1-200)"
-    return 1
-  fi
-  judge "$own" "$fact"
+  line=$(printed "$edit")
+  case $line in
+    '') echo "rt ci says nothing of $edit"; return 1 ;;
+    *'only because a proof file names what the edit took away'*) echo "$edit changes the code's shape: $line"; return 1 ;;
+    'refused, as it must be'*) ;;
+    *) echo "$edit: $line"; return 1 ;;
+  esac
+  at=$(first "$edit")
+  if [ "$(of_function <<<"$at")" = "$(of_function <<<"$fact")" ]; then return 0; fi
+  in_full_count=$((in_full_count + 1))
+  in_full "$edit" "$fact"
 }
 
 edits=(crates/*/must-fail/*.edit)
@@ -110,8 +214,13 @@ if [ "${1:-}" = --list ]; then
   done
   exit
 fi
-shown=
-[ $# -eq 0 ] || { shown=yes edits=("$@"); }
+shown='' log=target/ci
+case ${1:-} in
+  '') ;;
+  *.edit) shown=yes edits=("$@") ;;
+  *) log=$1 ;;
+esac
+[ -n "$shown" ] || [ -f "$log" ] || { echo "$log is not there: .ci/run leaves it; rt ci >$log does too" >&2; exit 2; }
 for edit in "${edits[@]}"; do test_that "$edit" fall "$edit"; done
 # each word has an edit
 guards() { grep -qE "^# guards: (.* )?$1( |\$)" crates/*/must-fail/*.edit; }
@@ -119,5 +228,5 @@ if [ -z "$shown" ]; then
   for word in $words; do test_that "an edit guards $word" guards "$word"; done
   echo "of these $(wc -w <<<"$words") assertions"
 fi
-echo "of the facts named, $seen_false are seen to be false, $differ are not what is proved, of $unproved no proof is found"
+[ -n "$shown" ] || echo "$in_full_count of ${#edits[@]} were tried in full"
 tally

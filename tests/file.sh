@@ -4,7 +4,7 @@
 # 'N passed, M failed', and the status 0 only if M is 0.
 #   tests/file.sh [--seed N] [--thorough]   thorough: thousands of random cuts, a minute of readers and writers, an hour of inputs
 #                                           that nobody means
-#   LIB=path     the proved library, from the repository's root; target/staticlib/libstation.a unless given
+#   LIB=path     the proved library, from the repository's root; crates/station/out/libstation.a unless given
 #   LDLIBS=..    if it needs more
 set -u
 cd "$(dirname "$0")/.." || exit 2
@@ -331,7 +331,7 @@ counted "inputs that nobody means" bash tests/file/fuzz.sh "$fuzzed" "$work/fuzz
 
 # ---- seeded faults ----
 
-station=${LIB:-target/staticlib/libstation.a}
+station=${LIB:-crates/station/out/libstation.a}
 station=$(realpath "$station")
 
 # builds: the cuts over a copy of the layer in $work/copy, in which calls list what they change however short the file is

@@ -1,7 +1,7 @@
 #!/usr/bin/env bash
 # A larger table in the place of a file's: the real command and the Python module, built with the sanitizers. The last line is
 # 'N passed, M failed', and the status 0 only if M is 0.
-#   LIB=path     the library, from the repository's root; target/staticlib/libstation.a unless given
+#   LIB=path     the library, from the repository's root; crates/station/out/libstation.a unless given
 #   STANDIN=yes  the plain C of tests/reference in its place
 #   SEED=number  of the random names and texts
 set -u

@@ -16,19 +16,19 @@ allowed=tests/house-allowed.txt
 times() { sort | uniq -c | awk -v rule="$1" '{ print rule, $1, $2 }'; }
 
 found() {
-  grep -rE --include='*.rt' --include='*.antt' '^.{121}' crates | grep -vE '^[^:]*: *(pub )?(ghost )?use ' | cut -d: -f1 | times columns
-  # a chain may go on in the next line
-  find crates -name '*.antt' | sort | xargs awk '
+  grep -rE --exclude-dir=out --include='*.rt' --include='*.antt' '^.{121}' crates | grep -vE '^[^:]*: *(pub )?(ghost )?use ' | cut -d: -f1 | times columns
+  # a chain is written tight, c.before.before; one with spaces may go on in the next line
+  find crates -name out -prune -o -name '*.antt' -print | sort | xargs awk '
     function ended() {
       gsub(/ +/, " ", text)
       n = gsub(chain, "", text)
       if (n) print "chains", n, file
     }
-    BEGIN { chain = "( \\.before)+"; for (i = 1; i < 8; i++) chain = " \\.before" chain }
+    BEGIN { chain = "( ?\\.before)+"; for (i = 1; i < 8; i++) chain = " ?\\.before" chain }
     FNR == 1 { if (file) ended(); file = FILENAME; text = "" }
     { text = text " " $0 }
     END { ended() }'
-  find crates -name '*.rt' -o -name '*.antt' | sort | xargs awk '
+  find crates -name out -prune -o '(' -name '*.rt' -o -name '*.antt' ')' -print | sort | xargs awk '
     FNR == 1 { bare = $0 !~ /^(--|\/\/)/; modules = 0 }
     /^pub mod / { modules++ }
     bare && (FILENAME ~ /\/Lib\.antt$/ ? modules == 4 : FNR == 1) { print "head", 1, FILENAME }'
@@ -64,9 +64,9 @@ while read -r line; do
 done < <(awk '
   /^# ---- / { split($0, rule, ":"); sub(/^# ---- /, "", rule[1]); count = split(rule[1], layers, ", "); above = 0; next }
   /^# / { above = 1; next }
-  /^[a-z_]+:/ {
+  /^[a-z_]+( staticlib)?:/ {
     name = $0
-    sub(/:.*/, "", name)
+    sub(/[ :].*/, "", name)
     fits = 0
     for (i = 1; i <= count; i++) if (index(name, layers[i]) == 1) fits = 1
     if (!fits) print name " does not begin with its layer"

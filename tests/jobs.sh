@@ -1,7 +1,7 @@
 #!/usr/bin/env bash
 # The commands for records by column, for names that are half legible, for epochs, and for files of version 2.0.0: the real command and the Python module, built
 # with the sanitizers, beside brute force in Python. The last line is 'N passed, M failed', and the status 0 only if M is 0.
-#   LIB=path     the library, from the repository's root; target/staticlib/libstation.a unless given
+#   LIB=path     the library, from the repository's root; crates/station/out/libstation.a unless given
 #   STANDIN=yes  the plain C of tests/reference in its place
 #   SEED=number  of the random names, patterns and records
 set -u

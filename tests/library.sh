@@ -4,7 +4,7 @@
 # landing. A line for each test that fails; the last line is 'N passed, M failed', and the status 0 only if M is 0.
 #   tests/library.sh [--seed N]
 #   tests/library.sh --keep-abi   writes tests/data/libbhtf.abi anew, as the last step of a landing
-#   LIB=path     the proved library, from the repository's root; target/staticlib/libstation.a unless given
+#   LIB=path     the proved library, from the repository's root; crates/station/out/libstation.a unless given
 #   LDLIBS=..    if it needs more
 set -u
 export LC_ALL=C.UTF-8
@@ -24,7 +24,7 @@ echo "seed $seed"
 . tests/tally.sh
 faults=0
 python=/usr/bin/python3 # Debian's, which has numpy and mypy
-station=$(realpath "${LIB:-target/staticlib/libstation.a}") || exit 2
+station=$(realpath "${LIB:-crates/station/out/libstation.a}") || exit 2
 base=${TMPDIR:-/dev/shm}
 [ -w "$base" ] || base=/tmp
 work=$(mktemp -d "$base/bhtf-library.XXXXXX")

@@ -1,11 +1,11 @@
 #!/usr/bin/env bash
 # The lister on images that tests/lister.c makes: each text is compared with a plain reading of the same bytes, and some with a
 # text written out here. Then input in pieces, and input and output that are closed or fail.
-# It runs target/bin/lister (made by 'rt check lister'), or the program that LISTER names.
+# It runs crates/lister/out/lister, which `rt ci` builds, and `rt run` in crates/lister, or the program that LISTER names.
 set -u
 cd "$(dirname "$0")/.." || exit 2
-lister=${LISTER:-target/bin/lister}
-[ -x "$lister" ] || { echo "$lister is missing: run 'rt check lister'"; exit 1; }
+lister=${LISTER:-crates/lister/out/lister}
+[ -x "$lister" ] || { echo "$lister is missing: run rt ci, or rt run in crates/lister"; exit 1; }
 room=$(mktemp -d) || exit 2
 trap 'rm -rf "$room"' EXIT
 maker=$room/maker

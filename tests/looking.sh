@@ -1,7 +1,7 @@
 #!/usr/bin/env bash
 # Looking at a site: list, get, diff, plot and figure, and the files that survey offices exchange. The real command, built with the
 # sanitizers. The last line is 'N passed, M failed', and the status 0 only if M is 0.
-#   LIB=path     the library, from the repository's root; target/staticlib/libstation.a unless given
+#   LIB=path     the library, from the repository's root; crates/station/out/libstation.a unless given
 #   STANDIN=yes  the plain C of tests/reference in its place
 #   SEED=number  of the random sites and figures
 set -u

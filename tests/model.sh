@@ -6,7 +6,7 @@
 set -u
 cd "$(dirname "$0")/.." || exit 2
 
-lib=${LIB:-target/staticlib/libstation.a}
+lib=${LIB:-crates/station/out/libstation.a}
 seconds=${MODEL_SECONDS:-60}
 room=$(mktemp -d)
 trap 'rm -rf "$room"' EXIT

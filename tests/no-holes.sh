@@ -4,7 +4,7 @@
 #   tests/no-holes.sh FILE..   these files alone
 set -u
 cd "$(dirname "$0")/.." || exit 2
-files=$(if [ $# -gt 0 ]; then printf '%s\n' "$@"; else find crates -name '*.antt' | sort; fi)
+files=$(if [ $# -gt 0 ]; then printf '%s\n' "$@"; else find crates -name out -prune -o -name '*.antt' -print | sort; fi)
 [ -n "$files" ] || { echo "no file of specs/ or proofs/ was found"; exit 1; }
 found=$(echo "$files" | xargs awk '{ line = $0; sub(/--.*/, "", line)
   if (line ~ /(^|[^A-Za-z0-9_-])\?/ || line ~ /\{!/) print FILENAME ":" FNR ": " $0 }') ||

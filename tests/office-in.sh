@@ -3,7 +3,7 @@
 # changes as one, and the log. Nothing may be lost or changed that was not named. Runs the command under the sanitizers; the last line is
 # 'N passed, M failed'.
 #
-# LIB=path      the proved library; else target/staticlib/libstation.a
+# LIB=path      the proved library; else crates/station/out/libstation.a
 # LDLIBS=".."   if it needs more
 set -u
 cd "$(dirname "$0")/.." || exit 2

@@ -1,7 +1,7 @@
 #!/usr/bin/env bash
 # What comes out of a file: differences, plans, figures, copies and sums, deltas in words, choices of points, and the files of other
 # programs. The real command, built with the sanitizers. The last line is 'N passed, M failed', and the status 0 only if M is 0.
-#   LIB=path     the library, from the repository's root; target/staticlib/libstation.a unless given
+#   LIB=path     the library, from the repository's root; crates/station/out/libstation.a unless given
 #   STANDIN=yes  the plain C of tests/reference in its place
 #   BIN=path     a folder with a command that is tried as it is
 #   SEED=number  of the random patterns and figures

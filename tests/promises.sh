@@ -24,14 +24,14 @@ declares() {
   local name
   name=$(printf '%s' "$1" | sed 's/[.[\*^$+?(){|]/\\&/g')
   shift
-  grep -rqE "^ *((unfoldable|abbrev|pub|fn|extern \"C\"|record|data|struct|enum|const) )*(fn )?$name( |\(|<|:|;|$)" "$@" 2>/dev/null
+  grep -rqE --exclude-dir=out "^ *((unfoldable|abbrev|pub|fn|extern \"C\"|record|data|struct|enum|const) )*(fn )?$name( |\(|<|:|;|$)" "$@" 2>/dev/null
 }
 
 # has NAME WHERE: WHERE, a crate or a path, has something of that name. Of a name without a place, as `Inspect.antt`, nothing is asked.
 has() {
   case $2 in
     crates/*.*) declares "$1" "$2" ;;
-    crates/*) [ -e "$2/$1" ] || declares "$1" "$2" || [ -n "$(find "$2" -name "$1.antt")" ] ;;
+    crates/*) [ -e "$2/$1" ] || declares "$1" "$2" || [ -n "$(find "$2" -name out -prune -o -name "$1.antt" -print)" ] ;;
     host/* | tests/* | bench/* | packaging/*) grep -rqwF -e "$1" "$2" ;;
     *) [ ! -d "crates/$2" ] || has "$1" "crates/$2" ;;
   esac
@@ -58,7 +58,7 @@ words=$(mktemp)
 trap 'rm -f "$words"' EXIT
 {
   ls crates
-  find crates -name '*.antt' | sed 's|.*/||; s|\.antt$||'
+  find crates -name out -prune -o -name '*.antt' -print | sed 's|.*/||; s|\.antt$||'
   grep -rhoE '^ *((unfoldable|abbrev|pub|extern "C"|record|data|struct|enum|const) )*(fn )?[A-Za-z][A-Za-z0-9_]*' crates/*/src crates/*/specs crates/*/proofs |
     sed 's/.* //'
   git ls-files -z host tests bench packaging | grep -zvE '\.(bhtf|svg|png)$|^tests/promises\.sh$' | xargs -0 grep -ohIE '\b[A-Za-z][A-Za-z0-9_]*\b'
@@ -80,7 +80,7 @@ for doc in ${PAGES:-README.md docs/*.md}; do
   while IFS='`' read -r _ edit _ name fact; do
     checked=$((checked + 1))
     fact=${fact# }
-    grep -qE "^# falls at: proofs/(.*/)?($name/Proof\.antt $fact|Cases[A-Za-z]*\.antt $name)$" "$edit" 2>/dev/null ||
+    grep -qE "^# falls at: proofs/(.*/)?($name/(Proof|Answers|Invariants)\.antt $fact|Cases[A-Za-z]*\.antt $name)$" "$edit" 2>/dev/null ||
       gone "says that $edit falls at $name $fact, and the edit does not"
   done < <(grep -oE '`crates/[^`]+\.edit`: (the case )?`[A-Za-z0-9_-]+`( [a-z0-9-]+)?' "$doc")
   while IFS=' ' read -r crate name; do

@@ -1,10 +1,10 @@
 #!/usr/bin/env bash
 # What README.md shows is what happens: each sample, typed in an empty folder in the order of the page and on a terminal, prints what stands
 # below it. A sample stands in a fence ```console; its lines begin with '$ ', further lines of a command with '> ', and the rest is what is
-# printed. Besides: the numbers of must-fail edits, crates and seeded faults on the pages are those of the tree, the entries of
-# docs/DECISIONS.md stand in the order of their numbers, docs/layers.svg and docs/FUNCTIONS.md are what docs/layers.awk and
-# docs/functions.awk make, and links to headings lead somewhere. The last line is 'N passed, M failed'.
-#   LIB=path    the library, from the repository's root; target/staticlib/libstation.a unless given
+# printed. Besides: README has the kit's name as `rt version` says it, the numbers of must-fail edits, crates and seeded faults on the pages
+# are those of the tree, the entries of docs/DECISIONS.md stand in the order of their numbers, docs/layers.svg and docs/FUNCTIONS.md are what
+# docs/layers.awk and docs/functions.awk make, and links to headings lead somewhere. The last line is 'N passed, M failed'.
+#   LIB=path    the library, from the repository's root; crates/station/out/libstation.a unless given
 #   BHTF=path   a command that is already built, with bhtf-mqtt beside it, in place of building them
 #   --samples   prints what the commands print, to be looked at when a sample is written
 set -u
@@ -60,6 +60,9 @@ test_that "a sample that shows another line fails" differs
 
 edits=(crates/*/must-fail/*.edit)
 crates=(crates/*/)
+if command -v rt >/dev/null; then
+  test_that "README names the kit, $(rt version)" grep -qF "\`$(rt version)\`" README.md
+fi
 test_that "README says how many must-fail edits there are, ${#edits[@]}" grep -q "tries ${#edits[@]} must-fail edits" README.md
 test_that "so does CONTRIBUTING" grep -q " for ${#edits[@]} edits" docs/CONTRIBUTING.md
 test_that "ARCHITECTURE says how many crates there are, ${#crates[@]}" grep -q "each of the ${#crates[@]} crates" docs/ARCHITECTURE.md

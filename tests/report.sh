@@ -2,7 +2,7 @@
 # The report of what moved, epochs in the columns of an import, the room that is left, and the pages of the calls: the real command under
 # the sanitizers, beside the same reckoned again in Python (tests/report). The last line is 'N passed, M failed', and the status 0 only if
 # M is 0 and no fewer ran than stand here.
-#   LIB=path     the library, from the repository's root; target/staticlib/libstation.a unless given
+#   LIB=path     the library, from the repository's root; crates/station/out/libstation.a unless given
 #   STANDIN=yes  the plain C of tests/reference in its place
 #   SEED=number  of the random prisms
 set -u

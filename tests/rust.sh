@@ -1,12 +1,12 @@
 #!/usr/bin/env bash
 # The static library linked into Rust, on random lists of calls beside a book in Rust (station.rs).
-#   LIB=path    the library, from the repository's root; target/staticlib/libstation.a unless given
+#   LIB=path    the library, from the repository's root; crates/station/out/libstation.a unless given
 #   ARGS=".."   for the program, e.g. "--seed 1 --lists 100000"
 # Then the test's own test: plain C in the library's place, right, and with the fault of the firm's second version, which must be
 # found; faults that only reopened images meet, and books read wrongly off them. The last line is 'N passed, M failed'.
 set -u
 cd "$(dirname "$0")/.." || exit 2
-lib=$(realpath "${LIB:-target/staticlib/libstation.a}") || exit 2
+lib=$(realpath "${LIB:-crates/station/out/libstation.a}") || exit 2
 command -v rustc >/dev/null || .ci/install rustc || exit 2
 work=$(mktemp -d)
 trap 'rm -rf "$work"' EXIT

@@ -2,7 +2,7 @@
 # Plans on paper: names that cannot be misread, sheets with frame, title block, list and details, PDF, PNG and a page for browsers; figures and
 # reports in the same forms. The real command, built with the sanitizers; a real browser. The last line is 'N passed, M failed', and the status
 # 0 only if M is 0.
-#   LIB=path     the library, from the repository's root; target/staticlib/libstation.a unless given
+#   LIB=path     the library, from the repository's root; crates/station/out/libstation.a unless given
 #   SEED=number  of the random sites and figures
 #   CHROMIUM=command  the browser, chromium unless given
 set -u

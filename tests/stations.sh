@@ -2,7 +2,7 @@
 # Stations over a broker (docs/STATIONS.md): the protocol without a broker, by a simulation, a model and seeded faults of both; and the
 # program bhtf-mqtt with a real mosquitto on a free port of this machine, which is ended by its process id. Where something is waited
 # for, it is asked for again and again; how long decides nothing but that a test has failed. The last line is 'N passed, M failed'.
-#   LIB=path         the library, from the repository's root; target/staticlib/libstation.a unless given
+#   LIB=path         the library, from the repository's root; crates/station/out/libstation.a unless given
 #   BHTF=path        a command that is already built, with bhtf-mqtt and libbhtf.a beside it, in place of building them
 #   STEPS=, SEED=    of the simulation
 #   tests/stations.sh PART..   only these: protocol faults model broker keys example units measures

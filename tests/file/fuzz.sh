@@ -2,7 +2,7 @@
 # Inputs that nobody means: each kind of tests/file/fuzz.c, by libFuzzer, with the address and undefined behaviour sanitizers over the
 # host's C (the proved library is not instrumented). A line for each; the last line is 'N passed, M failed'.
 #   tests/file/fuzz.sh SECONDS DIRECTORY [KIND..]   so many seconds together, in an empty directory
-#   LIB=path     the proved library; target/staticlib/libstation.a unless given
+#   LIB=path     the proved library; crates/station/out/libstation.a unless given
 #   LDLIBS=..    if it needs more
 # A crash leaves its input in DIRECTORY/KIND/crash-*: DIRECTORY/fuzz INPUT, with FUZZ=KIND and FUZZ_PLACE=DIRECTORY, shows it again.
 set -u
@@ -24,7 +24,7 @@ build() {
     objects+=("$object")
   done
   # shellcheck disable=SC2086
-  clang "${flags[@]}" -fsanitize=fuzzer,address,undefined tests/file/fuzz.c "${objects[@]}" "${LIB:-target/staticlib/libstation.a}" \
+  clang "${flags[@]}" -fsanitize=fuzzer,address,undefined tests/file/fuzz.c "${objects[@]}" "${LIB:-crates/station/out/libstation.a}" \
     ${LDLIBS:-} -lexpat -lm -o "$place/fuzz"
 }
 if ! build >"$place/build" 2>&1; then
