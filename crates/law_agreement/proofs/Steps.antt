@@ -233,16 +233,16 @@ module _ (b : Book) (name : Bytes) where
       (λ h. rw h (lookup-found (find name b.entries)))
       (λ h. rw h refl)
 
-  read_found : (room : ℕ) (f : Option Entry) → (read_found b room f).after ≡ b
+  read-found : (room : ℕ) (f : Option Entry) → (read_found b room f).after ≡ b
   unfolding read_found step_of
-  read_found room none = rw (first_no-no 14 false [] refl) refl
-  read_found room (some e) = refl
+  read-found room none = rw (first_no-no 14 false [] refl) refl
+  read-found room (some e) = refl
 
   pub book-read : (room : ℕ) → (book_read b name room).after ≡ b
   unfolding book_read guarded step_of
   book-read room =
       by_bool (eqb (first_no (ask 7 (name_allowed b.terms.K name) ∷ [])) 0)
-      (λ h. rw h (read_found room (find name b.entries)))
+      (λ h. rw h (read-found room (find name b.entries)))
       (λ h. rw h refl)
 
   dated-found : (f : Option Entry) → (dated_found b f).after ≡ b

@@ -97,7 +97,7 @@ returns-2 c =
     let room = c.room_number-number in
     place-refused g img (renewed_text g img o bytes 3) (renewed_at g img A.slot.0 o (key_in img A.slot.0) bytes 3)
     (text S) (appended-some g img A.slot.0 o (key_in img A.slot.0) bytes (else1-at-then2 c).if-bytes-eq0.false)
-    room.result (room.ensures (text S) (sized c.before.before.before)) c.if-number-ne0.true
+    room.result (room.ensures (text S) (sized c.before.before)) c.if-number-ne0.true
 
 abbrev shared-slice-known-at-relocate-arg : tie.After-relocate-arg-1 → tie.After-shared_slice_known-1
 shared-slice-known-at-relocate-arg c = c.before.before.before.before.before

@@ -116,7 +116,7 @@ same_length c = search rules
 returns-4 : tie.Need-returns
 returns-4 c =
     let P = c in
-    let S = start (needed (placed P.before)) in
+    let S = start (needed (placed c.before.before.before)) in
     let A = S.args in (
       none_left c.before.before.before,
       P.write_target.ensures

@@ -119,7 +119,7 @@ returns-3 c =
     let m = (found-at-then2 c).found-1.given in
     refused (img S) _ _ 11 (met-is m.1)
     (removed-11 (layout_of (img S)) (img S) m.0.0.0
-    (no-point (img S) _ (is-sound c.before.before.before) (sym c.read_u32-points.ensures ∙ c.if-points-eq0.true)))
+    (no-point (img S) _ (is-sound c.before.before) (sym c.read_u32-points.ensures ∙ c.if-points-eq0.true)))
     (λ z. omega arith)
 
 abbrev offset-of-at-remove-arg : tie.After-remove-arg-1 → tie.After-offset_of-o

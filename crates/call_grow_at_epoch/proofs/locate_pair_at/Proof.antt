@@ -173,7 +173,7 @@ returns-4 c =
     let F = (shape2-at-choose2 P).before in
     let E = else1-at-else3 F in
     dates-new (pair (start E)) (name E) (start E).args.t _ (accepted E) (dated F) (allowed F)
-    (probe_of P.choose-second.result.found) (sym (in-new T.before) ∙ T.if-is_later.true) P.choose-second.ensures.found
+    (probe_of P.choose-second.result.found) (sym (in-new c.before.before) ∙ T.if-is_later.true) P.choose-second.ensures.found
     c.show-dated.ensures refl
 
 show-requires-2 : tie.Need-show-dated-requires-2
@@ -200,7 +200,7 @@ returns-5 c =
     let E = else1-at-else3 F in
     let D = P.choose-first in
     dates-old (pair (start E)) (name E) (start E).args.t _ (accepted E) (dated F) (allowed F)
-    (probe_of D.result.found) (sym (in-new T.before) ∙ T.if-is_later.false) D.ensures.found
+    (probe_of D.result.found) (sym (in-new c.before.before) ∙ T.if-is_later.false) D.ensures.found
     c.show-dated-2.ensures refl
 
 pub locate_pair_at_spec : {M : Type 1} → statement M

@@ -97,7 +97,7 @@ returns-2 c =
     let n = c.nothing-located-then-not-name_allowed.ensures in
     let key = S.args.key.now in
     let stop =
-    name-7 (pair S) key (accepted P.before)
+    name-7 (pair S) key (accepted c.before.before.before.before)
     (named-no S.args.old.now key R.result R.ensures T.name_allowed.ensures T.if-not-name_allowed.true) in
     locates-refused (pair S) key _ (λ z. omega (arith, stop, z)) (n.0 ∙ sym stop) n.1 n.2
 

@@ -93,7 +93,7 @@ returns-2 c =
     let P = c.before.before in
     let S = start c.before.before.before in
     sym
-    (grow-22 (pair S) S.args.lowest.now S.args.highest.now S.args.size (accepted P.before)
+    (grow-22 (pair S) S.args.lowest.now S.args.highest.now S.args.size (accepted c.before.before.before)
     (asks P (was-no c.ranges_allowed.ensures c.if-not-ranges_allowed.true)))
 
 read-shape-requires-2 : tie.Need-read_shape-larger-requires

@@ -151,7 +151,7 @@ returns-3 c =
     ends P (met t.slot.0) false
     (ended-met img (keyed P).key_of-key.result.now S.args.shape S.requires.0 (went P) some'
     K.key_of-stored.result.now K.key_of-stored.ensures (sym c.same_bytes.ensures ∙ y)).0
-    (ne_eqb _ _ (elsewhere K.before)))
+    (ne_eqb _ _ (elsewhere c.before.before.before.before)))
     (λ n z.
     ends P (empty t.slot.0) false
     (ended-empty img (keyed P).key_of-key.result.now S.args.shape S.requires.0 (went P) some'

@@ -50,7 +50,7 @@ returns-2 : tie.Need-returns-then-out-bytes
 returns-2 c =
     let T = c in
     let A = (start-at-else1 c.before.before).args in
-    fills-short A.stored.now A.out.now _ _ c.refused-then-out-bytes.ensures (whole T.before) T.if-out-bytes.true
+    fills-short A.stored.now A.out.now _ _ c.refused-then-out-bytes.ensures (whole c.before.before) T.if-out-bytes.true
 
 sub-read-columns : tie.Need-slice_bounds-read_columns-count
 sub-read-columns c = search rules

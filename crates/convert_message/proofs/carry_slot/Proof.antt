@@ -51,7 +51,7 @@ returns-2 c =
     let O = c.before.before.before in
     let A = (start O).args in
     record {
-      none = λ n. absurd (omega (arith, n, low O.before));
+      none = λ n. absurd (omega (arith, n, low c.before.before.before.before));
       one = λ n.
           P.carry_message.ensures
           ∙ ap₂ (carried_to A.source.now A.target.now) (slot_is O) (offset-is O);

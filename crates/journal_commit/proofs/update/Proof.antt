@@ -77,7 +77,7 @@ allowed E =
     let T = E in
     let S = start E.before.before.before in
     allowed-both S.args.image.now S.args.new.now S.args.journal.now S.requires.0
-    (omega (arith, T.if-end-content.false, sized T.before)) E.if-journal-last-ne0.false
+    (omega (arith, T.if-end-content.false, sized E.before.before.before)) E.if-journal-last-ne0.false
 
 carry-out-requires : tie.Need-carry_out-requires
 carry-out-requires c κs =

@@ -122,7 +122,7 @@ returns-4 c =
     let S = start E in
     let img = S.args.image.now in
     sound-tests (layout_of img) img S.args.o.0 _ S.args.shape.head _ _ (at-is E) (shape-head S.requires)
-    (some-offset T.before.before.before)
+    (some-offset c.before.before.before.before.before.before.before.before.before)
     (omega (arith, at-is E, T.at.ensures, T.if-at.false, shape-area S.requires))
     (omega (arith, header-in E)) c.length_at-m.ensures E.read_u32-free.ensures
 

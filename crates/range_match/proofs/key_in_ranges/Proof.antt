@@ -69,7 +69,7 @@ returns-2 c =
     let S = c in
     let A = S.args in
     sym
-    (shown-all A.lowest.now A.highest.now A.key.now (bytes L.before.before.before) S.requires.0
+    (shown-all A.lowest.now A.highest.now A.key.now (bytes c.before.before.before.before) S.requires.0
     S.requires.1
     (λ p l. L.loop-i.invariant.1 p (omega arith)))
 

@@ -98,12 +98,12 @@ new-requires c κs = tt
 key-of-requires : tie.Need-key_of-requires invariant-loop decreases-loop
 key-of-requires c κs =
     let H = c in
-    ((started (numbered H.before)).requires.0, omega (arith, c.new.ensures, H.loop-i.invariant))
+    ((started (numbered c.before.before.before)).requires.0, omega (arith, c.new.ensures, H.loop-i.invariant))
 
 tail-requires-2 : tie.Need-tail-block-requires invariant-loop decreases-loop
 tail-requires-2 c κs =
     let H = c in
-    let S = started (numbered H.before) in
+    let S = started (numbered c.before.before.before.before) in
     let img = S.args.image.now in
     let K = c.key_of in
     omega (
@@ -132,7 +132,7 @@ returns-3 c =
 add-i : tie.Need-overflow_add-i invariant-loop decreases-loop
 add-i c =
     let H = c in
-    let S = started (numbered H.before) in
+    let S = started (numbered c.before.before.before.before.before.before) in
     omega (
       arith,
       H.loop-i.invariant,

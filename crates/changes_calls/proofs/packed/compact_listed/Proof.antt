@@ -42,7 +42,7 @@ returns c =
     (was-no A.slices_allowed.ensures c.if-not-slices_allowed.true)
 
 put-part-requires : tie.Need-put_part-requires
-put-part-requires c κs = (omega arith, omega arith, omega (arith, roomy c.before.before))
+put-part-requires c κs = (omega arith, omega arith, omega (arith, roomy c.before))
 
 compact-requires : tie.Need-compact-number-requires
 compact-requires c κs = search rules
