@@ -12,9 +12,9 @@ use Rattle.spec_file.specs.Calls.{plain}
 use Rattle.spec_conversion.specs.Convert.{converted, convert_number, convert, convert_into}
 use Rattle.law_file.proofs.Outcomes.{settled-yes, settled-no}
 
-pub convert_number : (img : Bytes) (L : ℕ) → (convert img L).answer.number ≡ convert_number img L
+pub convert-number : (img : Bytes) (L : ℕ) → (convert img L).answer.number ≡ convert_number img L
 unfolding convert plain
-convert_number img L = refl
+convert-number img L = refl
 
 pub convert-into : (img t : Bytes) → convert_number img (length t) ≡ 0
     → (convert img (length t)).after ≡ convert_into img t

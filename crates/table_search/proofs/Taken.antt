@@ -67,12 +67,11 @@ empty-within {n} e w = subst (Within n) (empty-is e) w
 
 module _ (img key : Bytes) (s : Shape) (is : s ≡ shape_of img) where
   -- ---- question 7, with r what `name_allowed` answered
-  pub named-no : {r : Bool} → r ≡ name_allowed s.keylen key → not r ≡ true → name_allowed (layout_of img).K key ≡ false
-  named-no {r} e t = ap (λ (k : ℕ). name_allowed k key) (layout-key img s is) ∙ sym e ∙ not-true r t
+  pub named-no : {r : Bool} → r ≡ name_allowed s.keylen key → r ≡ false → name_allowed (layout_of img).K key ≡ false
+  named-no e t = ap (λ (k : ℕ). name_allowed k key) (layout-key img s is) ∙ sym e ∙ t
 
-  pub named-yes : {r : Bool} → r ≡ name_allowed s.keylen key → not r ≡ false
-      → name_allowed (layout_of img).K key ≡ true
-  named-yes {r} e t = ap (λ (k : ℕ). name_allowed k key) (layout-key img s is) ∙ sym e ∙ not-false r t
+  pub named-yes : {r : Bool} → r ≡ name_allowed s.keylen key → r ≡ true → name_allowed (layout_of img).K key ≡ true
+  named-yes e t = ap (λ (k : ℕ). name_allowed k key) (layout-key img s is) ∙ sym e ∙ t
 
   -- ---- the search
   module _ (f : Found) (e : probe_of f ≡ search (layout_of img) img key) where

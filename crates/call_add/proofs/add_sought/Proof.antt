@@ -21,7 +21,7 @@ add-found-requires c κs =
     let S = c in
     let A = S.args in
     let known = mode_known A.mode in
-    let r = reached-is A.image.now A.key.now known S.requires c.sought-in-At-1.given.1 in
+    let r = reached-is A.image.now A.key.now known S.requires c.in-At.is in
     let met = search-key A.image.now A.key.now _ r.opened in
     let met' = subst (MetKey A.image.now A.key.now) (sym r.ended) met in
     (r.opened, r.within, met', reached-key r, seek-known A.image.now A.key.now known r.asked)
@@ -31,24 +31,24 @@ returns c =
     let S = c in
     let A = S.args in
     let known = mode_known A.mode in
-    let r = refused-is A.image.now A.key.now known S.requires c.sought-1.given.1 in
+    let r = refused-is A.image.now A.key.now known S.requires c.in-Refused.is in
     refused-answer A.image.now A.key.now A.bytes.now A.mode known refl _ r.0 r.1
 
 same_length : tie.Need-shape_of-image
 same_length c = search rules
 
-abbrev sought2-at-slice-known2 : tie.After-slice_known-in-At-1 → tie.In-At-2
-sought2-at-slice-known2 c = c.before.before.before.before.before
+abbrev sought2-at-slice-known2 : tie.After-slice_known-in-At-1 → tie.In-At
+sought2-at-slice-known2 c = c.before.before.before.before
 
 abbrev start-at-slice-known2 : tie.After-slice_known-in-At-1 → tie.Start
-start-at-slice-known2 c = c.before.before.before.before.before.before.before.before.before.before
+start-at-slice-known2 c = c.before.before.before.before.before.before.before.before
 
 returns-2 : tie.Need-returns-in-At
 returns-2 c =
     let S = start-at-slice-known2 c in
     let A = S.args in
     let known = mode_known A.mode in
-    let r = reached-is A.image.now A.key.now known S.requires (sought2-at-slice-known2 c).sought-in-At-1.given.1 in
+    let r = reached-is A.image.now A.key.now known S.requires (sought2-at-slice-known2 c).in-At.is in
     let d = c.add_found in
     found-answer A.image.now A.key.now A.bytes.now A.mode known refl r.asked d.result
     d.new.image _ r.ended d.ensures.0 d.ensures.1

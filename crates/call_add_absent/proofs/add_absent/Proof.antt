@@ -62,14 +62,14 @@ returns-2 : tie.Need-returns-in_default
 returns-2 c =
     let E = c.before in
     let S = start-at-else1 E in
-    ten S _ _ (other-empty S.args.found c.in_default.keys2 S.requires.3)
+    ten S _ _ (other-empty S.args.found c.in_default.in_default-own.keys2 S.requires.3)
     (point-10-exhausted _ _ S.args.bytes.now S.args.mode (other E))
 
 abbrev else1-at-read-u32-arg : tie.In-Empty → tie.Else-mode-eq-WITHDRAW
-else1-at-read-u32-arg c = c.before.before.before
+else1-at-read-u32-arg c = c.before
 
 abbrev start-at-read-u32-arg : tie.In-Empty → tie.Start
-start-at-read-u32-arg c = c.before.before.before.before.before.before.before
+start-at-read-u32-arg c = c.before.before.before.before.before
 
 read-u32-requires : tie.Need-read_u32-requires
 read-u32-requires c κs = omega (arith, (opened-facts _ (start-at-read-u32-arg c).requires.0.accepted).size_low)
@@ -81,10 +81,10 @@ same_length : tie.Need-shape_of-image-then-slots-read_u32
 same_length c = search rules
 
 abbrev else1-at-then2 : tie.Then-slots-read_u32 → tie.Else-mode-eq-WITHDRAW
-else1-at-then2 c = c.before.before.before.before.before
+else1-at-then2 c = c.before.before.before
 
-abbrev found-at-then2 : tie.Then-slots-read_u32 → tie.In-Empty-2
-found-at-then2 c = c.before.before.before
+abbrev found-at-then2 : tie.Then-slots-read_u32 → tie.In-Empty
+found-at-then2 c = c.before.before
 
 returns-3 : tie.Need-returns-then-slots-read_u32
 returns-3 c =
@@ -93,23 +93,23 @@ returns-3 c =
     let img = S.args.image.now in
     let full : (layout_of img).N ≤ field img points_field =
     omega (arith, c.if-slots-read_u32.true, c.read_u32.ensures, layout-slots img S.args.shape S.requires.0.shape) in
-    ten S _ _ (empty-is (found-at-then2 c).found-1.given.1)
+    ten S _ _ (empty-is (found-at-then2 c).in-Empty.is)
     (point-10-full (layout_of img) img S.args.bytes.now S.args.mode _ (other E)
     (le-ltb (field img points_field) (layout_of img).N full))
 
 abbrev else1-at-insert-fresh-arg : tie.After-insert_fresh-arg-1 → tie.Else-mode-eq-WITHDRAW
-else1-at-insert-fresh-arg c = c.before.before.before.before.before.before
+else1-at-insert-fresh-arg c = c.before.before.before.before
 
 abbrev start-at-insert-fresh-arg : tie.After-insert_fresh-arg-1 → tie.Start
-start-at-insert-fresh-arg c = c.before.before.before.before.before.before.before.before.before.before
+start-at-insert-fresh-arg c = c.before.before.before.before.before.before.before.before
 
-abbrev found-at-insert-fresh-arg : tie.After-insert_fresh-arg-1 → tie.In-Empty-2
-found-at-insert-fresh-arg c = c.before.before.before.before
+abbrev found-at-insert-fresh-arg : tie.After-insert_fresh-arg-1 → tie.In-Empty
+found-at-insert-fresh-arg c = c.before.before.before
 
 insert-fresh-requires : tie.Need-insert_fresh-requires
 insert-fresh-requires c κs =
     let S = (start-at-insert-fresh-arg c) in
-    (S.requires.0, empty-within (found-at-insert-fresh-arg c).found-1.given.1 S.requires.1, S.requires.2)
+    (S.requires.0, empty-within (found-at-insert-fresh-arg c).in-Empty.is S.requires.1, S.requires.2)
 
 same-length-2 : tie.Need-shape_of-image
 same-length-2 c = search rules
@@ -118,10 +118,10 @@ abbrev known-told-at-slice-known2 : tie.After-slice_known-2-1 → tie.In-Empty
 known-told-at-slice-known2 c = c.before.before.before.before.before.before
 
 abbrev else1-at-slice-known2 : tie.After-slice_known-2-1 → tie.Else-mode-eq-WITHDRAW
-else1-at-slice-known2 c = c.before.before.before.before.before.before.before.before.before
+else1-at-slice-known2 c = c.before.before.before.before.before.before.before
 
-abbrev found-at-slice-known2 : tie.After-slice_known-2-1 → tie.In-Empty-2
-found-at-slice-known2 c = c.before.before.before.before.before.before.before
+abbrev found-at-slice-known2 : tie.After-slice_known-2-1 → tie.In-Empty
+found-at-slice-known2 c = c.before.before.before.before.before.before
 
 abbrev else2-at-slice-known2 : tie.After-slice_known-2-1 → tie.Else-slots-read_u32
 else2-at-slice-known2 c = c.before.before.before.before
@@ -137,7 +137,7 @@ returns-4 c =
     let A = S.args in
     let img = A.image.now in
     let d = c.insert_fresh in
-    let is = empty-is (found-at-slice-known2 c).found-1.given.1 in
+    let is = empty-is (found-at-slice-known2 c).in-Empty.is in
     let less : field img points_field < (layout_of img).N =
     omega (
       arith,

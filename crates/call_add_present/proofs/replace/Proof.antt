@@ -126,14 +126,14 @@ else2-at-slice-known3 c = c.before.before.before.before
 returns-3 : tie.Need-returns
 returns-3 c =
     let E = else2-at-slice-known3 c in
-    let A = (start-at-else1 E.before.before.before).args in
+    let A = (start-at-else1 E.before.before).args in
     let img = A.image.now in
     let bytes = A.bytes.now in
     let o = A.o.0 in
     let g = layout_of img in
     let room = E.room_number-number in
     let new = c.relocate in
-    let more = longer E.before.before.before in
+    let more = longer E.before.before in
     place-done g img (renewed_text g img o bytes 2) (renewed_at g img A.slot.0 o (key_in img A.slot.0) bytes 2)
     bytes more room.result (room.ensures bytes refl) E.if-number-ne0.false new.new.image
     (new.ensures

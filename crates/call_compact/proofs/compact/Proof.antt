@@ -25,7 +25,7 @@ read-shape-requires c κs =
     let T = c in
     let F = c in
     let img = F.args.image.now in
-    let ok = sym F.check-found.ensures ∙ ap verdict_in T.enum_told-1.given.1 in
+    let ok = sym F.check-found.ensures ∙ ap verdict_in T.in-Sound.is in
     check-open img ok
 
 pack-requires : tie.Need-pack-requires
@@ -35,7 +35,7 @@ pack-requires c κs =
     let F = c in
     let K = c in
     let img = K.args.image.now in
-    let ok = sym F.check-found.ensures ∙ ap verdict_in T.enum_told-1.given.1 in
+    let ok = sym F.check-found.ensures ∙ ap verdict_in T.in-Sound.is in
     record {
       opened = record { accepted = check-open img ok; shape = c.read_shape.ensures };
       bytes = λ i. omega (arith, K.slice_known-1.given i);
@@ -56,7 +56,7 @@ unfolding verdict_in
 returns c =
     let F = c in
     told-refused F.args.image.now _
-    (sym (ap verdict_in c.found-1.given.1) ∙ F.check-found.ensures)
+    (sym (ap verdict_in c.in-Refused.is) ∙ F.check-found.ensures)
 
 same-length-2 : tie.Need-shape_of-image-in-Sound
 same-length-2 c = search rules
@@ -68,7 +68,7 @@ returns-2 c =
     let T = c in
     let F = c in
     let img = F.args.image.now in
-    let ok = sym F.check-found.ensures ∙ ap verdict_in T.enum_told-1.given.1 in
+    let ok = sym F.check-found.ensures ∙ ap verdict_in T.in-Sound.is in
     ((told-sound img ok).0, P.pack.ensures ∙ (told-sound img ok).1)
 
 same-length-3 : tie.Need-shape_of-image-in-SlotFails
@@ -79,7 +79,7 @@ unfolding verdict_in
 returns-3 c =
     let F = c in
     told-slot F.args.image.now _
-    (sym (ap verdict_in c.enum_told-in-SlotFails-1.given.1) ∙ F.check-found.ensures)
+    (sym (ap verdict_in c.in-SlotFails.is) ∙ F.check-found.ensures)
 
 same-length-4 : tie.Need-shape_of-image-in-CountFails
 same-length-4 c = search rules
@@ -89,7 +89,7 @@ unfolding verdict_in
 returns-4 c =
     let F = c in
     told-count F.args.image.now
-    (sym (ap verdict_in c.enum_told-in-CountFails-1.given.1) ∙ F.check-found.ensures)
+    (sym (ap verdict_in c.in-CountFails.is) ∙ F.check-found.ensures)
 
 pub compact_spec : {M : Type 1} → statement M
 compact_spec =

@@ -12,6 +12,7 @@ use Rattle.law_file.proofs.Tests.{was-no, was-yes}
 use Rattle.law_file.proofs.Outcomes.{settled-yes, settled-no}
 use Rattle.header_layout.proofs.Shaped.{shape-head, shape-area, head-range}
 use Rattle.call_convert.proofs.Told.{other-head, other-most, asks-20, asks-13, asks-0, number-sound, checked-all}
+use borrow.Author.Tests.{not-true, not-false}
 use Rattle.call_convert.proofs.carry_over.Statement.{statement}
 use Rattle.call_convert.proofs.carry_over.Tie as tie
 
@@ -39,7 +40,7 @@ returns c =
     let N = c.before.before in
     let A = (start N).args in
     let w = N.need-needed.ensures in (
-      asks-20 A.source.now (length A.target.now) _ _ w.0 w.1 (was-no refl c.if-not-needed.true),
+      asks-20 A.source.now (length A.target.now) _ _ w.0 w.1 (not-true _ c.if-not-needed.true),
       sym (settled-no 20 A.target.now (converted A.source.now (length A.target.now))
           (λ z. omega (arith, z))),
     )
@@ -52,7 +53,7 @@ needed c = c.before.before.before.before
 
 -- what was asked before the place is compared: 20
 told : (c : tie.After-at-start) → (needed c).need-needed.result.told ≡ true
-told c = was-yes refl c.if-not-needed.false
+told c = not-false _ c.if-not-needed.false
 
 area-is : (c : tie.After-at-start) → c.at-start.result ≡ (layout_of (start (needed c)).args.source.now).D
 area-is c = c.at-start.ensures ∙ shape-area (start (needed c)).requires.0.opened

@@ -43,11 +43,11 @@ allowed : (c : tie.After-check-found) → size_allowed (length (start c).args.ta
 allowed c = was-yes c.size_allowed.ensures c.if-not-size_allowed.false
 
 -- the verdict is the one that the branch is for
-is-sound : (c : tie.After-carry_over-arg-1) → check (start c.before.before.before).args.source.now ≡ sound
+is-sound : (c : tie.After-carry_over-arg-1) → check (start c.before.before).args.source.now ≡ sound
 unfolding verdict_in
 is-sound c =
     let T = c in
-    sym T.check-found.ensures ∙ ap verdict_in T.enum_told-1.given.1
+    sym T.check-found.ensures ∙ ap verdict_in T.in-Sound.is
 
 read-shape-requires : tie.Need-read_shape-requires
 read-shape-requires c κs = check-open _ (is-sound c)
@@ -55,7 +55,7 @@ read-shape-requires c κs = check-open _ (is-sound c)
 carry-over-requires : tie.Need-carry_over-requires
 carry-over-requires c κs =
     let P = c.before in
-    let K = c.before.before.before.before in
+    let K = c.before.before.before in
     let ok = is-sound P in (
       record {
         opened = record { accepted = check-open _ ok; shape = c.read_shape.ensures };
@@ -74,10 +74,10 @@ enum-told-3 c = search rules
 returns-2 : tie.Need-returns-in-Refused
 unfolding verdict_in
 returns-2 c =
-    let K = c.before.before.before in
+    let K = c.before in
     let A = (start K).args in
     let n = number-refused A.source.now (length A.target.now) (allowed K) _
-    (sym (ap verdict_in c.found-1.given.1) ∙ K.check-found.ensures) in
+    (sym (ap verdict_in c.in-Refused.is) ∙ K.check-found.ensures) in
     (n.0, into-refused A.source.now A.target.now _ n.0 n.1)
 
 same_length : tie.Need-shape_of-target
@@ -87,7 +87,7 @@ returns-3 : tie.Need-returns-in-Sound
 returns-3 c =
     let P = c in
     let Q = c.before.before.before.before in
-    let K = c.before.before.before.before.before.before.before in
+    let K = c.before.before.before.before.before.before in
     let A = (start K).args in
     let n = P.carry_over.ensures.0
     ∙ number-sound A.source.now (length A.target.now) (allowed K) (is-sound Q) in
@@ -96,20 +96,20 @@ returns-3 c =
 returns-4 : tie.Need-returns-in-SlotFails
 unfolding verdict_in
 returns-4 c =
-    let K = c.before.before in
+    let K = c.before in
     let A = (start K).args in
     let n = number-unsound A.source.now (length A.target.now) (allowed K) _
-    (sym (ap verdict_in c.enum_told-in-SlotFails-1.given.1) ∙ K.check-found.ensures) (slot-no _)
+    (sym (ap verdict_in c.in-SlotFails.is) ∙ K.check-found.ensures) (slot-no _)
     (λ k q. let z : ◌≡◌ {A = ℕ} 0 1 = cc in absurd (omega arith)) in
     (n, into-refused A.source.now A.target.now 15 n (λ e. omega (arith, e)))
 
 returns-5 : tie.Need-returns-in-CountFails
 unfolding verdict_in
 returns-5 c =
-    let K = c.before.before in
+    let K = c.before in
     let A = (start K).args in
     let n = number-unsound A.source.now (length A.target.now) (allowed K) _
-    (sym (ap verdict_in c.enum_told-in-CountFails-1.given.1) ∙ K.check-found.ensures) count_no
+    (sym (ap verdict_in c.in-CountFails.is) ∙ K.check-found.ensures) count_no
     (λ k q. let z : ◌≡◌ {A = ℕ} 0 1 = cc in absurd (omega arith)) in
     (n, into-refused A.source.now A.target.now 15 n (λ e. omega (arith, e)))
 

@@ -25,16 +25,16 @@ img c = c.args.image.now
 abbrev Sound? : Bytes → ℕ → Bool → Type 0
 Sound? b i t = message_sound (layout_of b) b (offset_of (layout_of b) (slot (layout_of b) b i)) ≡ t
 
-abbrev match-keys1-at-else1 : tie.Else-not-message_sound → tie.In-Met-1
-match-keys1-at-else1 c = c.before.before.before.before.before
+abbrev match-keys1-at-else1 : tie.Else-not-message_sound → tie.In-Met
+match-keys1-at-else1 c = c.before.before.before
 
 abbrev start-at-else1 : tie.Else-not-message_sound → tie.Start
-start-at-else1 c = c.before.before.before.before.before.before.before
+start-at-else1 c = c.before.before.before.before.before
 
-abbrev found-at-else1 : tie.Else-not-message_sound → tie.In-Met-2
-found-at-else1 c = c.before.before.before.before
+abbrev found-at-else1 : tie.Else-not-message_sound → tie.In-Met
+found-at-else1 c = c.before.before.before
 
-is-sound : (c : tie.Else-not-message_sound) → Sound? (img (start-at-else1 c)) (found-at-else1 c).found-1.given.0.0.0 true
+is-sound : (c : tie.Else-not-message_sound) → Sound? (img (start-at-else1 c)) (found-at-else1 c).in-Met.slot.0 true
 is-sound c =
     ap (message_sound (layout_of (img (start-at-else1 c))) (img (start-at-else1 c)))
     (sym c.offset_of-o.ensures)
@@ -53,19 +53,19 @@ enum-known-found c = search rules
 returns : tie.Need-returns-in_default
 returns c =
     let S = c.before.before in
-    refused (img S) _ _ 14 refl (removed-14 _ _ _ (other-met S.args.found c.in_default.keys2)) (λ z. omega arith)
+    refused (img S) _ _ 14 refl (removed-14 _ _ _ (other-met S.args.found c.in_default.in_default-own.keys2)) (λ z. omega arith)
 
 abbrev start-at-offset-of-arg : tie.In-Met → tie.Start
-start-at-offset-of-arg c = c.before.before.before.before
+start-at-offset-of-arg c = c.before.before
 
 offset-of-requires : tie.Need-offset_of-o-requires
 offset-of-requires c κs = (
   (start-at-offset-of-arg c).requires.0,
-  met-within c.found-1.given.1 (start-at-offset-of-arg c).requires.1,
+  met-within c.in-Met.is (start-at-offset-of-arg c).requires.1,
 )
 
 abbrev start-at-message-sound-arg : tie.After-offset_of-o → tie.Start
-start-at-message-sound-arg c = c.before.before.before.before.before
+start-at-message-sound-arg c = c.before.before.before
 
 message-sound-requires : tie.Need-message_sound-requires
 message-sound-requires c κs = (start-at-message-sound-arg c).requires.0
@@ -73,30 +73,30 @@ message-sound-requires c κs = (start-at-message-sound-arg c).requires.0
 same_length : tie.Need-shape_of-image-then-not-message_sound
 same_length c = search rules
 
-abbrev match-keys1-at-then1 : tie.Then-not-message_sound → tie.In-Met-1
-match-keys1-at-then1 c = c.before.before.before.before.before
+abbrev match-keys1-at-then1 : tie.Then-not-message_sound → tie.In-Met
+match-keys1-at-then1 c = c.before.before.before
 
 abbrev start-at-then1 : tie.Then-not-message_sound → tie.Start
-start-at-then1 c = c.before.before.before.before.before.before.before
+start-at-then1 c = c.before.before.before.before.before
 
-abbrev found-at-then1 : tie.Then-not-message_sound → tie.In-Met-2
-found-at-then1 c = c.before.before.before.before
+abbrev found-at-then1 : tie.Then-not-message_sound → tie.In-Met
+found-at-then1 c = c.before.before.before
 
 returns-2 : tie.Need-returns-then-not-message_sound
 returns-2 c =
     let S = (start-at-then1 c) in
-    let m = (found-at-then1 c).found-1.given in
-    let bad : Sound? (img S) m.0.0.0 false =
+    let m = (found-at-then1 c).in-Met in
+    let bad : Sound? (img S) m.slot.0 false =
     ap (message_sound (layout_of (img S)) (img S)) (sym c.offset_of-o.ensures)
     ∙ was-no c.message_sound.ensures c.if-not-message_sound.true in
-    refused (img S) _ _ 11 (met-is m.1) (removed-11 (layout_of (img S)) (img S) m.0.0.0 (unsound (img S) _ bad))
+    refused (img S) _ _ 11 (met-is m.is) (removed-11 (layout_of (img S)) (img S) m.slot.0 (unsound (img S) _ bad))
     (λ z. omega arith)
 
-abbrev found-at-read-u32-arg : tie.Else-not-message_sound → tie.In-Met-2
-found-at-read-u32-arg c = c.before.before.before.before
+abbrev found-at-read-u32-arg : tie.Else-not-message_sound → tie.In-Met
+found-at-read-u32-arg c = c.before.before.before
 
 abbrev start-at-read-u32-arg : tie.Else-not-message_sound → tie.Start
-start-at-read-u32-arg c = c.before.before.before.before.before.before.before
+start-at-read-u32-arg c = c.before.before.before.before.before
 
 read-u32-requires : tie.Need-read_u32-points-requires
 read-u32-requires c κs = omega (arith, (opened-facts _ (start-at-read-u32-arg c).requires.0.accepted).size_low)
@@ -108,31 +108,31 @@ abbrev offset-of-arg-at-then2 : tie.Then-points-eq0 → tie.In-Met
 offset-of-arg-at-then2 c = c.before.before.before.before.before
 
 abbrev start-at-then2 : tie.Then-points-eq0 → tie.Start
-start-at-then2 c = c.before.before.before.before.before.before.before.before.before
+start-at-then2 c = c.before.before.before.before.before.before.before
 
-abbrev found-at-then2 : tie.Then-points-eq0 → tie.In-Met-2
-found-at-then2 c = c.before.before.before.before.before.before
+abbrev found-at-then2 : tie.Then-points-eq0 → tie.In-Met
+found-at-then2 c = c.before.before.before.before.before
 
 returns-3 : tie.Need-returns-then-points-eq0
 returns-3 c =
     let S = (start-at-then2 c) in
-    let m = (found-at-then2 c).found-1.given in
-    refused (img S) _ _ 11 (met-is m.1)
-    (removed-11 (layout_of (img S)) (img S) m.0.0.0
+    let m = (found-at-then2 c).in-Met in
+    refused (img S) _ _ 11 (met-is m.is)
+    (removed-11 (layout_of (img S)) (img S) m.slot.0
     (no-point (img S) _ (is-sound c.before.before) (sym c.read_u32-points.ensures ∙ c.if-points-eq0.true)))
     (λ z. omega arith)
 
 abbrev offset-of-at-remove-arg : tie.After-remove-arg-1 → tie.After-offset_of-o
 offset-of-at-remove-arg c = c.before.before.before.before.before
 
-abbrev found-at-remove-arg : tie.After-remove-arg-1 → tie.In-Met-2
-found-at-remove-arg c = c.before.before.before.before.before.before.before
+abbrev found-at-remove-arg : tie.After-remove-arg-1 → tie.In-Met
+found-at-remove-arg c = c.before.before.before.before.before.before
 
 abbrev start-at-offset-of : tie.After-offset_of-o → tie.Start
-start-at-offset-of c = c.before.before.before.before.before
+start-at-offset-of c = c.before.before.before
 
 abbrev start-at-remove-arg : tie.After-remove-arg-1 → tie.Start
-start-at-remove-arg c = c.before.before.before.before.before.before.before.before.before.before
+start-at-remove-arg c = c.before.before.before.before.before.before.before.before
 
 abbrev message-sound-at-remove-arg : tie.After-remove-arg-1 → tie.After-message_sound
 message-sound-at-remove-arg c = c.before.before.before.before
@@ -142,10 +142,10 @@ else1-at-remove-arg c = c.before.before.before
 
 remove-requires : tie.Need-remove-requires
 remove-requires c κs =
-    let m = (found-at-remove-arg c).found-1.given in
+    let m = (found-at-remove-arg c).in-Met in
     let at = (offset-of-at-remove-arg c).offset_of-o.ensures in (
       (start-at-remove-arg c).requires.0,
-      met-within m.1 (start-at-remove-arg c).requires.1,
+      met-within m.is (start-at-remove-arg c).requires.1,
       at,
       was-yes (message-sound-at-remove-arg c).message_sound.ensures (else1-at-remove-arg c).if-not-message_sound.false,
       c.read_u32-points.ensures,
@@ -159,10 +159,10 @@ abbrev else1-at-slice-known2 : tie.After-slice_known-2-1 → tie.Else-not-messag
 else1-at-slice-known2 c = c.before.before.before.before.before.before
 
 abbrev start-at-slice-known2 : tie.After-slice_known-2-1 → tie.Start
-start-at-slice-known2 c = c.before.before.before.before.before.before.before.before.before.before.before.before.before
+start-at-slice-known2 c = c.before.before.before.before.before.before.before.before.before.before.before
 
-abbrev found-at-slice-known2 : tie.After-slice_known-2-1 → tie.In-Met-2
-found-at-slice-known2 c = c.before.before.before.before.before.before.before.before.before.before
+abbrev found-at-slice-known2 : tie.After-slice_known-2-1 → tie.In-Met
+found-at-slice-known2 c = c.before.before.before.before.before.before.before.before.before
 
 abbrev read-u32-at-slice-known2 : tie.After-slice_known-2-1 → tie.After-read_u32-points
 read-u32-at-slice-known2 c = c.before.before.before.before.before
@@ -174,11 +174,11 @@ returns-4 : tie.Need-returns
 unfolding deleted
 returns-4 c =
     let S = (start-at-slice-known2 c) in
-    let m = (found-at-slice-known2 c).found-1.given in
-    let i = m.0.0.0 in
+    let m = (found-at-slice-known2 c).in-Met in
+    let i = m.slot.0 in
     let g = layout_of (img S) in
     let p = (read-u32-at-slice-known2 c).read_u32-points in
-    let is = met-is m.1 in (
+    let is = met-is m.is in (
       sym (ap (λ (x : Probe). first_no (removed_asks g (img S) x)) is
           ∙ removed-0 g (img S) i (is-sound (else1-at-slice-known2 c))
           (some-point (img S) p.result p.ensures (else2-at-slice-known2 c).if-points-eq0.false)),

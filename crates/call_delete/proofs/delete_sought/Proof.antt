@@ -15,29 +15,29 @@ enum-known-sought-2 c = search rules
 delete-found-requires : tie.Need-delete_found-requires
 delete-found-requires c κs =
     let S = c in
-    let r = reached-is S.args.image.now S.args.key.now true S.requires c.sought-in-At-1.given.1 in
+    let r = reached-is S.args.image.now S.args.key.now true S.requires c.in-At.is in
     (r.opened, r.within)
 
 returns : tie.Need-returns-in-Refused
 returns c =
     let S = c in
-    let r = refused-is S.args.image.now S.args.key.now true S.requires c.sought-1.given.1 in
+    let r = refused-is S.args.image.now S.args.key.now true S.requires c.in-Refused.is in
     refused-answer S.args.image.now S.args.key.now _ r.0 r.1
 
 same_length : tie.Need-shape_of-image
 same_length c = search rules
 
-abbrev sought2-at-slice-known2 : tie.After-slice_known-in-At-1 → tie.In-At-2
-sought2-at-slice-known2 c = c.before.before.before.before.before
+abbrev sought2-at-slice-known2 : tie.After-slice_known-in-At-1 → tie.In-At
+sought2-at-slice-known2 c = c.before.before.before.before
 
 abbrev start-at-slice-known2 : tie.After-slice_known-in-At-1 → tie.Start
-start-at-slice-known2 c = c.before.before.before.before.before.before.before.before.before
+start-at-slice-known2 c = c.before.before.before.before.before.before.before
 
 returns-2 : tie.Need-returns-in-At
 returns-2 c =
     let S = start-at-slice-known2 c in
     let A = S.args in
-    let r = reached-is A.image.now A.key.now true S.requires (sought2-at-slice-known2 c).sought-in-At-1.given.1 in
+    let r = reached-is A.image.now A.key.now true S.requires (sought2-at-slice-known2 c).in-At.is in
     let d = c.delete_found in
     found-answer A.image.now A.key.now r.asked d.result d.new.image _ r.ended d.ensures.0
     d.ensures.1

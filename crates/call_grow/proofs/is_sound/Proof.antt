@@ -25,25 +25,25 @@ enum-told-4 c = search rules
 returns : tie.Need-returns-in-Refused
 unfolding is_sound verdict_in
 returns c =
-    sym (ap (λ (v : Verdict). is_sound (verdict_in v)) c.enum_told-1.given.1)
+    sym (ap (λ (v : Verdict). is_sound (verdict_in v)) c.in-Refused.is)
     ∙ ap is_sound c.check-found.ensures
 
 returns-2 : tie.Need-returns-in-Sound
 unfolding is_sound verdict_in
 returns-2 c =
-    sym (ap (λ (v : Verdict). is_sound (verdict_in v)) c.enum_told-in-Sound-1.given.1)
+    sym (ap (λ (v : Verdict). is_sound (verdict_in v)) c.in-Sound.is)
     ∙ ap is_sound c.check-found.ensures
 
 returns-3 : tie.Need-returns-in-SlotFails
 unfolding is_sound verdict_in
 returns-3 c =
-    sym (ap (λ (v : Verdict). is_sound (verdict_in v)) c.enum_told-in-SlotFails-1.given.1)
+    sym (ap (λ (v : Verdict). is_sound (verdict_in v)) c.in-SlotFails.is)
     ∙ ap is_sound c.check-found.ensures
 
 returns-4 : tie.Need-returns-in-CountFails
 unfolding is_sound verdict_in
 returns-4 c =
-    sym (ap (λ (v : Verdict). is_sound (verdict_in v)) c.enum_told-in-CountFails-1.given.1)
+    sym (ap (λ (v : Verdict). is_sound (verdict_in v)) c.in-CountFails.is)
     ∙ ap is_sound c.check-found.ensures
 
 pub is_sound_spec : {M : Type 1} → statement M

@@ -206,7 +206,7 @@ returns-2 c =
     left A.old.now A.new.now A.key.now A.bytes.now A.mode z _ _
     (read-shape-at-slice-known7 c).read_shape-shape.ensures
     (read-shape2-at-slice-known7 c).read_shape-larger.ensures _ _ _ (move-named-at-slice-known7 c).move_named.ensures
-    (add-at-slice-known7 c).add.ensures.1 _ _ c.Move-some.ensures
+    (add-at-slice-known7 c).add.ensures.1 _ _ c.move_some.ensures
 
 pub grow_add_spec : {M : Type 1} → statement M
 grow_add_spec =

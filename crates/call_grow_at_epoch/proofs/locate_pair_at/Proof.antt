@@ -181,7 +181,7 @@ show-requires-2 c κs =
     let P = c.before.before in
     let R = shape-at-else3 (shape2-at-choose2 P).before in
     let E = R.before in
-    let s = R.read-shape in
+    let s = R.read_shape-shape in
     let D = P.choose-first in
     record {
       opened = old-open R;

@@ -198,7 +198,7 @@ returns-2 c =
     let z = sym (delete-number-at-slice-known7 c).delete_number-number.ensures ∙ (else1-at-slice-known7 c).if-number-ne0.false in
     left A.old.now A.new.now A.key.now z _ _ (read-shape-at-slice-known7 c).read_shape-shape.ensures
     (read-shape2-at-slice-known7 c).read_shape-larger.ensures _ _ _ (move-named-at-slice-known7 c).move_named.ensures
-    (delete-at-slice-known7 c).delete.ensures.1 _ _ c.Move-some.ensures
+    (delete-at-slice-known7 c).delete.ensures.1 _ _ c.move_some.ensures
 
 pub grow_delete_spec : {M : Type 1} → statement M
 grow_delete_spec =

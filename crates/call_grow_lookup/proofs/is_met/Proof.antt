@@ -18,15 +18,15 @@ enum-told-3 c = search rules
 
 returns : tie.Need-returns-in-Met
 unfolding is_met probe_of
-returns c = sym (ap (λ (f : Found). is_met (probe_of f)) c.enum_told-1.given.1)
+returns c = sym (ap (λ (f : Found). is_met (probe_of f)) c.in-Met.is)
 
 returns-2 : tie.Need-returns-in-Empty
 unfolding is_met probe_of
-returns-2 c = sym (ap (λ (f : Found). is_met (probe_of f)) c.enum_told-in-Empty-1.given.1)
+returns-2 c = sym (ap (λ (f : Found). is_met (probe_of f)) c.in-Empty.is)
 
 returns-3 : tie.Need-returns-in-Exhausted
 unfolding is_met probe_of
-returns-3 c = sym (ap (λ (f : Found). is_met (probe_of f)) c.enum_told-in-Exhausted-1.given.1)
+returns-3 c = sym (ap (λ (f : Found). is_met (probe_of f)) c.in-Exhausted.is)
 
 pub is_met_spec : {M : Type 1} → statement M
 is_met_spec =

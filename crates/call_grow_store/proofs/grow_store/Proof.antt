@@ -208,7 +208,7 @@ returns-2 c =
     (read-shape-at-slice-known7 c).read_shape-shape.ensures
     (read-shape2-at-slice-known7 c).read_shape-larger.ensures _ _ _ (move-named-at-slice-known7 c).move_named.ensures
     (store-records-at-slice-known7 c).store_records.ensures.image _ _
-    c.Move-some.ensures
+    c.move_some.ensures
 
 pub grow_store_spec : {M : Type 1} → statement M
 grow_store_spec =

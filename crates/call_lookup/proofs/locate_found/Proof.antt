@@ -30,12 +30,12 @@ abbrev Sound? : Bytes → ℕ → Bool → Type 0
 Sound? b i t = message_sound (layout_of b) b (offset_of (layout_of b) (slot (layout_of b) b i)) ≡ t
 
 abbrev start-at-else1 : tie.Else-not-message_sound → tie.Start
-start-at-else1 c = c.before.before.before.before.before.before.before
+start-at-else1 c = c.before.before.before.before.before
 
-abbrev found-at-else1 : tie.Else-not-message_sound → tie.In-Met-2
-found-at-else1 c = c.before.before.before.before
+abbrev found-at-else1 : tie.Else-not-message_sound → tie.In-Met
+found-at-else1 c = c.before.before.before
 
-is-sound : (c : tie.Else-not-message_sound) → Sound? (img (start-at-else1 c)) (found-at-else1 c).found-1.given.0.0.0 true
+is-sound : (c : tie.Else-not-message_sound) → Sound? (img (start-at-else1 c)) (found-at-else1 c).in-Met.slot.0 true
 is-sound c =
     ap (message_sound (layout_of (img (start-at-else1 c))) (img (start-at-else1 c)))
     (sym c.offset_of-o.ensures)
@@ -68,18 +68,18 @@ returns : tie.Need-returns-in_default
 returns c =
     let S = c.before.before.before in
     let r = c.nothing.ensures in
-    let no' = shown-14 (layout_of (img S)) (img S) _ (other-met S.args.found c.in_default.keys2) in
+    let no' = shown-14 (layout_of (img S)) (img S) _ (other-met S.args.found c.in_default.in_default-own.keys2) in
     shows-refused (layout_of (img S)) (img S) _ _ _ _ (r.0 ∙ sym no') (λ z. omega (arith, r.0)) r.1 r.2
 
 abbrev start-at-known-told : tie.In-Met → tie.Start
-start-at-known-told c = c.before.before.before.before
+start-at-known-told c = c.before.before
 
 offset-of-requires : tie.Need-offset_of-o-requires
 offset-of-requires c κs =
-    ((start-at-known-told c).requires.0, met-within c.found-1.given.1 (start-at-known-told c).requires.1)
+    ((start-at-known-told c).requires.0, met-within c.in-Met.is (start-at-known-told c).requires.1)
 
 abbrev start-at-offset-of : tie.After-offset_of-o → tie.Start
-start-at-offset-of c = c.before.before.before.before.before
+start-at-offset-of c = c.before.before.before
 
 message-sound-requires : tie.Need-message_sound-requires
 message-sound-requires c κs = (start-at-offset-of c).requires.0
@@ -88,25 +88,25 @@ nothing-requires-2 : tie.Need-nothing-requires-then-not-message_sound
 nothing-requires-2 c κs = search rules
 
 abbrev shared-slice-known-at-nothing2 : tie.After-nothing-then-not-message_sound → tie.After-shared_slice_known-1
-shared-slice-known-at-nothing2 c = c.before.before.before.before.before.before.before
+shared-slice-known-at-nothing2 c = c.before.before.before.before.before
 
 abbrev start-at-nothing2 : tie.After-nothing-then-not-message_sound → tie.Start
-start-at-nothing2 c = c.before.before.before.before.before.before.before.before
+start-at-nothing2 c = c.before.before.before.before.before.before
 
-abbrev found-at-nothing2 : tie.After-nothing-then-not-message_sound → tie.In-Met-2
-found-at-nothing2 c = c.before.before.before.before.before
+abbrev found-at-nothing2 : tie.After-nothing-then-not-message_sound → tie.In-Met
+found-at-nothing2 c = c.before.before.before.before
 
 returns-2 : tie.Need-returns-then-not-message_sound
 returns-2 c =
     let S = (start-at-nothing2 c) in
     let r = c.nothing-then-not-message_sound.ensures in
-    let m = (found-at-nothing2 c).found-1.given in
-    let bad : Sound? (img S) m.0.0.0 false =
+    let m = (found-at-nothing2 c).in-Met in
+    let bad : Sound? (img S) m.slot.0 false =
     ap (message_sound (layout_of (img S)) (img S)) (sym c.offset_of-o.ensures)
     ∙ was-no c.message_sound.ensures c.if-not-message_sound.true in
-    met-shows (met-is m.1)
-    (shows-refused (layout_of (img S)) (img S) (met m.0.0.0) _ _ _
-    (r.0 ∙ sym (shown-11 (layout_of (img S)) (img S) m.0.0.0 bad))
+    met-shows (met-is m.is)
+    (shows-refused (layout_of (img S)) (img S) (met m.slot.0) _ _ _
+    (r.0 ∙ sym (shown-11 (layout_of (img S)) (img S) m.slot.0 bad))
     (λ z. omega (arith, r.0)) r.1 r.2)
 
 is-active-requires : tie.Need-is_active-requires
@@ -115,11 +115,11 @@ is-active-requires c κs = omega (arith, head_in c, head-range (start-at-else1 c
 nothing-requires-3 : tie.Need-nothing-requires-then-not-is_active
 nothing-requires-3 c κs = search rules
 
-abbrev found-at-nothing3 : tie.After-nothing-then-not-is_active → tie.In-Met-2
-found-at-nothing3 c = c.before.before.before.before.before.before.before
+abbrev found-at-nothing3 : tie.After-nothing-then-not-is_active → tie.In-Met
+found-at-nothing3 c = c.before.before.before.before.before.before
 
 abbrev start-at-nothing3 : tie.After-nothing-then-not-is_active → tie.Start
-start-at-nothing3 c = c.before.before.before.before.before.before.before.before.before.before
+start-at-nothing3 c = c.before.before.before.before.before.before.before.before
 
 abbrev offset-of-at-nothing3 : tie.After-nothing-then-not-is_active → tie.After-offset_of-o
 offset-of-at-nothing3 c = c.before.before.before.before.before
@@ -128,29 +128,29 @@ returns-3 : tie.Need-returns-then-not-is_active
 returns-3 c =
     let S = (start-at-nothing3 c) in
     let r = c.nothing-then-not-is_active.ensures in
-    let m = (found-at-nothing3 c).found-1.given in
-    met-shows (met-is m.1)
-    (shows-inactive (layout_of (img S)) (img S) m.0.0.0 (is-sound c.before.before.before) _ _ _ r.0
+    let m = (found-at-nothing3 c).in-Met in
+    met-shows (met-is m.is)
+    (shows-inactive (layout_of (img S)) (img S) m.slot.0 (is-sound c.before.before.before) _ _ _ r.0
     (ap (is_active (img S)) (sym (offset-of-at-nothing3 c).offset_of-o.ensures)
     ∙ was-no c.is_active.ensures c.if-not-is_active.true)
     r.1 r.2)
 
-abbrev match-keys1-at-else2 : tie.Else-not-is_active → tie.In-Met-1
-match-keys1-at-else2 c = c.before.before.before.before.before.before.before
+abbrev match-keys1-at-else2 : tie.Else-not-is_active → tie.In-Met
+match-keys1-at-else2 c = c.before.before.before.before.before
 
 abbrev start-at-else2 : tie.Else-not-is_active → tie.Start
-start-at-else2 c = c.before.before.before.before.before.before.before.before.before
+start-at-else2 c = c.before.before.before.before.before.before.before
 
 text-start-requires : tie.Need-text_start-start-requires
 text-start-requires c κs =
     let f = opened-facts _ (start-at-else2 c).requires.0.accepted in
     (omega (arith, head_in c.before.before, f.size-high), omega (arith, head-range (start-at-else2 c).requires.0))
 
-abbrev found-at-text-start : tie.After-text_start-start → tie.In-Met-2
-found-at-text-start c = c.before.before.before.before.before.before.before
+abbrev found-at-text-start : tie.After-text_start-start → tie.In-Met
+found-at-text-start c = c.before.before.before.before.before.before
 
 abbrev start-at-text-start : tie.After-text_start-start → tie.Start
-start-at-text-start c = c.before.before.before.before.before.before.before.before.before.before
+start-at-text-start c = c.before.before.before.before.before.before.before.before
 
 length-at-requires : tie.Need-length_at-length-requires
 length-at-requires c κs = ((start-at-text-start c).requires.0, head_in c.before.before.before)
@@ -159,10 +159,10 @@ abbrev known-told-at-length-at : tie.After-length_at-length → tie.In-Met
 known-told-at-length-at c = c.before.before.before.before.before.before.before
 
 abbrev start-at-length-at : tie.After-length_at-length → tie.Start
-start-at-length-at c = c.before.before.before.before.before.before.before.before.before.before.before
+start-at-length-at c = c.before.before.before.before.before.before.before.before.before
 
-abbrev found-at-length-at : tie.After-length_at-length → tie.In-Met-2
-found-at-length-at c = c.before.before.before.before.before.before.before.before
+abbrev found-at-length-at : tie.After-length_at-length → tie.In-Met
+found-at-length-at c = c.before.before.before.before.before.before.before
 
 abbrev offset-of-at-length-at : tie.After-length_at-length → tie.After-offset_of-o
 offset-of-at-length-at c = c.before.before.before.before.before.before
@@ -173,11 +173,11 @@ else1-at-length-at c = c.before.before.before.before
 returns-4 : tie.Need-returns
 returns-4 c =
     let S = (start-at-length-at c) in
-    let m = (found-at-length-at c).found-1.given in
+    let m = (found-at-length-at c).in-Met in
     let g = layout_of (img S) in
     let at = (offset-of-at-length-at c).offset_of-o.ensures in
-    met-shows (met-is m.1)
-    (shows-active g (img S) m.0.0.0 (is-sound (else1-at-length-at c)) _ _ _ refl
+    met-shows (met-is m.is)
+    (shows-active g (img S) m.slot.0 (is-sound (else1-at-length-at c)) _ _ _ refl
     (ap (is_active (img S)) (sym at)
     ∙ was-yes c.is_active.ensures c.if-not-is_active.false)
     (omega (arith, c.text_start-start.ensures, at, shape-head S.requires.0))

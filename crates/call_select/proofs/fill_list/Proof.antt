@@ -11,6 +11,7 @@ use Rattle.law_file.proofs.Tests.{by-either}
 use Rattle.table_search.proofs.Headers.{header, layout-slots}
 use Rattle.call_select.proofs.Filling.{Filling, filling-start, filling-take, filling-pass, filling-end, filling-few, filling-room}
 use Rattle.call_select.proofs.fill_list.Statement.{statement}
+use Rattle.call_select.proofs.fill_list.Lts.{then-is_selected, else-is_selected}
 use Rattle.call_select.proofs.fill_list.Tie as tie
 
 abbrev invariant-loop : tie.invariant-loop-i
@@ -97,14 +98,17 @@ loop-again c =
     let A = (start L).args in
     let n = A.shape.slots in
     let l = R.loop-i-test.true in
-    by-either c.if-is_selected.branch
-    (λ w. subst (λ (k : ℕ). Filling (listed L) n A.list.now c.if-is_selected.list k (L.loop-i.i + 1)) (sym w.6)
-    (filling-take (listed L) n A.list.now L.loop-i.list L.loop-i.found L.loop-i.i L.loop-i.invariant
-    (start L).requires.2 l (answered R w.0.taken) c.if-is_selected.list (w.5 ∙ w.2.ensures)))
-    (λ w. subst (λ (k : ℕ). Filling (listed L) n A.list.now c.if-is_selected.list k (L.loop-i.i + 1)) (sym w.2)
-    (subst (λ (b : Bytes). Filling (listed L) n A.list.now b L.loop-i.found (L.loop-i.i + 1)) (sym w.1)
-    (filling-pass (listed L) n A.list.now L.loop-i.list L.loop-i.found L.loop-i.i L.loop-i.invariant l
-    (answered R w.0.left))))
+    elim c.if-is_selected.branch [
+      | then-is_selected w ↦
+          subst (λ (k : ℕ). Filling (listed L) n A.list.now c.if-is_selected.list k (L.loop-i.i + 1)) (sym w.found-is)
+          (filling-take (listed L) n A.list.now L.loop-i.list L.loop-i.found L.loop-i.i L.loop-i.invariant
+          (start L).requires.2 l (answered R w.if-is_selected.true) c.if-is_selected.list (w.list-is ∙ w.write_u32.ensures))
+      | else-is_selected w ↦
+          subst (λ (k : ℕ). Filling (listed L) n A.list.now c.if-is_selected.list k (L.loop-i.i + 1)) (sym w.found-is)
+          (subst (λ (b : Bytes). Filling (listed L) n A.list.now b L.loop-i.found (L.loop-i.i + 1)) (sym w.list-is)
+          (filling-pass (listed L) n A.list.now L.loop-i.list L.loop-i.found L.loop-i.i L.loop-i.invariant l
+          (answered R w.if-is_selected.false)))
+    ]
 
 same_length : tie.Need-shape_of-list invariant-loop decreases-loop
 same_length c = c.loop-i.invariant.size

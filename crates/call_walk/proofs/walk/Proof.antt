@@ -28,21 +28,21 @@ enum-known-stop-2 c = search rules
 number-requires : tie.Need-number-requires
 number-requires c κs = search rules
 
-abbrev start-at-stop2 : tie.In-At-2 → tie.Start
-start-at-stop2 c = c.before.before.before.before
+abbrev start-at-stop2 : tie.In-At → tie.Start
+start-at-stop2 c = c.before.before.before
 
 -- where the code stops, the walk does
-stops : (c : tie.In-At-2)
+stops : (c : tie.In-At)
     → let S : tie.Start = start-at-stop2 c in
-    key_walk S.args.image.now S.args.from ≡ stopped c.stop-in-At-1.given.0.0.0
+    key_walk S.args.image.now S.args.from ≡ stopped c.in-At.i.0
 stops c =
     let A = (start-at-stop2 c).args in
     let next = c.next_taken-stop in
-    stopped-is A.image.now A.from next.result next.ensures c.stop-in-At-1.given.1
+    stopped-is A.image.now A.from next.result next.ensures c.in-At.is
 
 cast-slot : tie.Need-overflow_cast-slot
 cast-slot c =
-    let P = c.before.before in
+    let P = c.before in
     let A = (start-at-stop2 P).args in
     let w = stops P in
     let f = opened-facts A.image.now (stopped-open A.image.now A.from _ w) in
@@ -52,18 +52,18 @@ cast-slot c =
 
 read-shape-requires : tie.Need-read_shape-requires
 read-shape-requires c κs =
-    let P = c.before.before in
+    let P = c.before in
     let A = (start-at-stop2 P).args in
     let w = stops P in
     stopped-open A.image.now A.from _ w
 
 key-of-requires : tie.Need-key_of-requires
 key-of-requires c κs =
-    let P = c.before.before.before in
+    let P = c.before.before in
     let A = (start-at-stop2 P).args in
     let w = stops P in (
       record { accepted = stopped-open A.image.now A.from _ w; shape = c.read_shape.ensures },
-      subst (λ (n : ℕ). c.stop-in-At-1.given.0.0.0 < n)
+      subst (λ (n : ℕ). c.in-At.i.0 < n)
           (layout-slots A.image.now c.read_shape.result c.read_shape.ensures)
           (stopped-below A.image.now A.from _ w),
     )
@@ -80,12 +80,12 @@ returns c =
     let A = F.args in
     let s = shown-refused A.image.now (key_walk A.image.now A.from) _
     (refused-is A.image.now A.from F.next_taken-stop.result F.next_taken-stop.ensures
-    c.stop-1.given.1) in
+    c.in-Refused.is) in
     (s.key, s.number_is, s.slot_is)
 
 returns-2 : tie.Need-returns-in-At
 returns-2 c =
-    let P = c.before.before.before.before in
+    let P = c.before.before.before in
     let A = (start-at-stop2 P).args in
     let w = stops P in
     let s =
@@ -99,7 +99,7 @@ returns-3 c =
     let A = F.args in
     let s = shown-end A.image.now (key_walk A.image.now A.from)
     (end_is A.image.now A.from F.next_taken-stop.result F.next_taken-stop.ensures
-    c.enum_told-1.given.1) in
+    c.in-End.is) in
     (s.key, s.number_is, s.slot_is)
 
 pub walk_spec : {M : Type 1} → statement M

@@ -47,7 +47,7 @@ next-requires-2 c κs = c.loop-shape.invariant
 -- the slot is not the first one
 other : (I : tie.In-loop-shape invariant-loop decreases-loop)
     → let L : tie.At-loop-shape invariant-loop decreases-loop = I.before.before.before in
-    L.loop.j.0 ≡ (start L).args.i.0 → ⊥
+    L.loop-shape.j.0 ≡ (start L).args.i.0 → ⊥
 other I e = I.loop-shape-test.true (I.number.ensures ∙ e ∙ sym I.number-in-loop-shape.ensures)
 
 loop-less : tie.Need-loop-shape-smaller invariant-loop decreases-loop

@@ -29,7 +29,7 @@ of-found-requires c κs =
     let k = K.mode_known in
     let r =
     reached-is S.args.image.now S.args.key.now k.result c.seek-sought.ensures
-    c.sought-in-At-1.given.1 in
+    c.in-At.is in
     (r.opened, r.within)
 
 returns : tie.Need-returns-in-Refused
@@ -38,7 +38,7 @@ returns c =
     let A = K.args in
     let r =
     refused-is A.image.now A.key.now K.mode_known.result c.seek-sought.ensures
-    c.sought-1.given.1 in (
+    c.in-Refused.is in (
       c.none.ensures (length A.image.now),
       add-stopped A.image.now A.key.now A.bytes.now A.mode K.mode_known.result c.none.result
           K.mode_known.ensures (λ z. r.1 (r.0 ∙ z)),
@@ -51,7 +51,7 @@ returns-2 c =
     let A = K.args in
     let r =
     reached-is A.image.now A.key.now K.mode_known.result F.seek-sought.ensures
-    F.sought-in-At-1.given.1 in (
+    F.in-At.is in (
       c.of_found.ensures.0,
       c.of_found.ensures.1 A.key.now A.bytes.now A.mode (sym r.ended) refl,
     )

@@ -25,7 +25,7 @@ of-deleted-requires c κs =
     let S = c in
     let r =
     reached-is S.args.image.now S.args.key.now true c.seek-sought.ensures
-    c.sought-in-At-1.given.1 in
+    c.in-At.is in
     (r.opened, r.within)
 
 returns : tie.Need-returns-in-Refused
@@ -33,7 +33,7 @@ returns c =
     let K = c in
     let A = K.args in
     let r =
-    refused-is A.image.now A.key.now true K.seek-sought.ensures c.sought-1.given.1 in (
+    refused-is A.image.now A.key.now true K.seek-sought.ensures c.in-Refused.is in (
       c.none.ensures (length A.image.now),
       delete-stopped A.image.now A.key.now c.none.result (λ z. r.1 (r.0 ∙ z)),
     )
@@ -44,7 +44,7 @@ returns-2 c =
     let K = c in
     let A = K.args in
     let r =
-    reached-is A.image.now A.key.now true K.seek-sought.ensures F.sought-in-At-1.given.1 in
+    reached-is A.image.now A.key.now true K.seek-sought.ensures F.in-At.is in
     (c.of_deleted.ensures.0, c.of_deleted.ensures.1 A.key.now (sym r.ended))
 
 pub of_delete_spec : {M : Type 1} → statement M

@@ -30,13 +30,13 @@ returns c =
     let A = c.args in (
       c.none.ensures (length A.image.now),
       delete-none A.image.now c.none.result (probe_of A.found)
-          (other-met A.found c.in_default.keys2),
+          (other-met A.found c.in_default.in_default-own.keys2),
     )
 
 offset-of-requires : tie.Need-offset_of-o-requires
 offset-of-requires c κs =
     let S = c in
-    (S.requires.0, met-within c.found-1.given.1 S.requires.1)
+    (S.requires.0, met-within c.in-Met.is S.requires.1)
 
 message-sound-requires : tie.Need-message_sound-requires
 message-sound-requires c κs = search rules
@@ -45,10 +45,10 @@ none-requires-2 : tie.Need-none-requires-then-not-message_sound
 none-requires-2 c κs = search rules
 
 abbrev start : tie.After-offset_of-o → tie.Start
-start O = O.before.before.before.before.before
+start O = O.before.before.before
 
 abbrev slot_of : tie.After-offset_of-o → ℕ
-slot_of O = O.found-1.given.0.0.0
+slot_of O = O.in-Met.slot.0
 
 -- of a point that is present, where its message is sound
 present : (O : tie.After-offset_of-o) (w : Windows)
@@ -59,12 +59,12 @@ present : (O : tie.After-offset_of-o) (w : Windows)
     → DeleteOnly A.args.image.now (probe_of A.args.found) w
 present O w h key e =
     let S = start O in
-    let m = O.found-1.given in
-    let l = met-within m.1 S.requires.1 in
+    let m = O.in-Met in
+    let l = met-within m.is S.requires.1 in
     delete-present S.args.image.now w (slot_of O)
     (omega (arith, l, layout-slots S.args.image.now S.args.shape S.requires.0.shape))
     (opened-room S.args.image.now (opened-facts S.args.image.now S.requires.0.accepted))
-    h key (e ∙ met-is m.1)
+    h key (e ∙ met-is m.is)
 
 returns-2 : tie.Need-returns-then-not-message_sound
 returns-2 c =
@@ -84,7 +84,7 @@ of-walk-requires c κs =
     let O = c.before.before in
     let S = start O in (
       S.requires.0,
-      met-within O.found-1.given.1 S.requires.1,
+      met-within O.in-Met.is S.requires.1,
       was-yes c.message_sound.ensures c.if-not-message_sound.false,
     )
 

@@ -19,7 +19,7 @@ enum-known-found c = search rules
 of-present-requires : tie.Need-of_present-requires
 of-present-requires c κs =
     let S = c in
-    (S.requires.0, met-within c.found-1.given.1 S.requires.1)
+    (S.requires.0, met-within c.in-Met.is S.requires.1)
 
 enum-known-found-2 : tie.Need-enum_known-found-in-Empty-1
 enum-known-found-2 c = search rules
@@ -32,7 +32,7 @@ of-entry-requires c κs =
     let S = c in
     let img = S.args.image.now in (
       S.requires.0,
-      empty-within c.found-in-Empty-1.given.1 S.requires.1,
+      empty-within c.in-Empty.is S.requires.1,
       ap (message_sound (layout_of img) img) c.new.ensures ∙ none-sound (layout_of img) img,
     )
 
@@ -45,22 +45,22 @@ none-requires c κs = search rules
 returns : tie.Need-returns-in-Met
 returns c =
     let A = c.args in
-    let m = c.found-1.given in (
+    let m = c.in-Met in (
       c.of_present.ensures.0,
-      λ key bytes mode e len. add-present A.image.now A.m c.of_present.result m.0.0.0
-          c.of_present.ensures.1 key bytes mode (e ∙ met-is m.1) len,
+      λ key bytes mode e len. add-present A.image.now A.m c.of_present.result m.slot.0
+          c.of_present.ensures.1 key bytes mode (e ∙ met-is m.is) len,
     )
 
 returns-2 : tie.Need-returns-in-Empty
 returns-2 c =
     let N = c in
     let A = N.args in
-    let m = N.found-in-Empty-1.given in
+    let m = N.in-Empty in
     let w = c.of_entry.result in (
       c.of_entry.ensures.0,
-      λ key bytes mode e len. add-new A.image.now A.m w m.0.0.0
-          (subst (λ (a : ℕ). Entry A.image.now m.0.0.0 a A.m w) N.new.ensures c.of_entry.ensures.1)
-          key bytes mode (e ∙ empty-is m.1) len,
+      λ key bytes mode e len. add-new A.image.now A.m w m.slot.0
+          (subst (λ (a : ℕ). Entry A.image.now m.slot.0 a A.m w) N.new.ensures c.of_entry.ensures.1)
+          key bytes mode (e ∙ empty-is m.is) len,
     )
 
 returns-3 : tie.Need-returns-in-Exhausted
@@ -69,7 +69,7 @@ returns-3 c =
     let A = c.args in (
       c.none.ensures (length A.image.now),
       λ key bytes mode e len. add_none A.image.now A.m c.none.result key bytes mode
-          (e ∙ ap probe_of c.enum_told-1.given.1) len,
+          (e ∙ ap probe_of c.in-Exhausted.is) len,
     )
 
 pub of_found_spec : {M : Type 1} → statement M

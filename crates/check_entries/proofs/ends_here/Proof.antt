@@ -168,7 +168,7 @@ sub-left c = omega (arith, some_left (turned c.before))
 loop-less : tie.Need-loop-left-smaller invariant-loop decreases-loop
 loop-less c =
     let P = passed-at-there (turned c.before) in
-    omega (arith, P.pass-over.ensures.1.fewer, some_left (turned c.before))
+    omega (arith, P.pass_over-turn.ensures.1.fewer, some_left (turned c.before))
 
 loop-again : tie.Need-loop-left-preserved invariant-loop decreases-loop
 loop-again c =

@@ -8,6 +8,7 @@ use Rattle.law_file.proofs.Tests.{by-either, was-no, was-yes}
 use Rattle.table_search.proofs.Headers.{header}
 use Rattle.check_entries.proofs.Turns.{Passed, passed_start, passed_on, passed_over, passed-fails, passed-all}
 use Rattle.check_entries.proofs.pass_entries.Statement.{statement}
+use Rattle.check_entries.proofs.pass_entries.Lts.{then-is_taken+else-not-entry_sound, else-is_taken}
 use Rattle.check_entries.proofs.pass_entries.Tie as tie
 
 abbrev invariant-loop : tie.invariant-loop-i
@@ -70,13 +71,16 @@ loop-again c =
     let g = layout_of img in
     let n = A.shape.slots in
     let l = N.loop-i-test.true in
-    by-either c.if-is_taken.branch
-    (λ w. subst (λ (k : ℕ). Passed g img n k (L.loop-i.i + 1)) (sym w.3)
-    (passed_on g img n L.loop-i.count L.loop-i.i L.loop-i.invariant l N.new-at.result.0 N.new-at.ensures
-    (sym c.is_taken.ensures ∙ w.0.taken) (was-yes w.1.ensures w.2.left)))
-    (λ w. subst (λ (k : ℕ). Passed g img n k (L.loop-i.i + 1)) (sym w.1)
-    (passed_over g img n L.loop-i.count L.loop-i.i L.loop-i.invariant l N.new-at.result.0 N.new-at.ensures
-    (sym c.is_taken.ensures ∙ w.0.left)))
+    elim c.if-is_taken.branch [
+      | then-is_taken+else-not-entry_sound w ↦
+          subst (λ (k : ℕ). Passed g img n k (L.loop-i.i + 1)) (sym w.count-is)
+          (passed_on g img n L.loop-i.count L.loop-i.i L.loop-i.invariant l N.new-at.result.0 N.new-at.ensures
+          (sym c.is_taken.ensures ∙ w.if-is_taken.true) (was-yes w.entry_sound.ensures w.if-not-entry_sound.false))
+      | else-is_taken w ↦
+          subst (λ (k : ℕ). Passed g img n k (L.loop-i.i + 1)) (sym w.count-is)
+          (passed_over g img n L.loop-i.count L.loop-i.i L.loop-i.invariant l N.new-at.result.0 N.new-at.ensures
+          (sym c.is_taken.ensures ∙ w.if-is_taken.false))
+    ]
 
 returns-2 : tie.Need-returns invariant-loop decreases-loop
 returns-2 c =

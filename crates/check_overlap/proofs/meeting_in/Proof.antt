@@ -10,7 +10,7 @@ same_length : tie.Need-shape_of-room-then-seen_apart
 same_length c = search rules
 
 returns : tie.Need-returns-then-seen_apart
-returns c = c.Seen-apart.ensures c.if-seen_apart.true
+returns c = c.seen_apart.ensures c.if-seen_apart.true
 
 sweep-requires : tie.Need-sweep-requires
 sweep-requires c κs = search rules

@@ -49,17 +49,17 @@ enum-known-found c = search rules
 returns : tie.Need-returns-in_default
 returns c =
     let S = c.before.before.before.before in
-    refused S _ _ 10 (other-empty S.args.found c.in_default.keys2 S.requires.3)
+    refused S _ _ 10 (other-empty S.args.found c.in_default.in_default-own.keys2 S.requires.3)
     (sym (point-10-exhausted _ _ (text S) 2 refl)) (λ z. omega arith)
 
 -- ---- an empty slot was met
 
-abbrev start-at-found : tie.In-Empty-2 → tie.Start
-start-at-found c = c.before.before.before.before.before
+abbrev start-at-found : tie.In-Empty → tie.Start
+start-at-found c = c.before.before.before.before
 
 read-u32-requires : tie.Need-read_u32-requires
 read-u32-requires c κs =
-    omega (arith, (opened-facts _ (start-at-found c.before).requires.0.accepted).size_low)
+    omega (arith, (opened-facts _ (start-at-found c).requires.0.accepted).size_low)
 
 cast-if1 : tie.Need-overflow_cast-read_u32
 cast-if1 c = search rules
@@ -69,25 +69,25 @@ same_length c = search rules
 
 returns-2 : tie.Need-returns-then-slots-read_u32
 returns-2 c =
-    let F = c.before.before.before in
+    let F = c.before.before in
     let S = start-at-found F in
     let img = S.args.image.now in
     let full : (layout_of img).N ≤ field img points_field =
     omega (arith, c.if-slots-read_u32.true, c.read_u32.ensures, layout-slots img S.args.shape S.requires.0.shape) in
-    refused S _ _ 10 (empty-is F.found-1.given.1)
+    refused S _ _ 10 (empty-is F.in-Empty.is)
     (sym (point-10-full (layout_of img) img (text S) 2 _ refl (le-ltb (field img points_field) (layout_of img).N full)))
     (λ z. omega arith)
 
 -- ---- C is below N
 
-abbrev found-at-else1 : tie.Else-slots-read_u32 → tie.In-Empty-2
-found-at-else1 c = c.before.before.before
+abbrev found-at-else1 : tie.Else-slots-read_u32 → tie.In-Empty
+found-at-else1 c = c.before.before
 
 abbrev start-at-else1 : tie.Else-slots-read_u32 → tie.Start
-start-at-else1 c = c.before.before.before.before.before.before.before.before
+start-at-else1 c = c.before.before.before.before.before.before
 
 abbrev slot_at : tie.Else-slots-read_u32 → ℕ
-slot_at c = (found-at-else1 c).found-1.given.0.0.0
+slot_at c = (found-at-else1 c).in-Empty.slot.0
 
 -- the number is that of 12 and 13
 placing : (c : tie.Else-slots-read_u32)
@@ -125,7 +125,7 @@ returns-3 : tie.Need-returns-then-number-ne0
 returns-3 c =
     let R = c.before in
     let E = else1-at-room R in
-    refused (start-at-else1 E) _ _ R.room_number-number.result (empty-is (found-at-else1 E).found-1.given.1)
+    refused (start-at-else1 E) _ _ R.room_number-number.result (empty-is (found-at-else1 E).in-Empty.is)
     (asked R ∙ sym (placing E)) c.if-number-ne0.true
 
 insert-records-requires : tie.Need-insert_records-requires
@@ -136,7 +136,7 @@ insert-records-requires c κs =
     let S = start-at-else1 E in
     let fits = place-fits S.requires.0 (text S) (sym (asked R) ∙ Z.if-number-ne0.false) in (
       S.requires.0,
-      empty-within (found-at-else1 E).found-1.given.1 S.requires.1,
+      empty-within (found-at-else1 E).in-Empty.is S.requires.1,
       S.requires.2,
       record { small = omega (arith, long S, fits.small); room = omega (arith, long S, fits.room) },
       S.requires.4,
@@ -156,7 +156,7 @@ returns-4 c =
     let E = else1-at-room R in
     let S = start-at-else1 E in
     let img = S.args.image.now in
-    let is = empty-is (found-at-else1 E).found-1.given.1 in (
+    let is = empty-is (found-at-else1 E).in-Empty.is in (
       sym Z.if-number-ne0.false ∙ asked R ∙ sym (ap (number S) is ∙ placing E),
       c.insert_records.ensures
           ∙ sym (settled-yes 0 img (after S (empty (slot_at E))) refl)

@@ -162,7 +162,7 @@ returns-3 c =
     let img = A.image.now in
     let g = layout_of img in
     let new = c.relocate_records in
-    place-done g img (placed S) (after S) (text S) (longer E) R.room-number.result (asked R) Z.if-number-ne0.false
+    place-done g img (placed S) (after S) (text S) (longer E) R.room_number-number.result (asked R) Z.if-number-ne0.false
     new.new.image
     (new.ensures
     ∙ sym (renewed-moved g img A.slot.0 A.o.0 (key_in img A.slot.0) (text S) 2 (text S) (longer E)))

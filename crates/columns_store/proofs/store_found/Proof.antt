@@ -21,7 +21,7 @@ start-at-store-absent-arg c = c.before.before.before.before.before
 store-absent-requires : tie.Need-store_absent-requires
 store-absent-requires c κs =
     let S = start-at-store-absent-arg c in
-    (S.requires.0, S.requires.1, S.requires.3, other-met S.args.found c.in_default.keys2, S.requires.4)
+    (S.requires.0, S.requires.1, S.requires.3, other-met S.args.found c.in_default.in_default-own.keys2, S.requires.4)
 
 same_length : tie.Need-shape_of-image-in_default
 same_length c = search rules
@@ -29,20 +29,20 @@ same_length c = search rules
 returns : tie.Need-returns-in_default
 returns c = c.store_absent.ensures
 
-abbrev start-at-found : tie.In-Met-2 → tie.Start
-start-at-found c = c.before.before.before.before.before
+abbrev start-at-found : tie.In-Met → tie.Start
+start-at-found c = c.before.before.before.before
 
 store-present-requires : tie.Need-store_present-requires
 store-present-requires c κs =
-    let F = c.before.before in
+    let F = c.before in
     let S = start-at-found F in
-    (S.requires.0, met-within F.found-1.given.1 S.requires.1, S.requires.4)
+    (S.requires.0, met-within F.in-Met.is S.requires.1, S.requires.4)
 
 same-length-2 : tie.Need-shape_of-image
 same-length-2 c = search rules
 
-abbrev found-at-end : tie.After-slice_known-2-1 → tie.In-Met-2
-found-at-end c = c.before.before.before.before.before
+abbrev found-at-end : tie.After-slice_known-2-1 → tie.In-Met
+found-at-end c = c.before.before.before.before
 
 returns-2 : tie.Need-returns
 returns-2 c =
@@ -53,7 +53,7 @@ returns-2 c =
     let g = layout_of img in
     let text = columns A.width A.records.now in
     let p = c.store_present in
-    let met' = F.found-1.given.1 in (
+    let met' = F.in-Met.is in (
       p.ensures.0 ∙ ap (λ (s : Probe). first_no (point_asks g img s text 2)) (sym (met-is met')),
       p.ensures.1
           ∙ ap₂ (λ (s : Probe) (key : Bytes). settled p.result img (added_at g img s key text 2))

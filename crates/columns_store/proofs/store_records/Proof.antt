@@ -32,19 +32,19 @@ same_length c = search rules
 
 -- ---- the header is accepted, and the key searched
 
-abbrev start-at-sought2 : tie.In-At-2 → tie.Start
-start-at-sought2 c = c.before.before.before.before.before.before
+abbrev start-at-sought2 : tie.In-At → tie.Start
+start-at-sought2 c = c.before.before.before.before.before
 
-reached : (c : tie.In-At-2)
+reached : (c : tie.In-At)
     → let A = (start-at-sought2 c).args in
-    let s = c.sought-in-At-1.given.0 in
-    Reached A.image.now A.key.now true s.0 s.1.0 s.1.1.0
+    let s = c.in-At in
+    Reached A.image.now A.key.now true s.shape s.found s.field-2
 reached c =
     let A = (start-at-sought2 c).args in
-    reached-is A.image.now A.key.now true c.seek-sought.ensures c.sought-in-At-1.given.1
+    reached-is A.image.now A.key.now true c.seek-sought.ensures c.in-At.is
 
-abbrev sought2-at-whole : tie.After-whole_records → tie.In-At-2
-sought2-at-whole c = c.before.before
+abbrev sought2-at-whole : tie.After-whole_records → tie.In-At
+sought2-at-whole c = c.before
 
 returns : tie.Need-returns-then-not-whole_records
 returns c =
@@ -74,14 +74,14 @@ same-length-2 c = search rules
 
 -- ---- refused before the search
 
-abbrev start-at-sought : tie.In-Refused-2 → tie.Start
-start-at-sought c = c.before.before.before.before.before.before
+abbrev start-at-sought : tie.In-Refused → tie.Start
+start-at-sought c = c.before.before.before.before.before
 
 returns-2 : tie.Need-returns-in-Refused
 returns-2 c =
-    let Q = c.before in
+    let Q = c in
     let A = (start-at-sought Q).args in
-    let r = refused-is A.image.now A.key.now true Q.seek-sought.ensures Q.sought-1.given.1 in
+    let r = refused-is A.image.now A.key.now true Q.seek-sought.ensures Q.in-Refused.is in
     stores-refused A.image.now A.key.now A.records.now A.width _ r.0 r.1
 
 same-length-3 : tie.Need-shape_of-image-else-not-whole_records
@@ -95,9 +95,9 @@ returns-3 c =
     let E = else1-at-end c in
     let Q = sought2-at-whole E.before in
     let A = (start-at-sought2 Q).args in
-    let d = c.Store-found in
+    let d = c.store_found in
     stores-found A.image.now A.key.now A.records.now A.width (reached Q).asked (whole E) d.result
-    d.new.0 _ (reached Q).ended d.ensures.0 d.ensures.1
+    d.new.image _ (reached Q).ended d.ensures.0 d.ensures.1
 
 pub store_records_spec : {M : Type 1} → statement M
 store_records_spec =

@@ -63,16 +63,16 @@ module _ (c : tie.Else-not-is_active) where
   i = S.args.i.0
 
   slot-some : vacant (layout_of img) (slot (layout_of img) img i) ≡ false
-  slot-some = sym E.is-vacant.ensures ∙ E.if1.left
+  slot-some = sym E.is_vacant.ensures ∙ E.if-is_vacant.false
 
   active-yes : is_active img (offset_in img i) ≡ true
   active-yes =
-      ap (is_active img) (sym O.offset-of.ensures) ∙ was-yes c.is_active.ensures c.if-not-is_active.false
+      ap (is_active img) (sym O.offset_of-at.ensures) ∙ was-yes c.is_active.ensures c.if-not-is_active.false
 
 length-at-requires : tie.Need-length_at-requires
 length-at-requires c κs =
     let A = S c in
-    (A.requires.0, omega (arith, (O c).offset-of.ensures, A.requires.2 (vacant-taken (img c) (i c) (slot-some c))))
+    (A.requires.0, omega (arith, (O c).offset_of-at.ensures, A.requires.2 (vacant-taken (img c) (i c) (slot-some c))))
 
 -- head and length together
 sum_is : (c : tie.After-length_at)
@@ -80,7 +80,7 @@ sum_is : (c : tie.After-length_at)
 sum_is c =
     let E = c.before in
     ap₂ ◌+◌ (shape-head (S E).requires.0)
-    (c.length_at.ensures ∙ ap (length_at (layout_of (img E)) (img E)) (O E).offset-of.ensures)
+    (c.length_at.ensures ∙ ap (length_at (layout_of (img E)) (img E)) (O E).offset_of-at.ensures)
     ∙ sym (active-is (img E) (i E) (slot-some E) (active-yes E))
 
 add-result : tie.Need-overflow_add-result

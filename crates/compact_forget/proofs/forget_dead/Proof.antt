@@ -117,9 +117,9 @@ summed c = c.before.before.before.before.before
 
 add-i : tie.Need-overflow_add-i invariant-loop decreases-loop
 add-i c =
-    let I = (summed c).before.before.before in
-    let S = I.before.before.before in
-    omega (arith, (header S.args.image.now S.args.shape S.requires.opened).slots-high, I.loop-test.taken)
+    let I = summed c in
+    let S = I in
+    omega (arith, (header S.args.image.now S.args.shape S.requires.opened).slots-high, I.loop-i-test.true)
 
 loop-less : tie.Need-loop-i-smaller invariant-loop decreases-loop
 loop-less c = omega (arith, (summed c).loop-i-test.true)
@@ -128,18 +128,18 @@ loop-again : tie.Need-loop-i-preserved invariant-loop decreases-loop
 loop-again c =
     let P = c in
     let N = c in
-    let I = (summed c).before.before.before in
-    let L = I.before in
-    let S = L.before.before in
+    let I = summed c in
+    let L = I in
+    let S = L in
     let img = S.args.image.now in
     let s = S.args.shape in
-    let x = L.loop.image in (
-      omega (arith, I.loop-test.taken),
-      forgetting-on img s S.requires x L.loop.i
-          (omega (arith, I.loop-test.taken, layout-slots img s S.requires.opened.shape)) L.loop.invariant.1
+    let x = L.loop-i.image in (
+      omega (arith, I.loop-i-test.true),
+      forgetting-on img s S.requires x L.loop-i.i
+          (omega (arith, I.loop-i-test.true, layout-slots img s S.requires.opened.shape)) L.loop-i.invariant.1
           P.forget.new.image
           (P.forget.ensures ∙ ap (λ (n : ℕ). cond (dead_in x n) (with_offset x n 0) x) N.new-in-loop-i.ensures),
-      omega (arith, L.loop.invariant.2, (added (summed c)).0, active_on img s S.requires L.loop.i),
+      omega (arith, L.loop-i.invariant.2, (added (summed c)).0, active_on img s S.requires L.loop-i.i),
     )
 
 same_length : tie.Need-shape_of-image invariant-loop decreases-loop

@@ -53,7 +53,7 @@ turn c = c.before.before.before.before.before
 add-i : tie.Need-overflow_add-i invariant-loop decreases-loop
 add-i c =
     let I = turn c in
-    let S = I.before.before.before.before in
+    let S = I in
     omega (arith, (header S.args.source.now S.args.shape S.requires.0).slots-high, I.loop-i-test.true)
 
 loop-less : tie.Need-loop-i-smaller invariant-loop decreases-loop
@@ -63,20 +63,20 @@ loop-again : tie.Need-loop-i-preserved invariant-loop decreases-loop
 loop-again c =
     let P = c in
     let I = turn c in
-    let L = I.before in
-    let S = L.before.before.before in
+    let L = I in
+    let S = L in
     let src = S.args.source.now in
     let g = layout_of src in
-    let i = L.loop.i in
-    let t = L.loop.target in
+    let i = L.loop-i.i in
+    let t = L.loop-i.target in
     let low : i < g.N = omega (arith, I.loop-i-test.true, layout-slots src S.args.shape S.requires.0.shape) in
     let one : P.carry_key.new.target ≡ store t (slot_start g i) (bare_slot g src i) =
     P.carry_key.ensures ∙ ap (λ (k : ℕ). store t (slot_start g k) (bare_slot g src k)) P.new.ensures in (
       omega (arith, I.loop-i-test.true),
-      P.carry_key.auto.target ∙ L.loop.invariant.1,
+      P.carry_key.auto.target ∙ L.loop-i.invariant.1,
       ap (λ (x : Bytes). store x (slot_start g (i + 1)) (bare_slots g src (g.N - (i + 1)) (i + 1))) one
-          ∙ keys_on g src (room src S.requires.0.accepted) t i low (omega (arith, S.requires.1, L.loop.invariant.1))
-          ∙ L.loop.invariant.2,
+          ∙ keys_on g src (room src S.requires.0.accepted) t i low (omega (arith, S.requires.1, L.loop-i.invariant.1))
+          ∙ L.loop-i.invariant.2,
     )
 
 same_length : tie.Need-shape_of-target invariant-loop decreases-loop

@@ -75,11 +75,11 @@ module _ (c : tie.Else-not-is_active) where
   i = S.args.i.0
 
   slot-some : vacant_in img i ≡ false
-  slot-some = sym O.is-vacant.ensures ∙ O.if1.left
+  slot-some = sym O.is_vacant.ensures ∙ O.if-is_vacant.false
 
   active-yes : is_active img (offset_in img i) ≡ true
   active-yes =
-      ap (is_active img) (sym O.offset-of.ensures) ∙ was-yes c.is_active.ensures c.if-not-is_active.false
+      ap (is_active img) (sym O.offset_of-at.ensures) ∙ was-yes c.is_active.ensures c.if-not-is_active.false
 
 length-at-requires : tie.Need-length_at-m-requires
 length-at-requires c κs = ((S c).requires.0.opened, inside (O c))
@@ -89,7 +89,7 @@ length-is : (c : tie.After-length_at-m)
     ≡ length_at (layout_of (img c.before)) (img c.before) (offset_in (img c.before) (i c.before))
 length-is c =
     let E = c.before in
-    c.length_at-m.ensures ∙ ap (length_at (layout_of (img E)) (img E)) (O E).offset-of.ensures
+    c.length_at-m.ensures ∙ ap (length_at (layout_of (img E)) (img E)) (O E).offset_of-at.ensures
 
 add-bytes : tie.Need-overflow_add-bytes
 add-bytes c =

@@ -14,20 +14,20 @@ enum-known-found c = search rules
 returns : tie.Need-returns-in_default
 returns c =
     let A = c.args in
-    kept-first A.best A.i A.epoch (other-met A.best.found c.in_default.keys2)
+    kept-first A.best A.i A.epoch (other-met A.best.found c.in_default.in_default-own.keys2)
 
 returns-2 : tie.Need-returns-then-epoch-best
 unfolding is_met
 returns-2 c =
     let A = c.args in
-    kept-best A.best A.i A.epoch (ap is_met (met-is c.found-1.given.1))
+    kept-best A.best A.i A.epoch (ap is_met (met-is c.in-Met.is))
     c.if-epoch-best.true
 
 returns-3 : tie.Need-returns
 unfolding is_met
 returns-3 c =
     let A = c.args in
-    kept_new A.best A.i A.epoch (ap is_met (met-is c.found-1.given.1)) c.if-epoch-best.false
+    kept_new A.best A.i A.epoch (ap is_met (met-is c.in-Met.is)) c.if-epoch-best.false
 
 pub later_spec : {M : Type 1} → statement M
 later_spec =

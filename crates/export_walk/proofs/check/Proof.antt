@@ -30,7 +30,7 @@ cast-slot c =
     omega (
       arith,
       check-slot A.image.now _
-          (sym F.check-found.ensures ∙ ap verdict_in c.found-in-SlotFails-1.given.1),
+          (sym F.check-found.ensures ∙ ap verdict_in c.in-SlotFails.is),
       c.number.ensures,
     )
 
@@ -41,26 +41,26 @@ returns : tie.Need-returns-in-Refused
 unfolding verdict_in
 returns c =
     let F = c in
-    judged (says-refused _ _ (sym (ap verdict_in c.found-1.given.1) ∙ F.check-found.ensures))
+    judged (says-refused _ _ (sym (ap verdict_in c.in-Refused.is) ∙ F.check-found.ensures))
 
 returns-2 : tie.Need-returns-in-Sound
 unfolding verdict_in
 returns-2 c =
     let F = c in
-    judged (says-sound _ (sym (ap verdict_in c.enum_told-1.given.1) ∙ F.check-found.ensures))
+    judged (says-sound _ (sym (ap verdict_in c.in-Sound.is) ∙ F.check-found.ensures))
 
 returns-3 : tie.Need-returns-in-SlotFails
 unfolding verdict_in
 returns-3 c =
     let F = c in
-    judged (says_slot _ _ _ (sym (ap verdict_in c.found-in-SlotFails-1.given.1) ∙ F.check-found.ensures)
+    judged (says_slot _ _ _ (sym (ap verdict_in c.in-SlotFails.is) ∙ F.check-found.ensures)
     c.number.ensures)
 
 returns-4 : tie.Need-returns-in-CountFails
 unfolding verdict_in
 returns-4 c =
     let F = c in
-    judged (says-count _ (sym (ap verdict_in c.enum_told-in-CountFails-1.given.1) ∙ F.check-found.ensures))
+    judged (says-count _ (sym (ap verdict_in c.in-CountFails.is) ∙ F.check-found.ensures))
 
 pub check_spec : {M : Type 1} → statement M
 check_spec =

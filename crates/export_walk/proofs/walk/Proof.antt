@@ -17,21 +17,21 @@ enum-known-stop c = search rules
 enum-known-stop-2 : tie.Need-enum_known-stop-in-At-1
 enum-known-stop-2 c = search rules
 
-abbrev start-at-stop2 : tie.In-At-2 → tie.Start
-start-at-stop2 c = c.before.before.before.before
+abbrev start-at-stop2 : tie.In-At → tie.Start
+start-at-stop2 c = c.before.before.before
 
 -- where the code stops, the walk does
-stops : (c : tie.In-At-2)
+stops : (c : tie.In-At)
     → let S : tie.Start = start-at-stop2 c in
-    key_walk S.args.image.now S.args.from ≡ stopped c.stop-in-At-1.given.0.0.0
+    key_walk S.args.image.now S.args.from ≡ stopped c.in-At.i.0
 stops c =
     let A = (start-at-stop2 c).args in
     let next = c.next_taken-stop in
-    stopped-is A.image.now A.from next.result next.ensures c.stop-in-At-1.given.1
+    stopped-is A.image.now A.from next.result next.ensures c.in-At.is
 
 read-u32-requires : tie.Need-read_u32-size-requires
 read-u32-requires c κs =
-    let P = c.before in
+    let P = c in
     let A = (start-at-stop2 P).args in
     let w = stops P in
     omega (arith, walk-long A.image.now A.from _ w)
@@ -44,14 +44,14 @@ number-requires c κs = search rules
 
 cast-slot : tie.Need-overflow_cast-slot
 cast-slot c =
-    let P = c.before.before.before in
+    let P = c.before.before in
     let A = (start-at-stop2 P).args in
     let w = stops P in
     omega (arith, walk-slot A.image.now A.from _ w, c.number.ensures)
 
 start-requires : tie.Need-start-requires
 start-requires c κs =
-    let P = c.before.before.before in
+    let P = c.before.before in
     let A = (start-at-stop2 P).args in
     let w = stops P in (
       omega (arith, walk-slot A.image.now A.from _ w),
@@ -64,7 +64,7 @@ at-requires c κs = search rules
 cast-place : tie.Need-overflow_cast-place
 cast-place c =
     let N = c in
-    let P = c.before.before.before.before.before in
+    let P = c.before.before.before.before in
     let A = (start-at-stop2 P).args in
     let w = stops P in
     omega (
@@ -82,12 +82,12 @@ returns c =
     let F = c in
     let A = F.args in
     walked (walks-refused A.image.now (key_walk A.image.now A.from) _
-    (refused-is A.image.now A.from F.next_taken-stop.result F.next_taken-stop.ensures c.stop-1.given.1))
+    (refused-is A.image.now A.from F.next_taken-stop.result F.next_taken-stop.ensures c.in-Refused.is))
 
 returns-2 : tie.Need-returns-in-At
 returns-2 c =
     let N = c in
-    let P = c.before.before.before.before.before in
+    let P = c.before.before.before.before in
     let A = (start-at-stop2 P).args in
     let w = stops P in
     walked (walks-stopped A.image.now (key_walk A.image.now A.from) _ _ _ N.read_u32-size.result
@@ -99,7 +99,7 @@ returns-3 c =
     let F = c in
     let A = F.args in
     walked (walks-end A.image.now (key_walk A.image.now A.from)
-    (end_is A.image.now A.from F.next_taken-stop.result F.next_taken-stop.ensures c.enum_told-1.given.1))
+    (end_is A.image.now A.from F.next_taken-stop.result F.next_taken-stop.ensures c.in-End.is))
 
 pub walk_spec : {M : Type 1} → statement M
 walk_spec =

@@ -25,7 +25,7 @@ returns-2 c =
     let S = c in
     let A = S.args in
     asked-exhausted A.old.now A.new.now A.m A.mode (probe_of A.found) c.if-mode-eq-WITHDRAW.false
-    (other-empty A.found c.in_default.keys2 S.requires.2)
+    (other-empty A.found c.in_default.in_default-own.keys2 S.requires.2)
 
 read-u32-requires : tie.Need-read_u32-requires
 read-u32-requires c κs =
@@ -48,13 +48,13 @@ abbrev start-at-shared-slice-known : tie.After-shared_slice_known-1 → tie.Star
 start-at-shared-slice-known c = c.before
 
 abbrev start-at-then2 : tie.Then-slots-points → tie.Start
-start-at-then2 c = c.before.before.before.before.before.before.before.before
+start-at-then2 c = c.before.before.before.before.before.before.before
 
 returns-3 : tie.Need-returns-then-slots-points
 returns-3 c =
     let S = (start-at-then2 c) in
     let A = S.args in
-    let e = only-empty A.found c.in-Empty.keys1 in
+    let e = only-empty A.found c.in-Empty.in-Empty-own.keys1 in
     asked-full A.old.now A.new.now A.m A.mode (probe_of A.found)
     c.if-mode-eq-WITHDRAW.false e.0 e.1 _
     (ap₂ ◌+◌ c.read_u32.ensures c.read_u32-2.ensures)
@@ -64,13 +64,13 @@ abbrev start-at-shared-slice-known2 : tie.After-shared_slice_known-2-1 → tie.S
 start-at-shared-slice-known2 c = c.before.before
 
 abbrev start-at-then3 : tie.Then-mode-m → tie.Start
-start-at-then3 c = c.before.before.before.before.before.before.before.before.before
+start-at-then3 c = c.before.before.before.before.before.before.before.before
 
 returns-4 : tie.Need-returns-then-mode-m
 returns-4 c =
     let S = (start-at-then3 c) in
     let A = S.args in
-    let e = only-empty A.found c.in-Empty.keys1 in
+    let e = only-empty A.found c.in-Empty.in-Empty-own.keys1 in
     asked-bare A.old.now A.new.now A.m A.mode (probe_of A.found)
     c.if-mode-eq-WITHDRAW.false e.0 e.1 _
     (ap₂ ◌+◌ c.read_u32.ensures c.read_u32-2.ensures)
@@ -83,30 +83,30 @@ abbrev start-at-else1 : tie.Else-mode-eq-WITHDRAW → tie.Start
 start-at-else1 c = c.before.before.before
 
 abbrev start-at-new : tie.After-new → tie.Start
-start-at-new c = c.before.before.before.before.before.before.before.before.before.before
+start-at-new c = c.before.before.before.before.before.before.before.before.before
 
 room-beside-requires : tie.Need-room_beside-requires
 room-beside-requires c κs =
     let S = (start-at-new c) in
     (S.requires.0, S.requires.1, zero-sound _ _ _ c.new.ensures, omega arith)
 
-abbrev start-at-match-keys1 : tie.In-Empty-1 → tie.Start
+abbrev start-at-match-keys1 : tie.In-Empty → tie.Start
 start-at-match-keys1 c = c.before.before.before.before
 
 abbrev start-at-room-beside : tie.After-room_beside → tie.Start
-start-at-room-beside c = c.before.before.before.before.before.before.before.before.before.before.before
+start-at-room-beside c = c.before.before.before.before.before.before.before.before.before.before
 
-abbrev else1-at-match-keys1 : tie.In-Empty-1 → tie.Else-mode-eq-WITHDRAW
+abbrev else1-at-match-keys1 : tie.In-Empty → tie.Else-mode-eq-WITHDRAW
 else1-at-match-keys1 c = c.before
 
 abbrev else1-at-room-beside : tie.After-room_beside → tie.Else-mode-eq-WITHDRAW
-else1-at-room-beside c = c.before.before.before.before.before.before.before.before
+else1-at-room-beside c = c.before.before.before.before.before.before.before
 
 returns-5 : tie.Need-returns
 returns-5 c =
     let S = (start-at-room-beside c) in
     let A = S.args in
-    let e = only-empty A.found c.in-Empty.keys1 in
+    let e = only-empty A.found c.in-Empty.in-Empty-own.keys1 in
     asked-fresh A.old.now A.new.now A.m A.mode (probe_of A.found) (else1-at-room-beside c).if-mode-eq-WITHDRAW.false
     e.0 e.1 _
     (ap₂ ◌+◌ c.read_u32.ensures

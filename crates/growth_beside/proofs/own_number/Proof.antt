@@ -17,7 +17,7 @@ enum-known-found c = search rules
 absent-number-requires : tie.Need-absent_number-requires
 absent-number-requires c κs =
     let S = c in
-    (S.requires.0, S.requires.1, other-met c.search-probed.result.found c.in_default.keys2)
+    (S.requires.0, S.requires.1, other-met c.search-probed.result.found c.in_default.in_default-own.keys2)
 
 returns : tie.Need-returns-in_default
 returns c =
@@ -34,13 +34,13 @@ present-number-requires c κs =
     let A = S.args in
     let w = subst (Within A.larger.slots) (sym c.search-probed.ensures.0)
     (search-within _ A.key.now _ S.requires.1) in
-    (S.requires.0, S.requires.1, met-within c.found-1.given.1 w, S.requires.2, S.requires.3)
+    (S.requires.0, S.requires.1, met-within c.in-Met.is w, S.requires.2, S.requires.3)
 
 abbrev start-at-shared-slice-known : tie.After-shared_slice_known-1 → tie.Start
 start-at-shared-slice-known c = c.before
 
 abbrev start-at-present-number : tie.After-present_number → tie.Start
-start-at-present-number c = c.before.before.before.before.before.before.before.before
+start-at-present-number c = c.before.before.before.before.before.before
 
 returns-2 : tie.Need-returns
 returns-2 c =
@@ -48,7 +48,7 @@ returns-2 c =
     let A = S.args in
     λ bytes l.
     own_is A.old.now A.new.now A.m A.mode A.key.now _
-    (sym (met-is c.found-1.given.1) ∙ c.search-probed.ensures.0)
+    (sym (met-is c.in-Met.is) ∙ c.search-probed.ensures.0)
     c.present_number.result c.present_number.ensures bytes l
 
 pub own_number_spec : {M : Type 1} → statement M

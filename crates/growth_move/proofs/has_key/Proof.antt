@@ -23,7 +23,7 @@ enum_told : tie.Need-enum_told-1
 enum_told c = search rules
 
 returns : tie.Need-returns-in_default
-returns c = sym (ap is_met (sym c.search-probed.ensures.0) ∙ other-met _ c.in_default.keys2)
+returns c = sym (ap is_met (sym c.search-probed.ensures.0) ∙ other-met _ c.in_default.in_default-own.keys2)
 
 is-met : (f : Found) → OneOf (0 ∷ []) (tag_of the_type f) → is_met (probe_of f) ≡ true
 unfolding probe_of is_met
@@ -32,7 +32,7 @@ is-met (Empty s) h = let z : ◌≡◌ {A = ℕ} 1 0 = h in absurd (omega arith)
 is-met Exhausted h = let z : ◌≡◌ {A = ℕ} 2 0 = h in absurd (omega arith)
 
 returns-2 : tie.Need-returns
-returns-2 c = sym (ap is_met (sym c.search-probed.ensures.0) ∙ is-met _ c.in-Met.keys1)
+returns-2 c = sym (ap is_met (sym c.search-probed.ensures.0) ∙ is-met _ c.in-Met.in-Met-own.keys1)
 
 pub has_key_spec : {M : Type 1} → statement M
 has_key_spec =

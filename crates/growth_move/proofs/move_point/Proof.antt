@@ -181,8 +181,8 @@ remove-requires c κs =
       S.requires.inside,
       offset-is E.before,
       sound-is E,
-      F.read_u32.ensures,
-      omega (arith, F.if2.left),
+      F.read_u32-points.ensures,
+      omega (arith, F.if-points-eq0.false),
     )
 
 same-length-7 : tie.Need-shape_of-old

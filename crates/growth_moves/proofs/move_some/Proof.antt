@@ -41,26 +41,26 @@ returns : tie.Need-returns-in_default invariant-loop decreases-loop
 returns c =
     let L = loop-at c.before in
     stage-none _ _ _ _ _ _ _ _ _ L.loop-left.invariant c.lowest_taken-stop.result c.lowest_taken-stop.ensures
-    c.in_default.keys2
+    c.in_default.in_default-own.keys2
 
 -- the search in a turn that found a slot
 abbrev searched : tie.After-move_point-arg-in-loop-left-1 invariant-loop decreases-loop → tie.After-lowest_taken-stop invariant-loop decreases-loop
-searched c = c.before.before.before.before.before
+searched c = c.before.before.before
 
 abbrev slot_at : tie.After-move_point-arg-in-loop-left-1 invariant-loop decreases-loop → ℕ
-slot_at c = c.stop-1.given.0.0.0
+slot_at c = c.in-At.i.0
 
 found : (c : tie.After-move_point-arg-in-loop-left-1 invariant-loop decreases-loop)
     → let L = loop-at (searched c) in
-    next_taken (layout_of L.loop.old) L.loop.old L.loop.from ≡ some (slot_at c)
+    next_taken (layout_of L.loop-left.old) L.loop-left.old L.loop-left.from ≡ some (slot_at c)
 found c =
     let F = (searched c).lowest_taken-stop in
-    slot-found F.result _ _ F.ensures c.stop-1.given.1
+    slot-found F.result _ _ F.ensures c.in-At.is
 
 move-point-requires : tie.Need-move_point-number-requires invariant-loop decreases-loop
 move-point-requires c κs =
     let L = loop-at (searched c) in
-    stage-found _ _ _ _ _ _ _ _ _ L.loop.invariant (slot_at c) (found c)
+    stage-found _ _ _ _ _ _ _ _ _ L.loop-left.invariant (slot_at c) (found c)
 
 abbrev moved_at : tie.After-slice_known-in-loop-left-2-1 invariant-loop decreases-loop → tie.After-move_point-number invariant-loop decreases-loop
 moved_at c = c.before.before.before.before
@@ -76,15 +76,15 @@ returns-2 c =
     let M = moved_at c.before in
     let A = M.before in
     let L = loop-at (searched A) in
-    stage-refused _ _ _ _ _ _ _ _ _ L.loop.invariant (slot_at A) (found A) _ _ _ M.move_point-number.ensures c.if-number-ne0.true
+    stage-refused _ _ _ _ _ _ _ _ _ L.loop-left.invariant (slot_at A) (found A) _ _ _ M.move_point-number.ensures c.if-number-ne0.true
 
 number-requires : tie.Need-number-from-requires invariant-loop decreases-loop
 number-requires c κs = tt
 
 -- a move is left to make
 more : (c : tie.After-number-from invariant-loop decreases-loop)
-    → 0 < (loop-at (searched (moved_at c.before.before).before)).loop.left
-more c = (searched (moved_at c.before.before).before).loop-test.taken
+    → 0 < (loop-at (searched (moved_at c.before.before).before)).loop-left.left
+more c = (searched (moved_at c.before.before).before).loop-left-test.true
 
 sub-left : tie.Need-overflow_sub-left invariant-loop decreases-loop
 sub-left c = more c
@@ -97,7 +97,7 @@ loop-again c =
     let M = moved_at c.before.before in
     let A = M.before in
     let L = loop-at (searched A) in
-    stage-on _ _ _ _ _ _ _ _ _ L.loop.invariant (slot_at A) (found A) _ _ _ M.move_point-number.ensures
+    stage-on _ _ _ _ _ _ _ _ _ L.loop-left.invariant (slot_at A) (found A) _ _ _ M.move_point-number.ensures
     c.if-number-ne0.false (more c) _ c.number-from.ensures
 
 same-length-5 : tie.Need-shape_of-old invariant-loop decreases-loop

@@ -35,14 +35,14 @@ abbrev start-at-shared-slice-known : tie.After-shared_slice_known-1 → tie.Star
 start-at-shared-slice-known c = c.before
 
 abbrev start-at-then1 : tie.Then-slots-read_u32 → tie.Start
-start-at-then1 c = c.before.before.before.before.before.before.before.before
+start-at-then1 c = c.before.before.before.before.before.before.before
 
 returns : tie.Need-returns-then-slots-read_u32
 returns c =
     let S = (start-at-then1 c) in
     let A = S.args in
     let f = c.search-probed.result.found in
-    let e = only-empty f c.in-Empty.keys2 in
+    let e = only-empty f c.in-Empty.in-Empty-own.keys2 in
     sym (entry-full A.new.now A.key.now f c.search-probed.ensures.0 _ e.0
     e.1
     (omega (
@@ -54,7 +54,7 @@ returns c =
     )))
 
 abbrev start-at-else1 : tie.Else-slots-read_u32 → tie.Start
-start-at-else1 c = c.before.before.before.before.before.before.before.before
+start-at-else1 c = c.before.before.before.before.before.before.before
 
 is-active-requires : tie.Need-is_active-requires
 is-active-requires c κs =
@@ -66,14 +66,14 @@ abbrev start-at-shared-slice-known3 : tie.After-shared_slice_known-3-1 → tie.S
 start-at-shared-slice-known3 c = c.before.before.before
 
 abbrev start-at-then2 : tie.Then-not-is_active → tie.Start
-start-at-then2 c = c.before.before.before.before.before.before.before.before.before.before
+start-at-then2 c = c.before.before.before.before.before.before.before.before.before
 
 returns-2 : tie.Need-returns-then-not-is_active
 returns-2 c =
     let S = (start-at-then2 c) in
     let A = S.args in
     let f = c.search-probed.result.found in
-    let e = only-empty f c.in-Empty.keys2 in
+    let e = only-empty f c.in-Empty.in-Empty-own.keys2 in
     sym (entry-bare A.new.now A.key.now f
     c.search-probed.ensures.0 _ e.0 e.1
     (omega (
@@ -86,7 +86,7 @@ returns-2 c =
     (shown-none _ A.old.now A.o.0 (was-no c.is_active.ensures c.if-not-is_active.true)))
 
 abbrev start-at-else2 : tie.Else-not-is_active → tie.Start
-start-at-else2 c = c.before.before.before.before.before.before.before.before.before.before
+start-at-else2 c = c.before.before.before.before.before.before.before.before.before
 
 length-at-requires : tie.Need-length_at-requires
 length-at-requires c κs =
@@ -104,19 +104,19 @@ returns-3 c =
     let A = c.args in
     let f = c.search-probed.result.found in
     sym (entry-9 A.new.now A.key.now f c.search-probed.ensures.0 _
-    (only-met f c.in-Met.keys1))
+    (only-met f c.in-Met.in-Met-own.keys1))
 
-abbrev start-at-match-keys2 : tie.In-Empty-1 → tie.Start
+abbrev start-at-match-keys2 : tie.In-Empty → tie.Start
 start-at-match-keys2 c = c.before.before.before.before.before
 
 abbrev start-at-room-number : tie.After-room_number → tie.Start
-start-at-room-number c = c.before.before.before.before.before.before.before.before.before.before.before.before
+start-at-room-number c = c.before.before.before.before.before.before.before.before.before.before.before
 
-abbrev search-at-match-keys2 : tie.In-Empty-1 → tie.After-search-probed
+abbrev search-at-match-keys2 : tie.In-Empty → tie.After-search-probed
 search-at-match-keys2 c = c.before
 
 abbrev search-at-room-number : tie.After-room_number → tie.After-search-probed
-search-at-room-number c = c.before.before.before.before.before.before.before.before
+search-at-room-number c = c.before.before.before.before.before.before.before
 
 returns-4 : tie.Need-returns-else-not-is_active
 returns-4 c =
@@ -125,7 +125,7 @@ returns-4 c =
     let S = (start-at-room-number c) in
     let A = S.args in
     let f = (search-at-room-number c).search-probed.result.found in
-    let e = only-empty f c.in-Empty.keys2 in
+    let e = only-empty f c.in-Empty.in-Empty-own.keys2 in
     let active = was-yes c.is_active.ensures c.if-not-is_active.false in
     c.room_number.ensures (text_at (layout_of A.old.now) A.old.now A.o.0)
     (text-size S.requires.0 A.o.0 S.requires.2 active ∙ sym c.length_at.ensures)
@@ -139,7 +139,7 @@ returns-5 c =
     let A = c.args in
     let f = c.search-probed.result.found in
     sym (entry-exhausted A.new.now A.key.now f c.search-probed.ensures.0 _
-    (only-exhausted f c.in-Exhausted.keys3))
+    (only-exhausted f c.in-Exhausted.in-Exhausted-own.keys3))
 
 pub entry_number_spec : {M : Type 1} → statement M
 entry_number_spec =

@@ -78,7 +78,7 @@ point-number-requires c κs =
           c.read_shape-shape.ensures c.read_shape-larger.ensures
           (was-yes c.name_allowed.ensures c.if-not-name_allowed.false),
       was-yes c.mode_known.ensures c.if-not-mode_known.false,
-      omega (arith, (start-at-read-shape2 c).good.1.1.1.0),
+      omega (arith, (start-at-read-shape2 c).well_formed.1.1.1.0),
     )
 
 abbrev start-at-else1 : tie.Else-number-ne0 → tie.Start

@@ -22,7 +22,7 @@ returns c =
     points-other A.old.now A.new.now A.key.now A.m A.mode
     (not-met A.old.now A.key.now A.shape S.requires.0.first.shape c.search-probed.result.found
     c.search-probed.ensures.0
-    c.in_default.keys2) c.own_number.result c.own_number.ensures
+    c.in_default.in_default-own.keys2) c.own_number.result c.own_number.ensures
 
 named-number-requires : tie.Need-named_number-requires
 named-number-requires c κs =
@@ -30,9 +30,9 @@ named-number-requires c κs =
     let A = S.args in
     let f = c.search-probed.result.found in (
       named-slot A.old.now A.new.now A.key.now S.requires.0 f c.search-probed.ensures.0
-          _ c.found-1.given.1,
+          _ c.in-Met.is,
       met-slot A.old.now A.key.now A.shape S.requires.0.first.shape f
-          c.search-probed.ensures.0 _ c.found-1.given.1,
+          c.search-probed.ensures.0 _ c.in-Met.is,
       S.requires.1,
       S.requires.2,
     )

@@ -23,7 +23,7 @@ returns c =
     ∙ sym (remove-other A.old.now A.new.now A.key.now
     (not-met A.old.now A.key.now A.shape S.requires.first.shape c.search-probed.result.found
     c.search-probed.ensures.0
-    c.in_default.keys2))
+    c.in_default.in_default-own.keys2))
 
 move-number-requires : tie.Need-move_number-requires
 move-number-requires c κs =
@@ -31,13 +31,13 @@ move-number-requires c κs =
     let A = S.args in
     named-slot A.old.now A.new.now A.key.now S.requires c.search-probed.result.found
     c.search-probed.ensures.0 _
-    c.found-1.given.1
+    c.in-Met.is
 
 abbrev start-at-shared-slice-known : tie.After-shared_slice_known-1 → tie.Start
 start-at-shared-slice-known c = c.before
 
 abbrev start-at-move-number : tie.After-move_number → tie.Start
-start-at-move-number c = c.before.before.before.before.before.before.before.before
+start-at-move-number c = c.before.before.before.before.before.before
 
 returns-2 : tie.Need-returns
 returns-2 c =
@@ -45,10 +45,10 @@ returns-2 c =
     let A = S.args in
     let f = c.search-probed.result.found in
     let n = named-slot A.old.now A.new.now A.key.now S.requires f
-    c.search-probed.ensures.0 _ c.found-1.given.1 in
+    c.search-probed.ensures.0 _ c.in-Met.is in
     let m = met-slot A.old.now A.key.now A.shape S.requires.first.shape f
     c.search-probed.ensures.0 _
-    c.found-1.given.1 in
+    c.in-Met.is in
     c.move_number.ensures ∙ sym (remove-met A.old.now A.new.now A.key.now _ m n)
 
 pub remove_number_spec : {M : Type 1} → statement M

@@ -23,7 +23,7 @@ returns c =
     sym (asked-14 A.new.now A.key.now
     (not-met A.new.now A.key.now A.larger S.requires.shape c.search-probed.result.found
     c.search-probed.ensures.0
-    c.in_default.keys2))
+    c.in_default.in_default-own.keys2))
 
 offset-of-requires : tie.Need-offset_of-o-requires
 offset-of-requires c κs =
@@ -31,7 +31,7 @@ offset-of-requires c κs =
     let A = S.args in
     let w = subst (Within A.larger.slots) (sym c.search-probed.ensures.0)
     (search-within _ A.key.now _ S.requires) in
-    (S.requires, met-within c.found-1.given.1 w)
+    (S.requires, met-within c.in-Met.is w)
 
 message-sound-requires : tie.Need-message_sound-requires
 message-sound-requires c κs = search rules
@@ -40,7 +40,7 @@ abbrev start-at-shared-slice-known2 : tie.After-shared_slice_known-2-1 → tie.S
 start-at-shared-slice-known2 c = c.before.before
 
 abbrev start-at-then1 : tie.Then-not-message_sound → tie.Start
-start-at-then1 c = c.before.before.before.before.before.before.before.before.before
+start-at-then1 c = c.before.before.before.before.before.before.before
 
 returns-2 : tie.Need-returns-then-not-message_sound
 returns-2 c =
@@ -49,27 +49,27 @@ returns-2 c =
     let m = met-slot A.new.now A.key.now A.larger S.requires.shape
     c.search-probed.result.found
     c.search-probed.ensures.0 _
-    c.found-1.given.1 in
+    c.in-Met.is in
     sym (asked-message A.new.now A.key.now _ m _ c.offset_of-o.ensures
     (was-no c.message_sound.ensures c.if-not-message_sound.true))
 
 abbrev start-at-else1 : tie.Else-not-message_sound → tie.Start
-start-at-else1 c = c.before.before.before.before.before.before.before.before.before
+start-at-else1 c = c.before.before.before.before.before.before.before
 
 read-u32-requires : tie.Need-read_u32-requires
 read-u32-requires c κs = omega (arith, (opened-facts _ (start-at-else1 c).requires.accepted).size_low)
 
-abbrev start-at-match-keys1 : tie.In-Met-1 → tie.Start
+abbrev start-at-match-keys1 : tie.In-Met → tie.Start
 start-at-match-keys1 c = c.before.before.before.before
 
 abbrev start-at-then2 : tie.Then-read_u32-eq0 → tie.Start
-start-at-then2 c = c.before.before.before.before.before.before.before.before.before.before.before
+start-at-then2 c = c.before.before.before.before.before.before.before.before.before
 
-abbrev search-at-match-keys1 : tie.In-Met-1 → tie.After-search-probed
+abbrev search-at-match-keys1 : tie.In-Met → tie.After-search-probed
 search-at-match-keys1 c = c.before
 
 abbrev search-at-then2 : tie.Then-read_u32-eq0 → tie.After-search-probed
-search-at-then2 c = c.before.before.before.before.before.before.before.before
+search-at-then2 c = c.before.before.before.before.before.before
 
 returns-3 : tie.Need-returns-then-read_u32-eq0
 returns-3 c =
@@ -77,16 +77,16 @@ returns-3 c =
     let A = S.args in
     let m = met-slot A.new.now A.key.now A.larger S.requires.shape
     (search-at-then2 c).search-probed.result.found
-    (search-at-then2 c).search-probed.ensures.0 _ c.found-1.given.1 in
+    (search-at-then2 c).search-probed.ensures.0 _ c.in-Met.is in
     sym (asked-points A.new.now A.key.now _ m _ c.offset_of-o.ensures
     (was-yes c.message_sound.ensures c.if-not-message_sound.false)
     (sym c.read_u32.ensures ∙ c.if-read_u32-eq0.true))
 
 abbrev start-at-else2 : tie.Else-read_u32-eq0 → tie.Start
-start-at-else2 c = c.before.before.before.before.before.before.before.before.before.before.before
+start-at-else2 c = c.before.before.before.before.before.before.before.before.before
 
 abbrev search-at-else2 : tie.Else-read_u32-eq0 → tie.After-search-probed
-search-at-else2 c = c.before.before.before.before.before.before.before.before
+search-at-else2 c = c.before.before.before.before.before.before
 
 returns-4 : tie.Need-returns
 returns-4 c =
@@ -94,7 +94,7 @@ returns-4 c =
     let A = S.args in
     let m = met-slot A.new.now A.key.now A.larger S.requires.shape
     (search-at-else2 c).search-probed.result.found
-    (search-at-else2 c).search-probed.ensures.0 _ c.found-1.given.1 in
+    (search-at-else2 c).search-probed.ensures.0 _ c.in-Met.is in
     sym (asked-0 A.new.now A.key.now _ m _ c.offset_of-o.ensures
     (was-yes c.message_sound.ensures c.if-not-message_sound.false)
     (λ z. c.if-read_u32-eq0.false (c.read_u32.ensures ∙ z)))

@@ -70,7 +70,7 @@ abbrev start-at-read-shape2 : tie.After-read_shape-larger → tie.Start
 start-at-read-shape2 c = c.before.before.before.before.before.before.before.before.before.before.before.before
 
 add-point-number : tie.Need-overflow_add-records
-add-point-number c = omega (arith, (start-at-read-shape2 c).good.1.1.1.0)
+add-point-number c = omega (arith, (start-at-read-shape2 c).well_formed.1.1.1.0)
 
 point-number-requires : tie.Need-point_number-requires
 point-number-requires c κs =
@@ -81,7 +81,7 @@ point-number-requires c κs =
           c.read_shape-shape.ensures c.read_shape-larger.ensures
           (was-yes c.name_allowed.ensures c.if-not-name_allowed.false),
       mode-two,
-      omega (arith, (start-at-read-shape2 c).good.1.1.1.0),
+      omega (arith, (start-at-read-shape2 c).well_formed.1.1.1.0),
     )
 
 abbrev start-at-else1 : tie.Else-number-ne0 → tie.Start

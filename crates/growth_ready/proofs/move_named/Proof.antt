@@ -22,13 +22,13 @@ returns c =
     ready-other A.old.now A.new.now A.key.now
     (not-met A.old.now A.key.now A.shape S.requires.0.first.shape c.search-probed.result.found
     c.search-probed.ensures.0
-    c.in_default.keys2)
+    c.in_default.in_default-own.keys2)
 
 abbrev start-at-shared-slice-known : tie.After-shared_slice_known-1 → tie.Start
 start-at-shared-slice-known c = c.before.before.before
 
 abbrev start-at-move-point-arg2 : tie.After-move_point-arg-2-1 → tie.Start
-start-at-move-point-arg2 c = c.before.before.before.before.before.before.before.before.before
+start-at-move-point-arg2 c = c.before.before.before.before.before.before.before
 
 move-point-requires : tie.Need-move_point-requires
 move-point-requires c κs =
@@ -38,7 +38,7 @@ move-point-requires c κs =
     (named-slot A.old.now A.new.now A.key.now S.requires.0
     c.search-probed.result.found
     c.search-probed.ensures.0 _
-    c.found-1.given.1)
+    c.in-Met.is)
 
 same-length-2 : tie.Need-shape_of-old
 same-length-2 c = search rules
@@ -50,22 +50,22 @@ abbrev start-at-slice-known : tie.After-slice_known-1 → tie.Start
 start-at-slice-known c = c.before
 
 abbrev start-at-known-told : tie.In-Met → tie.Start
-start-at-known-told c = c.before.before.before.before.before.before.before
+start-at-known-told c = c.before.before.before.before.before
 
 abbrev start-at-slice-known4 : tie.After-slice_known-4-1 → tie.Start
-start-at-slice-known4 c = c.before.before.before.before.before.before.before.before.before.before.before.before.before.before
+start-at-slice-known4 c = c.before.before.before.before.before.before.before.before.before.before.before.before
 
 abbrev search-at-known-told : tie.In-Met → tie.After-search-probed
-search-at-known-told c = c.before.before.before
+search-at-known-told c = c.before
 
 abbrev search-at-slice-known4 : tie.After-slice_known-4-1 → tie.After-search-probed
-search-at-slice-known4 c = c.before.before.before.before.before.before.before.before.before.before
+search-at-slice-known4 c = c.before.before.before.before.before.before.before.before
 
-abbrev found-at-known-told : tie.In-Met → tie.In-Met-2
-found-at-known-told c = c.before
+abbrev found-at-known-told : tie.In-Met → tie.In-Met
+found-at-known-told c = c
 
-abbrev found-at-slice-known4 : tie.After-slice_known-4-1 → tie.In-Met-2
-found-at-slice-known4 c = c.before.before.before.before.before.before.before.before
+abbrev found-at-slice-known4 : tie.After-slice_known-4-1 → tie.In-Met
+found-at-slice-known4 c = c.before.before.before.before.before.before.before
 
 returns-2 : tie.Need-returns
 returns-2 c =
@@ -73,7 +73,7 @@ returns-2 c =
     let A = S.args in
     let m = met-slot A.old.now A.key.now A.shape S.requires.0.first.shape
     (search-at-slice-known4 c).search-probed.result.found
-    (search-at-slice-known4 c).search-probed.ensures.0 _ (found-at-slice-known4 c).found-1.given.1 in
+    (search-at-slice-known4 c).search-probed.ensures.0 _ (found-at-slice-known4 c).in-Met.is in
     ready-met A.old.now A.new.now A.key.now _ m S.requires.1
     c.move_point.result _ _ c.move_point.ensures
 

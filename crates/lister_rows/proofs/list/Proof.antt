@@ -3,7 +3,6 @@ use native.Mathlib.Omega.{arith}
 use mathlib.Core.Path.{refl, sym, ap, ◌∙◌}
 use lib.ListN.{length, length-append}
 use Rattle.spec_file.specs.Image.{layout_of}
-use Rattle.law_file.proofs.Opened.{opened-facts}
 use Rattle.table_search.proofs.Headers.{layout-slots}
 use Rattle.lister_rows.specs.Listed.{heading, lines}
 use Rattle.lister_text.proofs.Putting.{put_same, put_on}
@@ -35,10 +34,7 @@ returns c =
     let S = c in
     let img = S.args.image.now in
     let text = listed-closed img O.open_number-number.result O.open_number-number.ensures I.if-number-ne0.true in
-    put_same (sym text) P.Put-refused.ensures
-
-slice-aggregate-put-bytes : tie.Need-GONE-slice-aggregate-put-bytes
-slice-aggregate-put-bytes c = search rules
+    put_same (sym text) P.put_refused.ensures
 
 put-bytes-requires : tie.Need-put_bytes-at-requires
 put-bytes-requires c κs =

@@ -23,9 +23,6 @@ offset-of-requires c κs = search rules
 message-sound-requires : tie.Need-message_sound-requires
 message-sound-requires c κs = search rules
 
-slice-aggregate-put-bytes : tie.Need-GONE-slice-aggregate-put-bytes
-slice-aggregate-put-bytes c = search rules
-
 -- the start, seen from question 11, and the length that the slot's line tells
 abbrev start : tie.After-message_sound → tie.Start
 start c = c.before.before.before.before
@@ -53,7 +50,7 @@ same_length c = search rules
 returns : tie.Need-returns-then-not-message_sound
 returns c =
     let P = c in
-    put_same (sym (bad-text P.before.before.before)) P.put_bytes.ensures
+    put_same (sym (bad-text P.before.before.before.before.before.before)) P.put_bytes.ensures
 
 -- behind question 11 the header lies in the image
 shown-length-requires : tie.Need-shown_length-requires
@@ -83,7 +80,7 @@ same-length-2 c = search rules
 returns-2 : tie.Need-returns
 returns-2 c =
     let P = c in
-    put_same (sym (shown-text P.before)) P.put_decimal.ensures
+    put_same (sym (shown-text P.before.before.before)) P.put_decimal.ensures
 
 pub put_length_spec : {M : Type 1} → statement M
 put_length_spec =

@@ -7,9 +7,6 @@ use borrow.Author.Rules.{rules}
 use Rattle.lister_rows.proofs.put_refused.Statement.{statement}
 use Rattle.lister_rows.proofs.put_refused.Tie as tie
 
-slice-aggregate-put-bytes : tie.Need-GONE-slice-aggregate-put-bytes
-slice-aggregate-put-bytes c = search rules
-
 put-bytes-requires : tie.Need-put_bytes-a-requires
 put-bytes-requires c κs =
     let S = c in

@@ -21,7 +21,7 @@ stays-requires c κs =
     let img = S.args.image.now in
     let b = header img s S.requires.0 in
     let n = layout-slots img s S.requires.0.shape in
-    omega (arith, c.Home-of.ensures, home-lt (layout_of img) (key_in img S.args.j.0) (omega arith))
+    omega (arith, c.home_of.ensures, home-lt (layout_of img) (key_in img S.args.j.0) (omega arith))
 
 same_length : tie.Need-shape_of-image-then-stays
 same_length c = search rules
@@ -33,7 +33,7 @@ returns c =
     let s = S.args.shape in
     let e = looked-stays (layout_of img) img S.args.hole.0 S.args.j.0
     (sym (stays-code img s S.requires.0.shape S.args.hole.0 S.args.j.0 _
-    c.Home-of.ensures)
+    c.home_of.ensures)
     ∙ sym c.stays.ensures ∙ c.if-stays.true) in
     record { hole-is = sym e.0; image-is = sym e.1 }
 
@@ -49,12 +49,12 @@ else1-at-slice-known2 c = c.before.before.before.before
 returns-2 : tie.Need-returns
 returns-2 c =
     let E = else1-at-slice-known2 c in
-    let S = E.before.before.before.before.before in
+    let S = E in
     let img = S.args.image.now in
     let s = S.args.shape in
     let e = looked-moves (layout_of img) img S.args.hole.0 S.args.j.0
     (sym (stays-code img s S.requires.0.shape S.args.hole.0 S.args.j.0 _
-    E.Home-of.ensures)
+    E.home_of.ensures)
     ∙ sym E.stays.ensures ∙ E.if-stays.false) in
     record { hole-is = sym e.0; image-is = c.move_slot.ensures ∙ sym e.1 }
 

@@ -3,7 +3,6 @@ use native.Mathlib.Omega.{arith}
 use mathlib.Core.Path.{◌≡◌, sym, ◌∙◌, subst}
 use mathlib.Core.Bool.{true}
 use borrow.Author.Rules.{rules}
-use borrow.Author.Tests.{not-true, not-false}
 use Rattle.spec_file.specs.Image.{layout_of}
 use Rattle.spec_file.specs.Questions.{name_allowed, open_number}
 use Rattle.law_file.proofs.Opened.{opened-facts}
@@ -79,7 +78,7 @@ unfolding SoughtIs
 returns-3 c =
     let A = (start-at-then3 c).args in (
       sym (seek-8 A.image.now A.key.now A.known (opened (else1-at-then3 c)) (named c.before)
-          (not-true A.known c.if-not-known.true)),
+          c.if-not-known.true),
       λ z. omega arith,
     )
 
@@ -110,7 +109,7 @@ returns-4 c =
     record {
       asked =
           seek-0 A.image.now A.key.now A.known o (named c.before.before)
-          (not-false A.known c.if-not-known.false);
+          c.if-not-known.false;
       opened = record { accepted = o; shape = (read-shape-at-search c).read_shape-shape.ensures };
       ended = c.search-probed.ensures.0;
       within =

@@ -13,11 +13,11 @@ enum-known-sought c = search rules
 
 returns : tie.Need-returns-in-Refused
 unfolding read_of
-returns c = sym (ap read_of c.enum_told-1.given.1)
+returns c = sym (ap read_of c.in-Refused.is)
 
 returns-2 : tie.Need-returns-in-At
 unfolding read_of
-returns-2 c = sym (ap read_of c.sought-1.given.1)
+returns-2 c = sym (ap read_of c.in-At.is)
 
 pub slots_read_spec : {M : Type 1} → statement M
 slots_read_spec =

@@ -47,8 +47,8 @@ turn c = c.before.before.before.before
 
 returns : tie.Need-returns-then-wrapping_sub_usize-span invariant-loop decreases-loop
 returns c =
-    let L = (turn c.before).before in
-    (L.loop.invariant.0, omega (arith, L.loop.invariant.1, L.stop-at.ensures.1), L.loop.invariant.2)
+    let L = turn c.before in
+    (L.loop-i.invariant.0, omega (arith, L.loop-i.invariant.1, L.stop_at-stop.ensures.1), L.loop-i.invariant.2)
 
 add-i : tie.Need-overflow_add-i invariant-loop decreases-loop
 add-i c = omega (arith, (turn c.before).loop-i-test.true)
@@ -60,23 +60,23 @@ loop-again : tie.Need-loop-i-preserved invariant-loop decreases-loop
 loop-again c =
     let W = c.before in
     let I = turn W in
-    let L = I.before in
-    let S = L.before.before.before in
+    let L = I in
+    let S = L in
     let A = S.args in
     let img = A.image.now in
     let K = S.requires.0 in
-    let i = L.loop.i in
+    let i = L.loop-i.i in
     let o : W.at-o.result ≡ offset_in img i =
     W.at-o.ensures ∙ W.offset_of.ensures
     ∙ ap (offset_in img) W.new.ensures in
     let l = I.loop-i-test.true in (
-      omega (arith, L.loop.invariant.0),
+      omega (arith, L.loop-i.invariant.0),
       omega (arith, l),
-      unseen-on (start_in img) (end_in img) A.lo A.hi A.from i L.loop.invariant.2
+      unseen-on (start_in img) (end_in img) A.lo A.hi A.from i L.loop-i.invariant.2
           (piece-none (start_in img i) (end_in img i) A.lo A.hi (omega (arith, K.order))
           (start-not img i A.lo A.hi K.low (λ a b. omega (arith, o, c.if-wrapping_sub_usize-span.false)))
-          (λ a b. L.stop-at.ensures.2 i L.loop.invariant.0 l
-          (K.clear.carries i (omega (arith, l, L.stop-at.ensures.1)) a b))),
+          (λ a b. L.stop_at-stop.ensures.2 i L.loop-i.invariant.0 l
+          (K.clear.carries i (omega (arith, l, L.stop_at-stop.ensures.1)) a b))),
     )
 
 returns-2 : tie.Need-returns invariant-loop decreases-loop

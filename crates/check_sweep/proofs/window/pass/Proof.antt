@@ -61,14 +61,14 @@ piece : (c : tie.After-shown_of-shown invariant-loop decreases-loop)
     → let L : tie.At-loop-i invariant-loop decreases-loop = c.before.before.before in
     let S : tie.Start invariant-loop decreases-loop = start L in
     let img : Bytes = S.args.image.now in
-    Piece (start_in img L.loop.i) (end_in img L.loop.i) S.args.lo S.args.hi
-    c.Shown-of.result.from c.Shown-of.result.end
+    Piece (start_in img L.loop-i.i) (end_in img L.loop-i.i) S.args.lo S.args.hi
+    c.shown_of-shown.result.from c.shown_of-shown.result.end
 piece c =
     let A = (start c.before.before.before).args in
     let img = A.image.now in
-    let r = c.Shown-of.result in
+    let r = c.shown_of-shown.result in
     subst (λ (n : ℕ). Piece (start_in img n) (end_in img n) A.lo A.hi r.from r.end)
-    c.new.ensures c.Shown-of.ensures
+    c.new.ensures c.shown_of-shown.ensures
 
 sub-claim : tie.Need-overflow_sub-from invariant-loop decreases-loop
 sub-claim c = (piece c.before).low
@@ -98,12 +98,12 @@ same_length c =
 claimed : (c : tie.After-claim invariant-loop decreases-loop) (b : Bool) → c.claim.result ≡ b
     → let L : tie.At-loop-i invariant-loop decreases-loop = c.before.before.before.before.before.before in
     let S : tie.Start invariant-loop decreases-loop = start L in
-    Claimed L.loop-i.map c.claim.new.map (c.Shown-of.result.from - S.args.lo)
+    Claimed L.loop-i.map c.claim.new.map (c.shown_of-shown.result.from - S.args.lo)
     (c.lesser.result - S.args.lo) b
 claimed c b e =
     let L = c.before.before.before.before.before.before in
     let lo = (start L).args.lo in
-    let from = c.Shown-of.result.from in
+    let from = c.shown_of-shown.result.from in
     subst (λ (t : Bool). Claimed L.loop-i.map c.claim.new.map (from - lo) (c.lesser.result - lo) t) e
     c.claim.ensures
 
@@ -115,7 +115,7 @@ returns c =
     let S = start L in
     let A = S.args in
     let img = A.image.now in
-    let r = P.Shown-of.result in
+    let r = P.shown_of-shown.result in
     passing-met (start_in img) (end_in img) A.lo A.hi A.best A.carried L.loop-i.map L.loop-i.i
     L.loop-i.next L.loop-i.invariant.1 P.loop-i-test.true r.from r.end
     (piece P) C.claim.new.map C.lesser.result C.lesser.ensures S.requires.0.clear
@@ -151,13 +151,13 @@ loop-again c =
     let S = start L in
     let A = S.args in
     let img = A.image.now in
-    let r = P.Shown-of.result in
+    let r = P.shown_of-shown.result in
     let n = c.next_shown-i-in-loop-i in (
-      C.claim.auto.map ∙ L.loop.invariant.0,
-      passing-over (start_in img) (end_in img) A.lo A.hi A.best C.claim.new.map (L.loop.i + 1)
+      C.claim.auto.map ∙ L.loop-i.invariant.0,
+      passing-over (start_in img) (end_in img) A.lo A.hi A.best C.claim.new.map (L.loop-i.i + 1)
           E.carried_on-next.result n.result
-          (passing-on (start_in img) (end_in img) A.lo A.hi A.best A.carried L.loop.map L.loop.i
-          L.loop.next L.loop.invariant.1 P.loop-test.taken r.from r.end
+          (passing-on (start_in img) (end_in img) A.lo A.hi A.best A.carried L.loop-i.map L.loop-i.i
+          L.loop-i.next L.loop-i.invariant.1 P.loop-i-test.true r.from r.end
           (piece P) C.claim.new.map C.lesser.result C.lesser.ensures S.requires.0.order
           (claimed C _ E.if-claim.false) E.carried_on-next.result E.carried_on-next.ensures)
           n.ensures.0 n.ensures.1 n.ensures.2,
