@@ -4,23 +4,25 @@
 
 ghost use Rattle.std.specs.Prelude.{◌≡◌, length};
 ghost use Rattle.spec_file.specs.Bytes.{Bytes};
-ghost use Rattle.spec_file.specs.Calls.{create, add, delete};
+ghost use Rattle.spec_file.specs.Inspect.{key_walk, stop_number, key_start, check, verdict_number};
+ghost use Rattle.call_walk.specs.Stops.{stop_slot};
+ghost use Rattle.export_walk.specs.Codes.{verdict_code, verdict_slot};
+ghost use Rattle.spec_file.specs.Calls.{create, add, delete, lookup, lookup_start, lookup_length, count, add_read, delete_read, lookup_read};
 ghost use Rattle.spec_compaction.specs.Compact.{compact};
 ghost use Rattle.spec_conversion.specs.Convert.{convert_number, convert_into};
+ghost use Rattle.spec_range.specs.Ranges.{select};
+ghost use Rattle.spec_epoch.specs.Epochs.{at_epoch};
 ghost use Rattle.spec_changes.specs.Journal.{Disk, recover_number, recovered};
 ghost use Rattle.spec_changes.specs.Lists.{Lists};
 ghost use Rattle.journal_recover.specs.Updates.{Updates};
 ghost use Rattle.spec_changes.specs.Journals.{Journals};
 ghost use Rattle.spec_next.specs.Next.{NextChange};
-ghost use Rattle.spec_records.specs.Records.{Stores};
+ghost use Rattle.spec_records.specs.Records.{Stores, Reads};
 ghost use Rattle.spec_moves.specs.Moves.{grow_number};
 ghost use Rattle.spec_growth.specs.Growth.{grow_add, grow_delete, grow_store};
 ghost use Rattle.growth_ready.specs.Ready.{Grown};
-ghost use Rattle.export_lookup.specs.Looks.{Looks, Counts, ShowsAt};
-ghost use Rattle.export_walk.specs.Walks.{Walks, Judges};
-ghost use Rattle.export_slots.specs.Slots.{AddSlots, DeleteSlots, LookupSlots};
-ghost use Rattle.export_records.specs.ReadsColumns.{ReadsColumns, PairReadsColumns};
-ghost use Rattle.export_select.specs.Selects.{Selects, PairSelects};
+ghost use Rattle.export_records.specs.ReadsColumns.{PairReadsColumns};
+ghost use Rattle.export_select.specs.Selects.{PairSelects};
 ghost use Rattle.export_pair.specs.PairLooks.{PairLooks, PairCounts, PairShowsAt};
 
 // Makes the slice an empty file: keys of `size` bytes, `slots` slots (0 for 5,507), the scramble of the seed.
@@ -74,8 +76,10 @@ pub extern "C" fn bhtf_convert(source: &[u8], target: &mut [u8]) -> u32
 // Where the key's message stands: its text's offset and its length, both 0 with no active message or when refused.
 #[unsafe(no_mangle)]
 pub extern "C" fn bhtf_lookup(image: &[u8], key: &[u8], offset: &mut u32, length: &mut u32) -> u32
-    ensures { Looks image.now key.now
-        image.now result offset.new length.new }
+    ensures { (result ≡ (lookup image.now key.now).answer.number)
+        × (offset.new ≡ lookup_start image.now key.now)
+        × (length.new ≡ lookup_length image.now key.now)
+        × (image.exit.now ≡ (lookup image.now key.now).after) }
 {
     export_lookup::lookup(image, key, offset, length)
 }
@@ -91,8 +95,11 @@ pub extern "C" fn bhtf_at_epoch(
     offset: &mut u32,
     length: &mut u32,
 ) -> u32
-    ensures { ShowsAt image.now name.now epoch
-        image.now result shown.new offset.new length.new }
+    ensures number { result ≡ (at_epoch image.now name.now epoch).number }
+    ensures shown { shown.new ≡ (at_epoch image.now name.now epoch).epoch }
+    ensures offset { offset.new ≡ (at_epoch image.now name.now epoch).start }
+    ensures length { length.new ≡ (at_epoch image.now name.now epoch).length }
+    ensures image { image.exit.now ≡ image.entry.now }
 {
     export_lookup::at_epoch(image, name, epoch, shown, offset, length)
 }
@@ -106,8 +113,9 @@ pub extern "C" fn bhtf_add_slots(
     mode: u32,
     read: &mut u32,
 ) -> u32
-    ensures { AddSlots image.old key.now bytes.now mode
-        image.new result read.new }
+    ensures { (result ≡ (add image.old key.now bytes.now mode).answer.number)
+        × (image.new ≡ (add image.old key.now bytes.now mode).after)
+        × (read.new ≡ add_read image.old key.now mode) }
 {
     export_slots::add_slots(image, key, bytes, mode, read)
 }
@@ -115,8 +123,9 @@ pub extern "C" fn bhtf_add_slots(
 // Deletes as `bhtf_delete` does; and how many slots the search read, 0 when refused with 1 or 5 to 7.
 #[unsafe(no_mangle)]
 pub extern "C" fn bhtf_delete_slots(image: &mut [u8], key: &[u8], read: &mut u32) -> u32
-    ensures { DeleteSlots image.old key.now
-        image.new result read.new }
+    ensures { (result ≡ (delete image.old key.now).answer.number)
+        × (image.new ≡ (delete image.old key.now).after)
+        × (read.new ≡ delete_read image.old key.now) }
 {
     export_slots::delete_slots(image, key, read)
 }
@@ -130,8 +139,11 @@ pub extern "C" fn bhtf_lookup_slots(
     length: &mut u32,
     read: &mut u32,
 ) -> u32
-    ensures { LookupSlots image.now key.now
-        image.now result offset.new length.new read.new }
+    ensures { (result ≡ (lookup image.now key.now).answer.number)
+        × (offset.new ≡ lookup_start image.now key.now)
+        × (length.new ≡ lookup_length image.now key.now)
+        × (image.exit.now ≡ (lookup image.now key.now).after)
+        × (read.new ≡ lookup_read image.now key.now) }
 {
     export_slots::lookup_slots(image, key, offset, length, read)
 }
@@ -139,7 +151,9 @@ pub extern "C" fn bhtf_lookup_slots(
 // How many points the file holds, 0 when refused.
 #[unsafe(no_mangle)]
 pub extern "C" fn bhtf_count(image: &[u8], points: &mut u32) -> u32
-    ensures { Counts image.now image.now result points.new }
+    ensures { (result ≡ (count image.now).answer.number)
+        × (points.new ≡ (count image.now).answer.amount)
+        × (image.exit.now ≡ (count image.now).after) }
 {
     export_lookup::count(image, points)
 }
@@ -148,8 +162,10 @@ pub extern "C" fn bhtf_count(image: &[u8], points: &mut u32) -> u32
 // stands at offset 0, so the offset tells a slot from the end.
 #[unsafe(no_mangle)]
 pub extern "C" fn bhtf_walk(image: &[u8], from: u32, slot: &mut u32, place: &mut u32) -> u32
-    ensures { Walks image.now from
-        image.now result slot.new place.new }
+    ensures { (result ≡ stop_number (key_walk image.now from))
+        × (slot.new ≡ stop_slot (key_walk image.now from))
+        × (place.new ≡ key_start image.now (key_walk image.now from))
+        × (image.exit.now ≡ image.entry.now) }
 {
     export_walk::walk(image, from, slot, place)
 }
@@ -163,8 +179,13 @@ pub extern "C" fn bhtf_select(
     list: &mut [u8],
     found: &mut u32,
 ) -> u32
-    ensures { Selects image.now lowest.now highest.now list.old
-        image.now list.new result found.new }
+    ensures number { result ≡ (select image.now lowest.now highest.now
+        list.old).number }
+    ensures found { found.new ≡ (select image.now lowest.now
+        highest.now list.old).found }
+    ensures list { list.new ≡ (select image.now lowest.now
+        highest.now list.old).list }
+    ensures image { image.exit.now ≡ image.entry.now }
 {
     export_select::select(image, lowest, highest, list, found)
 }
@@ -172,8 +193,10 @@ pub extern "C" fn bhtf_select(
 // Whether the image is sound: verdict 0 sound, 1 the slot fails, 2 the count fails. The slot is 0 but for verdict 1.
 #[unsafe(no_mangle)]
 pub extern "C" fn bhtf_check(image: &[u8], verdict: &mut u32, slot: &mut u32) -> u32
-    ensures { Judges image.now
-        image.now result verdict.new slot.new }
+    ensures { (result ≡ verdict_number (check image.now))
+        × (verdict.new ≡ verdict_code (check image.now))
+        × (slot.new ≡ verdict_slot (check image.now))
+        × (image.exit.now ≡ image.entry.now) }
 {
     export_walk::check(image, verdict, slot)
 }
@@ -320,8 +343,9 @@ pub extern "C" fn bhtf_read_columns(
     out: &mut [u8],
     bytes: &mut u32,
 ) -> u32
-    ensures { ReadsColumns image.now key.now out.old
-        image.now out.new result bytes.new }
+    ensures { Reads image.now key.now out.old out.new
+        result bytes.new
+        × (image.exit.now ≡ image.entry.now) }
 {
     export_records::read_columns(image, key, out, bytes)
 }

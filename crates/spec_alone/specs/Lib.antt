@@ -1,0 +1,4 @@
+pub mod Steps
+pub mod Told
+pub mod Reopened
+pub mod Demand
