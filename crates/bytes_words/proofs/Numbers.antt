@@ -9,7 +9,7 @@
 -- Assumes nothing.
 use Rattle.std.proofs.Common.{◌≡◌, ℕ, suc, ◌+◌, ◌*◌, ◌/◌, ◌%◌, ◌<◌, ◌≤◌, [], ◌∷◌, ◌++◌, length, get_or, take, drop, set, sym, refl, ap, ◌∙◌, append_assoc, mod-eq_of_lt, div-one, add-one, arith, drop-cons, drop-drop}
 use lib.Seq.{sets, sets-eq}
-use lib.Bits.{bit_and, bit_or, and_mask, or_shifted}
+use lib.Bits.{bit_or, or_shifted}
 use Rattle.spec_file.specs.Bytes.{Bytes, part, store, number, digits}
 
 -- ---- part

@@ -6,7 +6,7 @@
 -- Assumes nothing.
 use Rattle.std.specs.Prelude.{◌≡◌, ℕ, ◌+◌, ◌≤◌, ◌<◌, cond, eqb}
 use Rattle.spec_file.specs.Bytes.{Bytes}
-use Rattle.spec_file.specs.Limits.{length_width, most_length, wide_width, most_wide, multiplier_field, start_field, first_field, last_field}
+use Rattle.spec_file.specs.Limits.{most_length, wide_width, most_wide, multiplier_field, start_field, first_field, last_field}
 use Rattle.spec_file.specs.Image.{field, layout_of}
 use Rattle.spec_file.specs.Messages.{head_size}
 use Rattle.spec_file.specs.Questions.{open_number}

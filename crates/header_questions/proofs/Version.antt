@@ -2,14 +2,14 @@
 --     version-letters, version-narrow, version-wide      "BHTF" as one number, v and the version bytes as another
 -- Assumes nothing.
 use mathlib.Core.Path.{◌≡◌, refl, sym, ap, ◌∙◌}
-use Prim.Native.Nat.{ℕ, ◌+◌, ◌*◌, ◌%◌, ◌≤◌, ◌<◌}
+use Prim.Native.Nat.{ℕ, ◌+◌, ◌*◌, ◌≤◌, ◌<◌}
 use native.Mathlib.Omega.{arith}
 use mathlib.Core.Bool.{Bool, true, false, ◌&&◌, ◌||◌}
 use mathlib.Core.List.{[], ◌∷◌}
 use lib.ListN.{length, get_or}
-use lib.Dec.{eqb, leb, ltb}
+use lib.Dec.{eqb, leb}
 use borrow.Author.Tests.{eqb-true, leb-true, eq-eqb, ne_eqb, le-leb}
-use Rattle.spec_file.specs.Bytes.{Bytes, part, number, same}
+use Rattle.spec_file.specs.Bytes.{Bytes, part, same}
 use Rattle.spec_file.specs.Limits.{magic}
 use Rattle.spec_file.specs.Image.{field}
 use Rattle.spec_file.specs.Questions.{version_known}

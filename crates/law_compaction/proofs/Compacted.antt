@@ -25,7 +25,7 @@ use Rattle.spec_file.specs.Messages.{head_size, letter_at, length_at, text_at, i
 use Rattle.spec_file.specs.Inspect.{taken}
 use Rattle.spec_compaction.specs.Compact.{begins_at, packed_below, packed, packed_offset, packed_slot, packed_slots, packed_end, packed_data, lower_free, compacted}
 use Rattle.law_file.proofs.Tests.{by_bool, by-eq, by_le, by-either, and_right}
-use Rattle.law_file.proofs.Bytes.{part_length, part-add, part-part, Apart, length-store, part-store-inside, part-store-below, part-store-above, length-zeros}
+use Rattle.law_file.proofs.Bytes.{part-add, part-part, Apart, length-store, part-store-inside, part-store-below, part-store-above, length-zeros}
 use Rattle.law_file.proofs.Stores.{store-part}
 use Rattle.law_file.proofs.Slots.{Room, slot-above, length-slot, length-key_of, length-entry, key_of-entry, offset_of-entry, slot-store-data, part-set_field-other, field-set_field-same, field-set_field-other, length-set_field}
 use Rattle.law_file.proofs.Total.{total-same}

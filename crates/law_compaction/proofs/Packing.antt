@@ -9,25 +9,23 @@
 -- Assumes nothing.
 use mathlib.Core.Path.{◌≡◌, refl, sym, ap, ◌∙◌, subst}
 use Prim.Native.Nat.{ℕ, zero, suc, ◌+◌, ◌-◌, ◌≤◌, ◌<◌}
-use native.Mathlib.Nat.{zero-add}
 use native.Mathlib.Omega.{arith}
-use mathlib.Core.Bool.{Bool, true, false, cond, not, ◌&&◌, ◌||◌}
-use mathlib.Core.List.{[], ◌∷◌, ◌++◌, append_assoc, append-nil}
-use mathlib.Core.Logic.{◌⊎◌, inl, inr}
+use mathlib.Core.Bool.{Bool, true, false, not, ◌&&◌}
+use mathlib.Core.List.{[], ◌++◌, append_assoc, append-nil}
 use lib.ListN.{length, length-append}
 use lib.Dec.{eqb}
 use borrow.Author.Tests.{eqb-true, eq-eqb, not-true}
 use Rattle.spec_file.specs.Bytes.{Bytes, part}
 use Rattle.spec_file.specs.Limits.{word, free_field}
 use Rattle.spec_file.specs.Image.{field, Layout, layout_of, slot, offset_of, vacant}
-use Rattle.spec_file.specs.Messages.{head_size, letter_at, length_at, is_active}
+use Rattle.spec_file.specs.Messages.{head_size, is_active}
 use Rattle.spec_file.specs.Inspect.{taken, meets, some_below, meets_lower, check, sound}
-use Rattle.spec_compaction.specs.Compact.{begins_at, block_at, packed_from, packed_below, packed_offset}
+use Rattle.spec_compaction.specs.Compact.{begins_at, block_at, packed_from, packed_below}
 use Rattle.law_file.proofs.Effects.{head-least}
 use Rattle.law_file.proofs.Tests.{by_bool, by-eq, by_le, by-or, by-either, and_left, and_right, and-true, not-both}
-use Rattle.law_file.proofs.Bytes.{Apart, apart-sym, AreBytes, part_length}
+use Rattle.law_file.proofs.Bytes.{Apart, apart-sym, part_length}
 use Rattle.law_file.proofs.Slots.{Room}
-use Rattle.law_file.proofs.Opened.{Opened, opened-facts, opened-room}
+use Rattle.law_file.proofs.Opened.{opened-facts, opened-room}
 use Rattle.law_file.proofs.Table.{Taken}
 use Rattle.law_file.proofs.Stretch.{span, Lies, sound-lies}
 use Rattle.law_file.proofs.Meeting.{some-no, meets-apart}

@@ -13,8 +13,8 @@ use mathlib.Core.Bool.{true, not}
 use lib.ListN.{length, take}
 use lib.Dec.{eqb}
 use borrow.Author.Tests.{le-leb, eq-eqb}
-use Rattle.spec_file.specs.Bytes.{Bytes, part, same, all_zero}
-use Rattle.spec_file.specs.Image.{Layout, layout_of, slot, key_of, offset_of, vacant}
+use Rattle.spec_file.specs.Bytes.{Bytes, same, all_zero}
+use Rattle.spec_file.specs.Image.{Layout, layout_of, slot, offset_of, vacant}
 use Rattle.spec_file.specs.Search.{Probe, met, empty, exhausted, is_met, slot_of}
 use Rattle.spec_file.specs.Messages.{shown, bytes_of}
 use Rattle.spec_file.specs.Questions.{first_no, shown_asks, message_sound, name_allowed, open_number}

@@ -17,7 +17,7 @@ use lib.Dec.{eqb, leb}
 use borrow.Author.Tests.{eqb-true}
 use lib.Seq.{get_or-take, get_or-drop}
 use Rattle.spec_file.specs.Bytes.{Bytes, part, store, number, digits, same}
-use Rattle.spec_file.specs.Limits.{most_character, magic, major, minor, patch, wide_major, wide_minor, wide_patch, version_field, serial_field, key_field, slots_field, points_field, multiplier_field, start_field, first_field, last_field, scramble_field, table_field, data_field, free_field, page_field, header_size, scramble_start, table_start}
+use Rattle.spec_file.specs.Limits.{most_character, magic, major, minor, patch, wide_major, wide_minor, version_field, serial_field, key_field, slots_field, points_field, multiplier_field, start_field, first_field, last_field, scramble_field, table_field, data_field, free_field, page_field, header_size, scramble_start, table_start}
 use Rattle.spec_file.specs.Image.{field, set_field, hash, scramble, major_of, wide, layout_of}
 use Rattle.spec_file.specs.Questions.{version_known}
 use Rattle.law_file.proofs.Bytes.{Apart, apart-inside, length-store, part-store-other, part-store-same, part-part, length_digits}

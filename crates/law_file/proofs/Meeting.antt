@@ -4,17 +4,16 @@
 --     apart-meets, meets-apart      two stretches meet exactly where they are not apart
 -- Assumes nothing.
 use mathlib.Core.Path.{◌≡◌, refl, sym, ap, ap₂, ◌∙◌}
-use Prim.Native.Nat.{ℕ, zero, suc, ◌+◌, ◌≤◌, ◌<◌}
+use Prim.Native.Nat.{ℕ, zero, suc, ◌+◌, ◌<◌}
 use native.Mathlib.Omega.{arith}
-use mathlib.Core.Bool.{Bool, true, false, cond, ◌&&◌, ◌||◌, false≢true}
+use mathlib.Core.Bool.{Bool, true, false, ◌||◌, false≢true}
 use mathlib.Core.Logic.{inl, inr}
-use lib.Dec.{ltb, eqb}
-use borrow.Author.Tests.{lt-ltb, le-ltb, ltb-true, ne_eqb}
+use lib.Dec.{ltb}
+use borrow.Author.Tests.{lt-ltb, le-ltb, ne_eqb}
 use Rattle.spec_file.specs.Bytes.{Bytes}
 use Rattle.spec_file.specs.Image.{Layout, slot, offset_of}
-use Rattle.spec_file.specs.Messages.{head_size, length_at}
 use Rattle.spec_file.specs.Inspect.{taken, stretch_start, end_at, stretch_end, meets, some_below, meets_lower}
-use Rattle.law_file.proofs.Tests.{by_bool, by-eq, by_le, and_left, and_right, and-true, or_right, by-or, not-both}
+use Rattle.law_file.proofs.Tests.{by_bool, by-eq, by_le, and-true, by-or, not-both}
 use Rattle.law_file.proofs.Bytes.{Apart}
 use Rattle.law_file.proofs.Stretch.{span}
 

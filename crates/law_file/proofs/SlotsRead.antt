@@ -4,11 +4,11 @@
 --     read_all      at most N
 --     read-few      at most one more than the taken slots, on any image
 -- Assumes nothing.
-use mathlib.Core.Path.{◌≡◌, refl, sym, ap, ◌∙◌, subst}
+use mathlib.Core.Path.{◌≡◌, refl, ap, ◌∙◌, subst}
 use Prim.Native.Nat.{ℕ, zero, suc, ◌+◌, ◌-◌, ◌≤◌, ◌<◌}
 use native.Mathlib.Nat.{zero-add}
 use native.Mathlib.Omega.{arith}
-use mathlib.Core.Bool.{true, false, cond, not}
+use mathlib.Core.Bool.{true, false}
 use Rattle.spec_file.specs.Bytes.{Bytes, same}
 use Rattle.spec_file.specs.Image.{Layout, slot, vacant, home}
 use Rattle.spec_file.specs.Search.{Probe, met, empty, exhausted, next, dist, probe, search, read_from, slots_read}

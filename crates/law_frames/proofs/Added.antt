@@ -17,8 +17,8 @@ use mathlib.Core.Option.{Option, none, some}
 use lib.ListN.{length, length-append}
 use lib.Dec.{eqb, leb, ltb}
 use borrow.Author.Tests.{leb-true, eqb-true, ne_eqb}
-use Rattle.spec_file.specs.Bytes.{Bytes, part, store, digits, zeros, all_zero}
-use Rattle.spec_file.specs.Limits.{inactive, major, minor, patch, version_field, points_field, free_field, page_field, header_size, table_start}
+use Rattle.spec_file.specs.Bytes.{Bytes, part, store, digits, zeros}
+use Rattle.spec_file.specs.Limits.{inactive, major, minor, patch, version_field, points_field, free_field, page_field, header_size}
 use Rattle.spec_file.specs.Image.{field, set_field, last_page, major_of, wide, Layout, layout_of, slot_size, slot_start, slot, put_slot, offset_of, slot_bytes}
 use Rattle.spec_file.specs.Search.{met, empty, exhausted, search, is_met}
 use Rattle.spec_file.specs.Messages.{head_size, length_at, text_at, is_active, shown, bytes_of, shown_length, held, message, set_free, take_space, retire, overwrite, fresh_text, renewed_text, enter, inserted, relocated, renewed, renewed_at, added_at, noted, added}

@@ -17,7 +17,7 @@ use borrow.Author.Tests.{le-leb, lt-leb, eq-eqb, ne_eqb}
 use Rattle.spec_file.specs.Bytes.{Bytes, part, number}
 use Rattle.spec_file.specs.Limits.{active, inactive, free_field}
 use Rattle.spec_file.specs.Image.{field, Layout, layout_of}
-use Rattle.spec_file.specs.Messages.{head_size, letter_at, length_at, is_active, held, shown_length}
+use Rattle.spec_file.specs.Messages.{head_size, letter_at, length_at, is_active, shown_length}
 use Rattle.spec_file.specs.Questions.{message_sound}
 use Rattle.law_file.proofs.Tests.{by-eq}
 use Rattle.law_file.proofs.Effects.{head-least, head-most}

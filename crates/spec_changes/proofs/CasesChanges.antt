@@ -3,13 +3,12 @@
 -- Assumes nothing.
 use mathlib.Core.Path.{◌≡◌, refl}
 use Prim.Native.Nat.{ℕ}
-use mathlib.Core.Bool.{true, false}
-use mathlib.Core.List.{List, [], ◌∷◌, ◌++◌}
+use mathlib.Core.List.{[], ◌∷◌, ◌++◌}
 use Rattle.spec_file.specs.Bytes.{Bytes, zeros}
-use Rattle.spec_file.specs.Calls.{Outcome, plain, settled}
+use Rattle.spec_file.specs.Calls.{Outcome, plain}
 use Rattle.spec_file.specs.Lists.{adding}
-use Rattle.spec_changes.specs.Changes.{Pair, joined, runs, pair_bytes, changes_in, copied, list_allowed, work_allowed, worked_number, Listed, listed}
-use Rattle.spec_changes.specs.Journal.{new_bytes, content, mark_place, mark, journal_allowed, Disk, put, written, all_written, put_all, stretches, to_images, set_mark, updates, spoilt_bytes, spoilt_block, spoilt, cut_after, pair_count, pairs_from, pairs_of, bytes_start, blocks, blocks_of, total, content_inside, in_order, is_marked, journal_sound, recover_number, recovered, recoveries, journaled_number, Journaled, journaled}
+use Rattle.spec_changes.specs.Changes.{Pair, joined, runs, pair_bytes, changes_in, copied, list_allowed, work_allowed, worked_number, listed}
+use Rattle.spec_changes.specs.Journal.{new_bytes, content, mark_place, mark, journal_allowed, Disk, put, written, all_written, put_all, stretches, to_images, set_mark, updates, spoilt_bytes, spoilt_block, spoilt, cut_after, pair_count, pairs_from, pairs_of, bytes_start, blocks, blocks_of, total, content_inside, in_order, is_marked, journal_sound, recover_number, recovered, recoveries, journaled_number, journaled}
 use Rattle.spec_file.proofs.CasesBase.{definitions, fresh, after, one}
 
 unfoldable pub changes : ℕ

@@ -9,16 +9,15 @@ use mathlib.Core.Path.{◌≡◌, refl, sym, ap, ap₂, ◌∙◌, subst}
 use Prim.Native.Nat.{ℕ, zero, suc, ◌+◌, ◌-◌, ◌*◌, ◌≤◌, ◌<◌}
 use native.Mathlib.Omega.{arith}
 use mathlib.Core.Bool.{Bool, true, false, cond, not, ◌&&◌, ◌||◌, true≢false}
-use mathlib.Core.List.{List, [], ◌∷◌, ◌++◌}
-use mathlib.Core.Logic.{inl, inr}
-use lib.ListN.{length, take, drop, get_or}
-use lib.Seq.{get_or-take, get_or-drop, ext_get_or, length-take-le}
+use mathlib.Core.List.{List, [], ◌∷◌}
+use lib.ListN.{length, get_or}
+use lib.Seq.{ext_get_or}
 use lib.Dec.{leb, ltb, eqb}
 use borrow.Author.Tests.{le-leb, lt-leb, lt-ltb, le-ltb, eq-eqb, ne_eqb, eqb-true, not-false}
 use Rattle.spec_file.specs.Bytes.{Bytes, part, store}
 use Rattle.spec_changes.specs.Changes.{Pair, joined, runs, covered, Spread, Near, whole, changes_in, copied}
 use Rattle.law_file.proofs.Tests.{by_bool, by_le, by-eq, or_no}
-use Rattle.law_file.proofs.Bytes.{part_length, length-store, part-store-inside, part-store-other}
+use Rattle.law_file.proofs.Bytes.{part_length, length-store}
 use Rattle.law_file.proofs.Byte.{byte-part, byte-store-below, byte-store-above, byte-store-inside}
 
 -- ---- runs, byte by byte

@@ -3,18 +3,18 @@
 --     content-pairs, content-blocks, content-sound      what recovery reads in a journal that holds an update's content
 --     holds-content, holds-mark      the content written, and a mark of any value behind it
 -- Assumes nothing.
-use mathlib.Core.Path.{◌≡◌, refl, sym, ap, ap₂, ◌∙◌, subst}
-use Prim.Native.Nat.{ℕ, zero, suc, ◌+◌, ◌-◌, ◌*◌, ◌^◌, ◌≤◌, ◌<◌}
+use mathlib.Core.Path.{◌≡◌, refl, sym, ap, ap₂, ◌∙◌}
+use Prim.Native.Nat.{ℕ, suc, ◌+◌, ◌*◌, ◌^◌, ◌≤◌, ◌<◌}
 use native.Mathlib.Omega.{arith}
-use mathlib.Core.Bool.{Bool, true, false, ◌&&◌}
+use mathlib.Core.Bool.{true, ◌&&◌}
 use mathlib.Core.List.{List, [], ◌∷◌, ◌++◌, append_assoc}
-use lib.ListN.{length, take, drop, get_or, length-append, take-append-drop}
-use lib.Seq.{take_at, drop_at, drop-drop, length-take-le, take-length}
+use lib.ListN.{length, take, drop, length-append, take-append-drop}
+use lib.Seq.{take_at, drop_at, drop-drop}
 use lib.Dec.{leb}
 use borrow.Author.Tests.{le-leb}
 use Rattle.spec_file.specs.Bytes.{Bytes, part, store, number, digits}
-use Rattle.spec_changes.specs.Changes.{Pair, runs, pair_bytes, Spread}
-use Rattle.spec_changes.specs.Journal.{new_bytes, content, mark_place, Block, stretches, blocks, pair_count, pairs_from, pairs_of, bytes_start, blocks_of, total, content_inside, in_order, journal_sound}
+use Rattle.spec_changes.specs.Changes.{Pair, pair_bytes, Spread}
+use Rattle.spec_changes.specs.Journal.{new_bytes, content, Block, stretches, blocks, pair_count, pairs_from, pairs_of, bytes_start, blocks_of, total, content_inside, in_order, journal_sound}
 use Rattle.law_file.proofs.Bytes.{part_length, length_digits, number-digits-fits, length-store}
 use Rattle.law_file.proofs.Stores.{take-store}
 

@@ -7,20 +7,19 @@
 -- Four states carry it: content not whole, so that the mark is still 0; content whole and any mark; marked, and the
 -- image near the new one; the new image and any mark.
 -- Assumes nothing.
-use mathlib.Core.Path.{◌≡◌, refl, sym, ap, ap₂, ◌∙◌, subst}
-use Prim.Native.Nat.{ℕ, zero, suc, ◌+◌, ◌-◌, ◌*◌, ◌^◌, ◌≤◌, ◌<◌}
+use mathlib.Core.Path.{◌≡◌, refl, sym, ap, ap₂, ◌∙◌}
+use Prim.Native.Nat.{ℕ, zero, suc, ◌+◌, ◌-◌, ◌^◌, ◌≤◌, ◌<◌}
 use native.Mathlib.Omega.{arith}
 use mathlib.Core.Bool.{Bool, true, false, cond, not, ◌&&◌, ◌||◌, true≢false}
 use mathlib.Core.List.{List, [], ◌∷◌, ◌++◌}
 use mathlib.Core.Logic.{◌⊎◌, inl, inr}
-use lib.ListN.{length, take, drop, get_or}
+use lib.ListN.{length, get_or}
 use lib.Dec.{leb, eqb}
 use borrow.Author.Tests.{le-leb, leb-true, eqb-true}
 use Rattle.spec_file.specs.Bytes.{Bytes, part, store}
-use Rattle.spec_file.specs.Calls.{settled}
 use Rattle.spec_changes.specs.Changes.{Pair, runs, copied, Spread, Near}
-use Rattle.spec_changes.specs.Journal.{new_bytes, content, mark_place, mark, marked, journal_allowed, Disk, Block, Write, to_journal, to_image, put, written, all_written, put_all, stretches, to_images, set_mark, updates, spoilt_bytes, spoilt_block, spoilt, cut_after, blocks_of, is_marked, journal_sound, recover_number, recovered, recoveries, Safe, CutSafe}
-use Rattle.law_file.proofs.Tests.{by_bool, by-eq, and_left, and_right, and-true}
+use Rattle.spec_changes.specs.Journal.{content, mark_place, mark, marked, journal_allowed, Disk, Block, Write, to_journal, put, written, all_written, put_all, stretches, to_images, set_mark, updates, spoilt_bytes, spoilt_block, spoilt, cut_after, blocks_of, is_marked, journal_sound, recover_number, recovered, recoveries, CutSafe}
+use Rattle.law_file.proofs.Tests.{by_bool, by-eq, and_left, and_right}
 use Rattle.law_file.proofs.Bytes.{part_length, length-store}
 use Rattle.law_file.proofs.Stores.{store-inner}
 use Rattle.law_file.proofs.Outcomes.{settled-yes, settled-no}

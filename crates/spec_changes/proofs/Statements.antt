@@ -7,7 +7,7 @@ use lib.ListN.{length}
 use Rattle.spec_file.specs.Bytes.{Bytes}
 use Rattle.spec_file.specs.Calls.{Outcome}
 use Rattle.spec_changes.specs.Changes.{changes_in, copied, listed}
-use Rattle.spec_changes.specs.Journal.{Disk, updates, cut_after, recover_number, recovered, Safe, CutSafe, journaled}
+use Rattle.spec_changes.specs.Journal.{Disk, updates, cut_after, recover_number, recovered, CutSafe, journaled}
 use Rattle.spec_changes.specs.Lists.{Lists}
 use Rattle.spec_changes.specs.Journals.{Journals}
 

@@ -6,7 +6,7 @@
 --     copied rs new img     img with the stretches rs of new copied into it
 --     listed call ..        the form with a working slice and a list, of any call on an image
 -- Assumes nothing.
-use Rattle.std.specs.Prelude.{◌≡◌, ℕ, zero, suc, ◌+◌, ◌*◌, ◌≤◌, ◌<◌, Bool, true, false, cond, ◌&&◌, ◌||◌, List, [], ◌∷◌, ◌++◌, length, get_or, leb, ltb, eqb}
+use Rattle.std.specs.Prelude.{◌≡◌, ℕ, suc, ◌+◌, ◌*◌, ◌≤◌, ◌<◌, Bool, false, cond, ◌&&◌, ◌||◌, List, [], ◌∷◌, ◌++◌, length, get_or, leb, ltb, eqb}
 use Rattle.spec_file.specs.Bytes.{Bytes, part, store, digits}
 use Rattle.spec_file.specs.Calls.{Outcome, settled}
 

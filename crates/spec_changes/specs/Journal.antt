@@ -6,7 +6,7 @@
 --     CutSafe old new j     wherever the cut falls, recovery gives the old image or the new one
 --     journaled call ..     the form, of any call on an image
 -- Assumes nothing.
-use Rattle.std.specs.Prelude.{ℕ, zero, suc, ◌+◌, ◌-◌, ◌*◌, ◌≤◌, ◌≡◌, ◌⊎◌, Bool, true, false, cond, not, ◌&&◌, ◌||◌, List, [], ◌∷◌, ◌++◌, length, take, drop, get_or, leb, ltb, eqb}
+use Rattle.std.specs.Prelude.{ℕ, zero, suc, ◌+◌, ◌-◌, ◌*◌, ◌≤◌, ◌≡◌, ◌⊎◌, Bool, true, cond, not, ◌&&◌, ◌||◌, List, [], ◌∷◌, ◌++◌, length, take, drop, get_or, leb, eqb}
 use Rattle.spec_file.specs.Bytes.{Bytes, part, store, number, digits}
 use Rattle.spec_file.specs.Calls.{Outcome, settled}
 use Rattle.spec_changes.specs.Changes.{Pair, runs, pair_bytes, work_allowed, worked_number}

@@ -11,7 +11,7 @@ use Rattle.spec_file.specs.Limits.{free_field, page_field, points_field}
 use Rattle.spec_file.specs.Image.{set_field, slot_bytes}
 use Rattle.spec_file.specs.Calls.{Answer}
 use Rattle.spec_file.specs.Lists.{Call, adding, deleting, looking}
-use Rattle.spec_file.proofs.CasesBase.{inspect-definitions, headed, after, filed, told, one, two, point, done, refused, shows, shows-none}
+use Rattle.spec_file.proofs.CasesBase.{inspect-definitions, headed, after, one, two, point, done, refused, shows, shows-none}
 use Rattle.spec_file.proofs.CasesOthers.{others, left}
 use Rattle.spec_compaction.specs.Compact.{begins_at, block_at, packed_from, packed_below, packed, packed_offset, packed_slot, packed_slots, packed_end, packed_data, lower_free, compacted, is_sound, compact_number, compact}
 

@@ -6,7 +6,7 @@
 use mathlib.Core.Path.{◌≡◌, refl}
 use Prim.Native.Nat.{ℕ}
 use mathlib.Core.Bool.{true, false}
-use mathlib.Core.List.{List, [], ◌∷◌, ◌++◌}
+use mathlib.Core.List.{[], ◌∷◌, ◌++◌}
 use lib.ListN.{length, replicate}
 use Rattle.spec_file.specs.Bytes.{Bytes, part, store, digits, zeros}
 use Rattle.spec_file.specs.Limits.{magic, points_field, free_field}

@@ -8,13 +8,13 @@
 --     convert img L        the call in a list, with a target of L bytes: the state afterwards is the target
 --     convert_into img t    the target's bytes afterwards, which were t
 -- Assumes nothing.
-use Rattle.std.specs.Prelude.{ℕ, zero, suc, ◌+◌, ◌-◌, ◌*◌, Bool, true, false, cond, not, ◌&&◌, ◌||◌, List, [], ◌∷◌, ◌++◌, length, leb, eqb}
+use Rattle.std.specs.Prelude.{ℕ, zero, suc, ◌+◌, ◌-◌, Bool, true, cond, not, ◌&&◌, ◌||◌, [], ◌∷◌, ◌++◌, length, leb, eqb}
 use Rattle.std.proofs.Math.Option.{Option, none, some}
 use Rattle.spec_file.specs.Bytes.{Bytes, part, store, zeros}
 use Rattle.spec_file.specs.Limits.{major, minor, patch, wide_major, wide_minor, wide_patch, version_field, free_field, scramble_start, table_start}
 use Rattle.spec_file.specs.Image.{field, scramble, major_of, wide, width_of, most_of, Layout, layout_of, slot, put_slot, key_of, offset_of, slot_bytes, blank}
 use Rattle.spec_file.specs.Messages.{head_size, length_at, text_at, is_active, set_free, take_space}
-use Rattle.spec_file.specs.Questions.{Question, ask, first_no, size_allowed, version_known, header_sound}
+use Rattle.spec_file.specs.Questions.{ask, first_no, size_allowed, version_known, header_sound}
 use Rattle.spec_file.specs.Calls.{Outcome, plain, settled}
 use Rattle.spec_file.specs.Inspect.{taken, lowest, check}
 use Rattle.spec_compaction.specs.Compact.{is_sound}

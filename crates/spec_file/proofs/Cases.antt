@@ -3,7 +3,7 @@
 -- crates/spec_book/proofs/CasesBook.antt. `CasesBase` names the modules with more cases.
 -- Assumes nothing.
 use mathlib.Core.Path.{◌≡◌, refl}
-use Prim.Native.Nat.{ℕ, ◌+◌}
+use Prim.Native.Nat.{◌+◌}
 use mathlib.Core.List.{[], ◌∷◌, ◌++◌}
 use mathlib.Core.Bool.{false}
 use Rattle.spec_file.specs.Limits.{minus_one, points_field}

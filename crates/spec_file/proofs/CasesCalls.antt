@@ -2,8 +2,8 @@
 -- lists stand in crates/spec_book/proofs/CasesBook.antt; the file's to the first of them, and more such lists, in
 -- crates/spec_cases.
 -- Assumes nothing.
-use mathlib.Core.Path.{◌≡◌, refl}
-use mathlib.Core.List.{List, [], ◌∷◌, ◌++◌}
+use mathlib.Core.Path.{refl}
+use mathlib.Core.List.{List, [], ◌∷◌}
 use Rattle.spec_file.specs.Calls.{Answer}
 use Rattle.spec_file.specs.Lists.{Call, adding, deleting, looking, counting}
 use Rattle.spec_file.proofs.CasesBase.{headed, filed, Files, one, two, point, done, refused, shows, shows-none, counts}

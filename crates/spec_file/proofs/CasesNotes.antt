@@ -2,7 +2,7 @@
 -- of calls on a new file. The book's answers to those stand in crates/spec_book/proofs/CasesNoted.antt, the file's, and
 -- more such lists, in crates/spec_cases. Assumes nothing.
 use mathlib.Core.Path.{◌≡◌, refl}
-use mathlib.Core.List.{List, [], ◌∷◌, ◌++◌}
+use mathlib.Core.List.{List, [], ◌∷◌}
 use mathlib.Core.Option.{none, some}
 use Rattle.spec_file.specs.Bytes.{part, zeros}
 use Rattle.spec_file.specs.Messages.{fresh_text, renewed_text, renewed, noted}

@@ -1,7 +1,7 @@
 -- Cases of the next run, on a few bytes; each holds by computation. Assumes nothing.
 use mathlib.Core.Path.{◌≡◌, refl}
 use Prim.Native.Nat.{ℕ}
-use mathlib.Core.List.{List, [], ◌∷◌}
+use mathlib.Core.List.{[], ◌∷◌}
 use Rattle.spec_file.specs.Bytes.{Bytes}
 use Rattle.spec_changes.specs.Changes.{Pair, joined, runs}
 use Rattle.spec_next.specs.Next.{lesser, first_run, next_run, stepped}

@@ -5,13 +5,13 @@
 -- Assumes nothing.
 use mathlib.Core.Path.{◌≡◌, refl}
 use Prim.Native.Nat.{ℕ, ◌+◌, ◌-◌}
-use mathlib.Core.List.{List, [], ◌∷◌, ◌++◌}
+use mathlib.Core.List.{[], ◌∷◌, ◌++◌}
 use mathlib.Core.Option.{some}
 use lib.ListN.{length}
 use Rattle.spec_file.specs.Bytes.{Bytes, part, store, zeros}
 use Rattle.spec_file.specs.Limits.{points_field, data_field, free_field, version_field}
 use Rattle.spec_file.specs.Image.{field, set_field, slot_bytes}
-use Rattle.spec_file.specs.Search.{met, empty}
+use Rattle.spec_file.specs.Search.{met}
 use Rattle.spec_file.specs.Calls.{Answer}
 use Rattle.spec_file.specs.Questions.{first_no}
 use Rattle.spec_file.proofs.CasesBase.{definitions, headed, done, refused, one}

@@ -66,7 +66,7 @@ pub extern "C" fn bhtf_compact(image: &mut [u8]) -> u32
 pub extern "C" fn bhtf_convert(source: &[u8], target: &mut [u8]) -> u32
     ensures { (result ≡ convert_number source.now (length target.old))
         × (target.new ≡ convert_into source.now target.old)
-        × (source.now ≡ source.now) }
+        × (source.exit.now ≡ source.entry.now) }
 {
     call_convert::convert(source, target)
 }
@@ -330,8 +330,8 @@ pub extern "C" fn bhtf_read_columns(
 #[unsafe(no_mangle)]
 pub extern "C" fn bhtf_grow(old: &[u8], new: &[u8]) -> u32
     ensures number { result ≡ grow_number old.now new.now }
-    ensures old { old.now ≡ old.now }
-    ensures new { new.now ≡ new.now }
+    ensures old { old.exit.now ≡ old.entry.now }
+    ensures new { new.exit.now ≡ new.entry.now }
 {
     call_grow::grow(old, new)
 }

@@ -1,8 +1,8 @@
 -- After each turn the first i bytes are zero; the last block may overlap the one before. Assumes nothing.
-use Prim.Native.Nat.{ℕ, ◌+◌, ◌-◌, ◌≤◌, ◌<◌}
+use Prim.Native.Nat.{◌+◌, ◌-◌, ◌≤◌}
 use native.Mathlib.Omega.{arith}
-use mathlib.Core.Path.{◌≡◌, refl, sym, ap, ◌∙◌}
-use lib.ListN.{length, get_or}
+use mathlib.Core.Path.{◌≡◌, refl, ap, ◌∙◌}
+use lib.ListN.{length}
 use Rattle.spec_file.specs.Bytes.{zeros}
 use Rattle.law_file.proofs.Bytes.{length-store, length-zeros}
 use Rattle.bytes_zero.proofs.Cleared.{Cleared, cleared-block, cleared-all}

@@ -1,6 +1,5 @@
 -- Question 16 is its two tests. Assumes nothing.
 use mathlib.Core.Path.{refl}
-use borrow.Author.Rules.{rules}
 use Rattle.spec_changes.specs.Changes.{list_allowed, work_allowed}
 use Rattle.changes_windows.proofs.slices_allowed.Statement.{statement}
 use Rattle.changes_windows.proofs.slices_allowed.Tie as tie

@@ -1,7 +1,7 @@
 -- Question 5, by two numbers. Assumes nothing.
 use borrow.Author.Rules.{rules}
 use native.Mathlib.Omega.{arith}
-use mathlib.Core.Path.{◌≡◌, sym, ◌∙◌}
+use mathlib.Core.Path.{sym, ◌∙◌}
 use Rattle.header_questions.proofs.Version.{version-letters, version-narrow, version-wide}
 use Rattle.header_questions.proofs.version_known.Statement.{statement}
 use Rattle.header_questions.proofs.version_known.Tie as tie

@@ -1,5 +1,5 @@
 -- `header_sizes::table_allowed` meets its contract: below 1 the difference wraps past the limit. Assumes nothing.
-use Rattle.std.proofs.Common.{ℕ, Bool, ◌&&◌, leb, sym, ap, ◌∙◌, arith, rules, le-ltb, lt-ltb, le-leb}
+use Rattle.std.proofs.Common.{Bool, ◌&&◌, leb, sym, ap, ◌∙◌, arith, rules, le-ltb, lt-ltb, le-leb}
 use borrow.Author.Tests.{lt-leb}
 use Rattle.spec_file.specs.Questions.{slots_allowed}
 use Rattle.law_file.proofs.Tests.{by_le}

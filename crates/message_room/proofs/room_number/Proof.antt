@@ -1,9 +1,7 @@
 -- The two tests, by the shape's numbers. Assumes nothing.
 use native.Mathlib.Omega.{arith}
-use Prim.Native.Nat.{◌+◌}
-use mathlib.Core.Path.{◌≡◌, sym, ◌∙◌}
+use mathlib.Core.Path.{sym}
 use borrow.Author.Rules.{rules}
-use lib.ListN.{length}
 use Rattle.spec_file.specs.Image.{layout_of}
 use Rattle.law_file.proofs.Opened.{opened-facts}
 use Rattle.header_layout.proofs.Shaped.{shape-head, shape-most, head-range, most-tells}

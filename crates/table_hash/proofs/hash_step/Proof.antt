@@ -1,6 +1,6 @@
 -- `table_hash::hash_step` meets its contract: no byte is scrambled where E is below F; else the wrapped difference
 -- tells. Assumes nothing.
-use Rattle.std.proofs.Common.{◌≡◌, ℕ, ◌-◌, ◌*◌, ◌≤◌, ap, ◌∙◌, arith, rules}
+use Rattle.std.proofs.Common.{◌≡◌, ℕ, ◌-◌, ◌*◌, ap, ◌∙◌, arith, rules}
 use Rattle.spec_file.specs.Image.{field}
 use Rattle.table_hash.proofs.Hashed.{hash_step-outside, hash_step-within}
 use Rattle.table_hash.proofs.hash_step.Statement.{statement}

@@ -1,7 +1,7 @@
 -- `bytes_words::fields::write_u32` meets its contract: the swapped number's bytes, in the machine's order, are the
 -- digits. Assumes nothing.
 use Rattle.std.proofs.Common.{ap, ◌∙◌, arith, rules}
-use Rattle.spec_file.specs.Bytes.{Bytes, store}
+use Rattle.spec_file.specs.Bytes.{store}
 use Rattle.spec_file.specs.Image.{set_field}
 use Rattle.bytes_words.proofs.Numbers.{digits-swapped}
 use Rattle.bytes_words.proofs.fields.write_u32.Statement.{statement}

@@ -13,10 +13,6 @@ use Rattle.header_layout.specs.Shapes.{shape_of}
 use Rattle.header_layout.specs.declared.shape.Shape.{Shape}
 use Rattle.header_layout.proofs.shape.read_shape.Statement.{statement}
 use Rattle.header_layout.proofs.shape.read_shape.Tie as tie
-use Rattle.header_layout.proofs.shape.read_shape.Reads as reads
-use Rattle.header_layout.proofs.shape.read_shape.Lts as lts
-use Rattle.header_layout.proofs.places.Offset.new.Reads as new-reads
-use Rattle.bytes_words.proofs.fields.read_u32.Reads as read-u32-reads
 
 shape_is : (img : Bytes) {k s m b f l a h : ℕ} → k ≡ field img key_field → s ≡ field img slots_field
     → m ≡ field img multiplier_field → b ≡ field img start_field → f ≡ field img first_field → l ≡ field img last_field

@@ -4,8 +4,6 @@ use mathlib.Core.Path.{sym}
 use Rattle.law_file.proofs.Cyclic.{next_up, next-wrap}
 use Rattle.header_layout.proofs.places.Slot.next.Statement.{statement}
 use Rattle.header_layout.proofs.places.Slot.next.Tie as tie
-use Rattle.header_layout.proofs.places.Slot.next.Reads as reads
-use Rattle.header_layout.proofs.places.Slot.next.Lts as lts
 
 add-if1 : tie.Need-overflow_add-self
 add-if1 c = search rules

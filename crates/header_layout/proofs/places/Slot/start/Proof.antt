@@ -9,8 +9,6 @@ use native.Mathlib.Omega.{arith}
 use Rattle.spec_file.specs.Limits.{most_key, most_slots, table_start}
 use Rattle.header_layout.proofs.places.Slot.start.Statement.{statement}
 use Rattle.header_layout.proofs.places.Slot.start.Tie as tie
-use Rattle.header_layout.proofs.places.Slot.start.Reads as reads
-use Rattle.header_layout.proofs.places.Slot.start.Lts as lts
 
 le_four : (k : ℕ) → k ≤ most_key → k + 4 ≤ most_key + 4
 le_four k h = omega arith
