@@ -42,7 +42,7 @@ applied() {
   done <"$1"
 }
 
-# tried EDIT FOLDER: what the prover says of the edited crate, in the file said of FOLDER. Where libraries are missing, rt makes them first.
+# tried EDIT FOLDER: what the prover says of the edited crate, in the file said of FOLDER
 tried() {
   local crate=${1#crates/} part status
   crate=${crate%%/*}
@@ -50,15 +50,10 @@ tried() {
   applied "$1" "$2" || return 1
   .ci/rattle check "$crate" "$2" >"$2/said" 2>&1
   status=$?
-  if [ "$status" -eq 4 ]; then
-    (cd "crates/$crate" && rt check) >"$2/said" 2>&1 || { echo "$crate itself is not proved: $(grep -m 1 error "$2/said")"; return 1; }
-    KEPT=yes .ci/rattle check "$crate" "$2" >"$2/said" 2>&1
-    status=$?
-  fi
-  if [ "$status" -eq 0 ]; then
-    echo "$1: the crate is proved with it"
-    return 1
-  fi
+  case $status in
+    0) echo "$1: the crate is proved with it"; return 1 ;;
+    4) echo "$1: $crate itself is not proved: $(grep -m 1 error "$2/said")"; return 1 ;;
+  esac
   grep -q '^logic=not-proved' "$2/said" || { echo "$1: the prover gave no verdict: $(tail -n 1 "$2/said")"; return 1; }
 }
 
