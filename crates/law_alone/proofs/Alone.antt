@@ -108,7 +108,9 @@ on-after : (cs : List Step) (img : Bytes)
     → state_after wide.perform_on (widen-all cs) img ≡ state_after perform_on cs img
 unfolding state_after widen-all
 on-after [] img = refl
-on-after (c ∷ cs) img = rw (perform-same c img) (on-after cs (perform_on c img).after)
+on-after (c ∷ cs) img =
+    ap (λ (o : Outcome Bytes). state_after wide.perform_on (widen-all cs) o.after) (perform-same c img)
+    ∙ on-after cs (perform_on c img).after
 
 -- the state is the image
 state-answers : (cs : List Step) (img : Bytes) → answers perform cs (alone img) ≡ answers perform_on cs img
@@ -146,7 +148,7 @@ told-after (c ∷ cs) img b =
 
 -- on one image
 pub agreement-of-forms : AgreementOfForms
-unfolding AgreementOfForms Starts Agrees state_text wide-start.Starts wide-demand.Agrees wide-demand.state_text
+unfolding AgreementOfForms Starts Agrees state_text wide-start.Starts wide-demand.Agrees wide-demand.state_text wide-demand.AgreementOfForms
 agreement-of-forms img b start steps =
     let k = all-alone steps in
     let whole = lists.agreement-of-forms img b start (widen-all steps) k in (
@@ -197,7 +199,9 @@ book-after : (cs : List Step) (b : Book)
     → state_after (wide-told.book_step false) (widen-all cs) b ≡ state_after (book_step false) cs b
 unfolding state_after widen-all
 book-after [] b = refl
-book-after (c ∷ cs) b = rw (step-same false c b) (book-after cs (book_step false c b).after)
+book-after (c ∷ cs) b =
+    ap (λ (o : Outcome Book). state_after (wide-told.book_step false) (widen-all cs) o.after) (step-same false c b)
+    ∙ book-after cs (book_step false c b).after
 
 pub agreement-from : AgreementFrom
 unfolding AgreementFrom Starts wide-start.Starts wide-demand.AgreementFrom
