@@ -3,8 +3,8 @@
 #     # a lookup that always answers 14
 #     # falls at: proofs/lookup/Proof.antt returns
 #     # guards: lookup
-# Held to what the prover says of it: that fact must be among those that it refused in themselves, and none of those may be refused because
-# the edit changed the code's shape. `rt ci` prints of each edit the first fact that was refused, and refuses itself what is not well formed. An
+# Held to what the prover says of it: that fact must be among those that it refused in themselves, and not because a name is gone that its
+# proof cites. (Goals and steps are named after what they are about, so where an edit changes an operand, other facts may lose a name.) `rt ci` prints of each edit the first fact that was refused, and refuses itself what is not well formed. An
 # edit of which that is another fact is tried once more, in full, over the libraries that `rt ci` left.
 # A fact that is false and a proof that no longer fits look alike to the prover, but for two reasons by which a fact is seen to be
 # false: numbers at which it fails, and two sides that, computed, differ in a number.
@@ -121,8 +121,8 @@ in_full() {
     elif ! cut -d' ' -f1,2 <<<"$own" | of_function | grep -qxF -- "$(of_function <<<"$2")"; then
       echo "$edit does not fall at $2, but at: $(cut -d' ' -f1,2 <<<"$own" | uniq | tr '\n' ' ')"
       status=1
-    elif grep -qE "$shape" <<<"$own"; then
-      echo "$edit changes the code's shape: $(grep -m 1 -E "$shape" <<<"$own" | cut -c1-200)"
+    elif ! grep -vE "$shape" <<<"$own" | cut -d' ' -f1,2 | of_function | grep -qxF -- "$(of_function <<<"$2")"; then
+      echo "$edit falls at $2 only because a name is gone: $(grep -m 1 -E "$shape" <<<"$own" | cut -c1-200)"
       status=1
     fi
   else
