@@ -1,5 +1,5 @@
 #!/usr/bin/env bash
-# Fails where README.md or a page of docs/ names something that is gone; LANDINGS.md, which tells of the past, is left out.
+# Fails where README.md or a page of docs/ names something that is gone; LANDINGS.md and PORT.md, which tell of the past, are left out.
 #     `crates/..`                        a file or folder, also of docs, host, tests, bench and .ci: it exists
 #     [words](path)                      so does what a link leads to
 #     [words](../crates/..#name)         and that file declares the name
@@ -65,7 +65,7 @@ trap 'rm -f "$words"' EXIT
 } | sort -u >"$words"
 
 for doc in ${PAGES:-README.md docs/*.md}; do
-  [ "$doc" != docs/LANDINGS.md ] || continue
+  [ "$doc" != docs/LANDINGS.md ] && [ "$doc" != docs/PORT.md ] || continue
   while read -r path; do
     checked=$((checked + 1))
     [ -e "$path" ] || gone "names $path, which is not there"
