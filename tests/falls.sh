@@ -216,22 +216,12 @@ case ${1:-} in
   *) log=$1 ;;
 esac
 [ -n "$shown" ] || [ -f "$log" ] || { echo "$log is not there: .ci/run leaves it; rt ci >$log does too" >&2; exit 2; }
-# Edits that are refused, but of which no fact tells: the steps that they add or take away are steps that the proof counts. They are no test
-# here, and the list only shrinks.
-open=tests/falls-open.txt
-counted=0
-for edit in "${edits[@]}"; do
-  if [ -z "$shown" ] && grep -qxF -- "$edit" "$open"; then
-    counted=$((counted + 1))
-  else
-    test_that "$edit" fall "$edit"
-  fi
-done
+for edit in "${edits[@]}"; do test_that "$edit" fall "$edit"; done
 # each word has an edit
 guards() { grep -qE "^# guards: (.* )?$1( |\$)" crates/*/must-fail/*.edit; }
 if [ -z "$shown" ]; then
   for word in $words; do test_that "an edit guards $word" guards "$word"; done
   echo "of these $(wc -w <<<"$words") assertions"
 fi
-[ -n "$shown" ] || echo "$in_full_count of ${#edits[@]} were tried in full, and $counted are refused at no fact that is known: $open"
+[ -n "$shown" ] || echo "$in_full_count of ${#edits[@]} were tried in full"
 tally
