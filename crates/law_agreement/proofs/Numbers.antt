@@ -20,9 +20,10 @@ use Rattle.spec_changes.specs.Changes.{list_allowed, work_allowed}
 use Rattle.spec_columns.specs.Columns.{columns}
 use Rattle.spec_records.specs.Records.{readable}
 use Rattle.law_records.proofs.Numbers.{records-number}
-use Rattle.spec_book.specs.Steps.{Change, adds, deletes, compacts, Step, calling, compacting, listing, journaling, storing, reading, converting, dating, starting}
+use Rattle.spec_book.specs.Steps.{Change, adds, deletes, compacts, Step, calling, compacting, listing, journaling, storing, reading, converting, dating, starting, second_of}
 use Rattle.spec_book.specs.Book.{Entry, Book, find, step_of, room_asks, add_absent, replace, append, add_present, add_found, guarded, book_add, delete_found, book_delete, lookup_found, book_lookup, book_store, read_found, book_read, book_count, book_compact, convert_asks, book_convert, book_call, latest_entry, dated_found, book_at_epoch, book_start}
 use Rattle.spec_book.specs.Told.{book_changed, image_length, told_number, book_step}
+use Rattle.spec_book.specs.Demand.{no_start}
 use Rattle.law_file.proofs.Tests.{by_bool}
 use Rattle.law_file.proofs.Opened.{first_no-none, first_no-yes, first_no-no}
 
@@ -207,22 +208,22 @@ module _ (P : ℕ → Type 0) where
       unfolding book_start
       start_of p₂₁ new = step-number b _ _ (either 21 _ [] p₂₁ (none-asked (few 0 (omega arith))))
 
-      -- of any step
-      pub step-of : P 13 → P 16 → P 17 → P 19 → P 20 → P 21 → P 23 → (t : Bool) (c : Step) → P
+      -- of any step; 21 of a start alone
+      pub step-of : P 13 → P 16 → P 17 → P 19 → P 20 → P 23 → (t : Bool) (c : Step) → (no_start c ≡ false → P 21) → P
           (book_step t c b).answer.number
-      unfolding book_step
-      step-of p₁₃ p₁₆ p₁₇ p₁₉ p₂₀ p₂₁ p₂₃ t (calling c) = call-of c
-      step-of p₁₃ p₁₆ p₁₇ p₁₉ p₂₀ p₂₁ p₂₃ t compacting = compact-of
-      step-of p₁₃ p₁₆ p₁₇ p₁₉ p₂₀ p₂₁ p₂₃ t (listing c work list) =
+      unfolding book_step no_start second_of
+      step-of p₁₃ p₁₆ p₁₇ p₁₉ p₂₀ p₂₃ t (calling c) p₂₁ = call-of c
+      step-of p₁₃ p₁₆ p₁₇ p₁₉ p₂₀ p₂₃ t compacting p₂₁ = compact-of
+      step-of p₁₃ p₁₆ p₁₇ p₁₉ p₂₀ p₂₃ t (listing c work list) p₂₁ =
           sixteen p₁₆ (list_allowed (length list) && work_allowed (image_length b.terms) work) (book_changed c b)
           (change-of c)
-      step-of p₁₃ p₁₆ p₁₇ p₁₉ p₂₀ p₂₁ p₂₃ t (journaling c work j) =
+      step-of p₁₃ p₁₆ p₁₇ p₁₉ p₂₀ p₂₃ t (journaling c work j) p₂₁ =
           told_of p₁₇ t _ (sixteen p₁₆ (work_allowed (image_length b.terms) work) (book_changed c b) (change-of c))
-      step-of p₁₃ p₁₆ p₁₇ p₁₉ p₂₀ p₂₁ p₂₃ t (storing name recs W) = store_of p₁₉ name recs W
-      step-of p₁₃ p₁₆ p₁₇ p₁₉ p₂₀ p₂₁ p₂₃ t (reading name size) = read_of p₁₉ name size
-      step-of p₁₃ p₁₆ p₁₇ p₁₉ p₂₀ p₂₁ p₂₃ t (converting L) = convert-of p₁₃ p₂₀ L
-      step-of p₁₃ p₁₆ p₁₇ p₁₉ p₂₀ p₂₁ p₂₃ t (dating name e) = dated-of p₂₃ name e
-      step-of p₁₃ p₁₆ p₁₇ p₁₉ p₂₀ p₂₁ p₂₃ t (starting new) = start_of p₂₁ new
+      step-of p₁₃ p₁₆ p₁₇ p₁₉ p₂₀ p₂₃ t (storing name recs W) p₂₁ = store_of p₁₉ name recs W
+      step-of p₁₃ p₁₆ p₁₇ p₁₉ p₂₀ p₂₃ t (reading name size) p₂₁ = read_of p₁₉ name size
+      step-of p₁₃ p₁₆ p₁₇ p₁₉ p₂₀ p₂₃ t (converting L) p₂₁ = convert-of p₁₃ p₂₀ L
+      step-of p₁₃ p₁₆ p₁₇ p₁₉ p₂₀ p₂₃ t (dating name e) p₂₁ = dated-of p₂₃ name e
+      step-of p₁₃ p₁₆ p₁₇ p₁₉ p₂₀ p₂₃ t (starting new) p₂₁ = start_of (p₂₁ refl) new
 
 -- ---- 13
 

@@ -3,10 +3,12 @@
 --     widen, widen-all          a step, and a list of steps, as crates/spec_book has them
 --     perform-same, step-same   it does the same to the file, and to the book
 --     demand3, agreement-of-forms, agreement-from      the theorem and its cases
+--     step-of                   which numbers a step of the book may answer
 -- Assumes nothing.
-use Rattle.std.specs.Prelude.{ℕ, ◌≡◌, Bool, true, false, List, [], ◌∷◌, eqb}
-use mathlib.Core.Path.{refl, sym, ap, ap₂, ◌∙◌}
+use Rattle.std.specs.Prelude.{ℕ, ◌≡◌, ◌≤◌, Bool, true, false, List, [], ◌∷◌, eqb}
+use mathlib.Core.Path.{refl, sym, ap, ap₂, ◌∙◌, subst}
 use Rattle.spec_file.specs.Bytes.{Bytes}
+use Rattle.spec_file.specs.Questions.{first_no}
 use Rattle.spec_file.specs.Calls.{Answer, Outcome}
 use Rattle.spec_file.specs.Lists.{answers, state_after}
 use Rattle.spec_book.specs.Steps as wide
@@ -14,12 +16,14 @@ use Rattle.spec_book.specs.Told as wide-told
 use Rattle.spec_book.specs.Reopened as wide-start
 use Rattle.spec_book.specs.Demand as wide-demand
 use Rattle.spec_book.specs.Steps.{second_of, goes_on}
-use Rattle.spec_book.specs.Book.{Book}
+use Rattle.spec_book.specs.Book.{Book, room_asks}
 use Rattle.spec_book.specs.Demand.{AllAre, no_start, file_text, book_text}
 use Rattle.spec_alone.specs.Steps.{Step, calling, compacting, listing, journaling, storing, reading, converting, dating, dated_outcome, perform_on, State, alone, alone_after, perform}
 use Rattle.spec_alone.specs.Told.{book_step, tells, told_by, book_told}
 use Rattle.spec_alone.specs.Reopened.{Starts}
 use Rattle.spec_alone.specs.Demand.{state_text, Permitted, Agrees, Demand3, AgreementOfForms, is_plain, AllPlain, AgreementFrom}
+use Rattle.law_file.proofs.Tests.{not-both}
+use Rattle.law_agreement.proofs.Numbers as numbers
 use Rattle.law_lists.proofs.Theorem as lists
 
 -- ---- a step as crates/spec_book has it
@@ -213,3 +217,14 @@ agreement-from img b start steps p =
           ∙ whole.1 name
           ∙ ap (λ (x : Book). book_text x name) (book-after steps b),
     )
+
+-- ---- numbers
+
+-- which numbers a step of the book may answer
+pub step-of : (P : ℕ → Type 0) (b : Book) → ((n : ℕ) → n ≤ 10 → P n) → P 14 → ((m : ℕ) → P (first_no (room_asks b m)))
+    → P 13 → P 16 → P 17 → P 19 → P 20 → P 23 → (t : Bool) (c : Step)
+    → P (book_step t c b).answer.number
+step-of P b few absent room p₁₃ p₁₆ p₁₇ p₁₉ p₂₀ p₂₃ t c =
+    subst (λ (o : Outcome Book). P o.answer.number) (step-same t c b)
+    (numbers.step-of P b few absent room p₁₃ p₁₆ p₁₇ p₁₉ p₂₀ p₂₃ t (widen c)
+    (λ h. absurd (not-both (no_start (widen c)) (widen-alone c) h)))

@@ -453,7 +453,7 @@ no-fifteen s b r c p q =
     step-of (λ (n : ℕ). n ≡ 15 → ⊥) b (λ n l e. omega arith) (λ e. omega arith)
     (λ m. room-number (λ (n : ℕ). n ≡ 15 → ⊥) b m (λ e. omega arith) (λ e. omega arith) (λ e. omega arith))
     (λ e. omega arith) (λ e. omega arith) (λ e. omega arith) (λ e. omega arith) (λ e. omega arith) (λ e. omega arith)
-    (λ e. omega arith) (tells c s) c
+    (tells c s) c (λ h e. omega arith)
     (ap (λ (x : Answer). x.number) (sym (same_answer c s b (reached-held s b r) p)) ∙ q)
 
 module _ (img : Bytes) (b : Book) (r : Reached (alone img) b) where
