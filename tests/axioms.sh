@@ -1,6 +1,7 @@
 #!/usr/bin/env bash
-# Contracts that are assumed, not proved: of what is linked or run only the lister may rest on any, and docs/PROMISES.md names each as trusted.
-# Both are checked once more, over the libraries that `rt ci` left, with a list of those contracts in their whole graph.
+# Contracts that are assumed, not proved: only the lister may rest on any, and docs/PROMISES.md names each as trusted.
+# What is linked or run is checked once more, over the libraries that `rt ci` left, with a list of those contracts in its whole graph; so is
+# each crate on which nothing of that rests, as those of the laws of lists.
 set -u
 cd "$(dirname "$0")/.." || exit 2
 said=$(mktemp) || exit 2
@@ -32,5 +33,33 @@ if [ -z "$lister" ] || [ "$lister" != "$named" ]; then
   diff <(echo "$lister") <(echo "$named") | grep '^[<>]'
   bad=1
 fi
+# those of crates.txt that neither rests on
+apart() {
+  awk -F: '
+    function walk(name, of, n, i) {
+      if (name in seen) return
+      seen[name]
+      n = split(uses[name], of, " ")
+      for (i = 1; i <= n; i++) if (of[i] in uses) walk(of[i])
+    }
+    { sub(/#.*/, "") }
+    NF { split($1, head, " "); uses[head[1]] = $2; names[++count] = head[1] }
+    END {
+      walk("station")
+      walk("lister")
+      for (i = 1; i <= count; i++) if (!(names[i] in seen)) print names[i]
+    }' crates.txt
+}
+apart=$(apart)
+for crate in $apart; do
+  if ! .ci/rattle check "$crate" "crates/$crate" --list-axioms >"$said" 2>&1 || ! grep -q '^logic=proved ' "$said"; then
+    echo "$crate was not proved: $(tail -n 1 "$said")"
+    bad=1
+  elif grep -E '(^| )(axioms|foreign)[ =]' "$said"; then
+    echo "$crate rests on assumed contracts"
+    bad=1
+  fi
+done
+[ -n "$apart" ] || { echo "crates.txt has no crate beside what is linked or run"; bad=1; }
 [ "$bad" -eq 0 ] && echo "assumed by the lister alone:" $lister
 exit "$bad"

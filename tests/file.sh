@@ -126,6 +126,7 @@ gives "nothing" 0 '^a text$' "$work/points" "$site" CP-113
 holds "all" "$work/season" "$site" CP-113
 gives "all is gone" 1 'There is no point' "$work/points" "$site" CP-113
 export PYTHONPATH=$work/usr/share/bhtf
+gives "a batch in Python" 0 '^14 points, sound$' python3 -B tests/file/batch.py "$site"
 gives "the example in Python" 0 '^CP-101: 5\.341 m: east \+3\.402, north \+4\.118$' python3 -B host/examples/stakeout.py "$site" CP-101 4482110 5351870
 holds "the package for Python" python3 -B tests/file/module.py "$work"
 for page in bhtf.3 bhtf_file.3 bhtf_delta.3; do

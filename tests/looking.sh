@@ -200,6 +200,33 @@ clear_names() {
   return 1
 }
 test_that "names of twelve points are clear of each other" clear_names a 12
+# clear_sheet FILE COUNT: on one sheet that many names, none of which covers another or a point. Letters are taken as 0.6 of their size wide.
+clear_sheet() {
+  places "$1" >marks
+  sed -n '/id="names"/,/^<\/g>/s/^<text x="\([-0-9.]*\)" y="\([-0-9.]*\)"[^>]*>\(.*\)<\/text>/\1 \2 \3/p' "$1" >names
+  awk -v count="$2" '
+    function across(a, wide, b, other) { return a < b + other && b < a + wide }
+    NR == FNR { mx[NR] = $1; my[NR] = $2; marks = NR; next }
+    {
+      n++
+      x[n] = $1
+      top[n] = $2 - 2.72
+      name[n] = $0
+      sub(/^[^ ]* [^ ]* /, "", name[n])
+      w[n] = length(name[n]) * 3.4 * 0.6
+    }
+    END {
+      for (i = 1; i <= n; i++) {
+        for (j = 1; j < i; j++)
+          if (across(x[i], w[i], x[j], w[j]) && across(top[i], 3.4, top[j], 3.4)) bad = 1
+        for (j = 1; j <= marks; j++)
+          if (across(x[i], w[i], mx[j] - 1.3, 2.6) && across(top[i], 3.4, my[j] - 1.3, 2.6)) bad = 1
+      }
+      if (bad || n != count) print "  " n " names, " (bad ? "one of them on another or on a point" : "not " count)
+      exit bad || n != count
+    }' marks names
+}
+test_that "and on the one sheet that plot prints" clear_sheet a.svg 12
 # random COUNT WIDTH HEIGHT NAME: points all over a site
 random() {
   awk -v s="$seed" -v n="$1" -v w="$2" -v h="$3" -v p="$4" 'BEGIN {
@@ -227,6 +254,7 @@ echo 'P,1,2,,' | site one
 bhtf plot one >one.svg
 test_that "one point" renders one.svg
 test_that "its name is there" clear_names one 1
+test_that "and on the one sheet that plot prints" clear_sheet one.svg 1
 printf '%s\n' 'A,100,200,,' 'B,101.2,200.4,,' | site small
 bhtf plot small >small.svg
 test_that "a site of a metre" renders small.svg

@@ -405,6 +405,11 @@ for paper in A4 A3 A0; do
   bhtf plot rings --paper "$paper" --html >rings.html 2>/dev/null
   test_that "names stand at their own points, $paper" python3 -B "$root/tests/sheets/measure.py" rings.html
 done
+mapfile -t names < <(bhtf list rings --by name)
+for paper in A4 A0; do
+  bhtf plot rings --paper "$paper" >rings.svg 2>/dev/null
+  test_that "and on the first sheet, $paper" python3 -B "$root/tests/office/plan.py" rings.svg "${names[@]}"
+done
 bhtf plot rings >rings.svg
 test_that "no paper above A3 unless asked" grep -q ' on A3' rings.svg
 test_that "names without room are told on the sheet" sh -c 'bhtf plot rings --paper A4 2>/dev/null | grep -q "without room for the name" ||

@@ -12,6 +12,8 @@ const char *delta_words(uint32_t number)
     static char words[256];
     size_t length;
 
+    if (number == BHTF_DELTA_VERSION)
+        return "the delta is of a version that this command does not know";
     snprintf(words, sizeof words, "%s", bhtf_message(number));
     words[0] = (char)tolower((unsigned char)words[0]);
     length = strlen(words);

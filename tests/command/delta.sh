@@ -117,7 +117,7 @@ refused "a good one in front of a damaged one" 2 'record 2: .*damaged' sh -c '(c
 refused "good ones in front of one that is missing" 1 'record 2 of' sh -c 'cat step still | bhtf apply copy'
 cp step later
 at later 5 '\002'
-refused "a later version" 2 'version that is not known' bhtf apply copy later
+refused "a later version" 2 'version that this command does not know' bhtf apply copy later
 bhtf add kept OTHER changed
 refused "a copy that others changed" 1 'or the copy was changed by others' bhtf apply copy step
 cp monday kept
