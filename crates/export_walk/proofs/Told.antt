@@ -21,6 +21,10 @@ use Rattle.call_walk.proofs.Stopping.{stopped-open, stopped-below}
 use Rattle.export_walk.specs.Codes.{verdict_code, verdict_slot}
 use Rattle.export_walk.specs.Walks.{Walks, Judges}
 
+-- what an export answers, and that the image is as it was
+pub with-image : {A B C : Type 0} {img : Bytes} → A × B × C → A × B × C × (img ≡ img)
+with-image w = (w.0, w.1, w.2, refl)
+
 -- ---- the walk
 
 abbrev pub Stops : Bytes → Stop → ℕ → ℕ → ℕ → Type 0
