@@ -1,7 +1,8 @@
 #!/usr/bin/env bash
 # Contracts that are assumed, not proved: only the lister may rest on any, and docs/PROMISES.md names each as trusted.
 # What is linked or run is checked once more, over the libraries that `rt ci` left, with a list of those contracts in its whole graph; so is
-# each crate on which nothing of that rests, as those of the laws of lists.
+# each crate that is not below the exports, for what it declares itself. Such contracts are std's, beyond std::num, which has none: of it no
+# source but the lister's may name more.
 set -u
 cd "$(dirname "$0")/.." || exit 2
 said=$(mktemp) || exit 2
@@ -33,7 +34,7 @@ if [ -z "$lister" ] || [ "$lister" != "$named" ]; then
   diff <(echo "$lister") <(echo "$named") | grep '^[<>]'
   bad=1
 fi
-# those of crates.txt that neither rests on
+# those of crates.txt that the exports do not rest on, but for the lister
 apart() {
   awk -F: '
     function walk(name, of, n, i) {
@@ -46,7 +47,7 @@ apart() {
     NF { split($1, head, " "); uses[head[1]] = $2; names[++count] = head[1] }
     END {
       walk("station")
-      walk("lister")
+      seen["lister"]
       for (i = 1; i <= count; i++) if (!(names[i] in seen)) print names[i]
     }' crates.txt
 }
@@ -60,6 +61,11 @@ for crate in $apart; do
     bad=1
   fi
 done
+of_std='(^|[^A-Za-z0-9_])(std|alloc|core|libc|os)::|HostRuntime'
+if grep -rnE "$of_std" crates/*/src | grep -v '^crates/lister/' | sed 's/std::num:://g' | grep -E "$of_std"; then
+  echo "no source but the lister's may name that of std"
+  bad=1
+fi
 [ -n "$apart" ] || { echo "crates.txt has no crate beside what is linked or run"; bad=1; }
 [ "$bad" -eq 0 ] && echo "assumed by the lister alone:" $lister
 exit "$bad"

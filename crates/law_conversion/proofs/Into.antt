@@ -1,6 +1,6 @@
 -- Document 02, Job 11: the converter in lists and the call are one. Lists of calls go on in the target; what the call's
 -- contract says of the target's bytes is what the list goes on with.
---     convert_number      the step's number is the call's
+--     convert-number      the step's number is the call's
 --     convert-into        accepted, the list's image afterwards is the target's bytes
 --     convert-stays       refused, it is the source
 -- Assumes nothing.
