@@ -1,5 +1,6 @@
 #!/usr/bin/env bash
-# Fails where README.md or a page of docs/ names something that is gone; LANDINGS.md and PORT.md, which tell of the past, are left out.
+# Fails where README.md or a page of docs/ names something that is gone; LANDINGS.md, which tells of the past, is left out, and
+# so are functions in an edit's text that a page quotes (`old: ..`).
 #     `crates/..`                        a file or folder, also of docs, host, tests, bench and .ci: it exists
 #     [words](path)                      so does what a link leads to
 #     [words](../crates/..#name)         and that file declares the name
@@ -65,7 +66,7 @@ trap 'rm -f "$words"' EXIT
 } | sort -u >"$words"
 
 for doc in ${PAGES:-README.md docs/*.md}; do
-  [ "$doc" != docs/LANDINGS.md ] && [ "$doc" != docs/PORT.md ] || continue
+  [ "$doc" != docs/LANDINGS.md ] || continue
   while read -r path; do
     checked=$((checked + 1))
     [ -e "$path" ] || gone "names $path, which is not there"
@@ -87,7 +88,7 @@ for doc in ${PAGES:-README.md docs/*.md}; do
     checked=$((checked + 1))
     case $crate in libc | os) continue ;; esac
     grep -qE "\bfn $name\b" crates/"$crate"/src/*.rt 2>/dev/null || gone "names $crate::$name, which is not there"
-  done < <(grep -oE '\b[a-z_0-9]+(::[A-Za-z_0-9]+)+' "$doc" | sed -E 's/::(.*::)?/ /' | sort -u)
+  done < <(grep -v '`old: ' "$doc" | grep -oE '\b[a-z_0-9]+(::[A-Za-z_0-9]+)+' | sed -E 's/::(.*::)?/ /' | sort -u)
   while read -r names; do
     place=${names##* }
     for name in ${names% *}; do
