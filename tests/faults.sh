@@ -50,14 +50,10 @@ fault() {
     judge "$1"
 }
 
-# judge NAME: the program that was built must find a difference, with the seed or with one of the next three.
+# judge NAME: the program that was built must find a difference.
 judge() {
-    for next in 0 1 2 3; do
-        report=$(SEED=$((SEED + next)) run)
-        status=$?
-        [ $status -ne 1 ] || break
-    done
-    if [ $status -eq 1 ]; then
+    report=$(run)
+    if [ $? -eq 1 ]; then
         passed=$((passed + 1))
         echo "found   $1: $(echo "$report" |
             sed -n 's/^DIFFERENCE: seed [0-9]*, \(call [0-9]*\).*/\1/p')"
