@@ -1,7 +1,7 @@
 -- The image that create leaves, as the code makes it: zeros, then the header and the scramble stored number by number.
 --     number-stored       one more of a list of numbers
 --     header-digits       the header's fifteen numbers
---     drawn-more          one more scramble number
+--     drawn-stored        one more scramble number
 --     fresh-stored        zeros, header and scramble are the fresh image
 -- Assumes nothing.
 use mathlib.Core.Path.{◌≡◌, refl, sym, ap, ap₂, ◌∙◌}
@@ -10,8 +10,9 @@ use Prim.Native.Nat.{ℕ, zero, suc, ◌+◌, ◌-◌, ◌*◌, ◌≤◌, ◌<�
 use native.Mathlib.Nat.{add-zero, zero-add, add-suc, suc-add}
 use native.Mathlib.Numerals.{add-one}
 use native.Mathlib.Omega.{arith}
-use lib.ListN.{length, get_or, take, drop, replicate, length-append, replicate-append-replicate}
+use lib.ListN.{length, get_or, take, drop, length-append, replicate-append-replicate}
 use lib.Seq.{take-suc, take_at, drop_at, length-take-le}
+use Rattle.std.proofs.lemmas.List.{drop-replicate}
 use Rattle.spec_file.specs.Bytes.{Bytes, store, digits, zeros}
 use Rattle.spec_file.specs.Image.{set_field, data_start}
 use Rattle.spec_file.specs.Create.{step, state, drawn, drawn_bytes, fresh_header, fresh_image}
@@ -27,7 +28,7 @@ store-next b p u v q e h = ap (λ (n : ℕ). store (store b p u) n v) e ∙ stor
 
 -- ---- the scramble
 
-pub drawn-more : (seed i n : ℕ) → drawn_bytes seed i (suc n) ≡ drawn_bytes seed i n ++ digits 4 (drawn seed (i + n))
+drawn-more : (seed i n : ℕ) → drawn_bytes seed i (suc n) ≡ drawn_bytes seed i n ++ digits 4 (drawn seed (i + n))
 unfolding drawn_bytes
 drawn-more seed i zero =
     append-nil (digits 4 (drawn seed i)) ∙ ap (λ (k : ℕ). digits 4 (drawn seed k)) (sym (add-zero i))
@@ -47,20 +48,20 @@ pub state-zero : (seed : ℕ) → seed ≡ state seed 0
 unfolding state
 state-zero seed = refl
 
-pub state-more : (seed n s : ℕ) → s ≡ state seed n → step s ≡ drawn seed n
-unfolding drawn state
-state-more seed n s e = ap step e
+pub state-more : (seed n : ℕ) → step (state seed n) ≡ state seed (n + 1)
+unfolding state
+state-more seed n = ap (state seed) (sym (add-one n))
 
-pub drawn-state : (seed n : ℕ) → drawn seed n ≡ state seed (n + 1)
+drawn-state : (seed n : ℕ) → state seed (n + 1) ≡ drawn seed n
 unfolding drawn
-drawn-state seed n = ap (state seed) (sym (add-one n))
+drawn-state seed n = ap (state seed) (add-one n)
 
 -- number n, stored behind those before it
-pub drawn-stored : (b : Bytes) (seed n x : ℕ) → x ≡ drawn seed n → 512 + 4 * (n + 1) ≤ length b
+pub drawn-stored : (b : Bytes) (seed n x : ℕ) → x ≡ state seed (n + 1) → 512 + 4 * (n + 1) ≤ length b
     → set_field (store b 512 (drawn_bytes seed 0 n)) (512 + 4 * n) x ≡ store b 512 (drawn_bytes seed 0 (n + 1))
 unfolding set_field
 drawn-stored b seed n x e h =
-    ap (λ (m : ℕ). store (store b 512 (drawn_bytes seed 0 n)) (512 + 4 * n) (digits 4 m)) e
+    ap (λ (m : ℕ). store (store b 512 (drawn_bytes seed 0 n)) (512 + 4 * n) (digits 4 m)) (e ∙ drawn-state seed n)
     ∙ store-next b 512 (drawn_bytes seed 0 n) (digits 4 (drawn seed n)) (512 + 4 * n)
     (ap (λ (m : ℕ). 512 + m) (sym (length-drawn_bytes seed 0 n)))
     (rw length_digits (omega arith))
@@ -115,11 +116,7 @@ header-digits K N D e = rw e
 
 drop-zeros : (n m : ℕ) → drop n (zeros m) ≡ zeros (m - n)
 unfolding zeros
-drop-zeros zero m = let e : m ≡ m - 0 = omega arith in ap (λ (k : ℕ). replicate k 0) e
-drop-zeros (suc n) zero = let e : 0 ≡ 0 - suc n = omega arith in ap (λ (k : ℕ). replicate k 0) e
-drop-zeros (suc n) (suc m) =
-    let e : m - n ≡ suc m - suc n = omega arith in
-    drop-zeros n m ∙ ap (λ (k : ℕ). replicate k 0) e
+drop-zeros n m = drop-replicate n m 0
 
 zeros-zeros : (n m : ℕ) → zeros n ++ zeros m ≡ zeros (n + m)
 unfolding zeros

@@ -19,11 +19,9 @@ pub fn write_scramble(image: &mut [u8], seed: u32)
     ensures { image.new ≡ store image.old scramble_start (drawn_bytes seed 0 scramble_count) }
 {
     let mut state = seed;
-    let mut i = 0;
-    while i < 95 {
+    for i in 0..95 {
         let number = step(state);
         write_u32(image, SCRAMBLE_START + 4 * i, number);
         state = number;
-        i += 1;
     }
 }

@@ -10,9 +10,7 @@ pub fn write_numbers(image: &mut [u8], at: usize, numbers: &[u32])
     requires { at + 4 * length numbers.now ≤ length image.old }
     ensures { image.new ≡ store image.old at (all_digits numbers.now) }
 {
-    let mut i = 0;
-    while i < numbers.len() {
-        write_u32(image, at + 4 * i, numbers[i]);
-        i += 1;
+    for (i, &number) in numbers.iter().enumerate() {
+        write_u32(image, at + 4 * i, number);
     }
 }
