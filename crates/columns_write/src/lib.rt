@@ -31,15 +31,16 @@ fn write_fours(
     requires { (j < width) × BlockTo width n records.now space.old a e j }
     ensures { RunTo width n records.now space.new a e j 1 result }
 {
-    let mut r = a;
-    while 4 <= e - r {
+    // Not `step_by(4)`: that takes a quarter longer.
+    let fours = (e - a) / 4;
+    for i in 0..fours {
+        let r = a + 4 * i;
         write_byte(space, records, width, n, r, j);
         write_byte(space, records, width, n, r + 1, j);
         write_byte(space, records, width, n, r + 2, j);
         write_byte(space, records, width, n, r + 3, j);
-        r += 4;
     }
-    r
+    a + 4 * fours
 }
 
 // Puts byte j of the records from a to e at its places of the columns, where the bytes before it are.
@@ -47,10 +48,9 @@ fn write_run(space: &mut [u8], records: &[u8], width: usize, n: usize, a: usize,
     requires { (j < width) × BlockTo width n records.now space.old a e j }
     ensures { BlockTo width n records.now space.new a e (j + 1) }
 {
-    let mut rest = write_fours(space, records, width, n, a, e, j);
-    while rest < e {
-        write_byte(space, records, width, n, rest, j);
-        rest += 1;
+    let rest = write_fours(space, records, width, n, a, e, j);
+    for r in rest..e {
+        write_byte(space, records, width, n, r, j);
     }
 }
 
@@ -59,10 +59,8 @@ fn write_block(space: &mut [u8], records: &[u8], width: usize, n: usize, a: usiz
     requires { BlockNext width n records.now space.old a e }
     ensures { BlockNext width n records.now space.new e e }
 {
-    let mut j = 0;
-    while j < width {
+    for j in 0..width {
         write_run(space, records, width, n, a, e, j);
-        j += 1;
     }
 }
 
@@ -73,6 +71,7 @@ pub fn write_columns(space: &mut [u8], records: &[u8], width: usize)
 {
     let n = records.len() / width;
     let mut a = 0;
+    // Not a `for`: `block_end` says where a block ends.
     while a < n {
         let e = block_end(a, n);
         write_block(space, records, width, n, a, e);
