@@ -61,10 +61,8 @@ pub fn put_key(out: &mut [u8], at: usize, key: &[u8]) -> usize
     ensures { Put out.old at out.new result (hexes key.now) }
 {
     let mut end = at;
-    let mut i = 0;
-    while i < key.len() {
-        end = put_hex(out, end, key[i]);
-        i += 1;
+    for &b in key {
+        end = put_hex(out, end, b);
     }
     end
 }
