@@ -23,13 +23,11 @@ fn read_four(out: &mut [u8], stored: &[u8], width: usize, n: usize, a: usize, e:
     requires { (j + 4 ≤ width) × BlockTo width n out.old stored.now a e j }
     ensures { BlockTo width n out.new stored.now a e (j + 4) }
 {
-    let mut r = a;
-    while r < e {
+    for r in a..e {
         read_byte(out, stored, width, n, r, j);
         read_byte(out, stored, width, n, r, j + 1);
         read_byte(out, stored, width, n, r, j + 2);
         read_byte(out, stored, width, n, r, j + 3);
-        r += 1;
     }
 }
 
@@ -38,10 +36,8 @@ fn read_one(out: &mut [u8], stored: &[u8], width: usize, n: usize, a: usize, e: 
     requires { (j < width) × BlockTo width n out.old stored.now a e j }
     ensures { BlockTo width n out.new stored.now a e (j + 1) }
 {
-    let mut r = a;
-    while r < e {
+    for r in a..e {
         read_byte(out, stored, width, n, r, j);
-        r += 1;
     }
 }
 
@@ -50,6 +46,7 @@ fn read_fours(out: &mut [u8], stored: &[u8], width: usize, n: usize, a: usize, e
     requires { BlockNext width n out.old stored.now a e }
     ensures { (result ≤ width) × BlockTo width n out.new stored.now a e result }
 {
+    // Not `step_by(4)`, nor a count of fours: records of 1 and of 5 to 7 bytes then take 5 to 25 per cent longer.
     let mut j = 0;
     while 4 <= width - j {
         read_four(out, stored, width, n, a, e, j);
@@ -63,10 +60,9 @@ fn read_block(out: &mut [u8], stored: &[u8], width: usize, n: usize, a: usize, e
     requires { BlockNext width n out.old stored.now a e }
     ensures { BlockNext width n out.new stored.now e e }
 {
-    let mut rest = read_fours(out, stored, width, n, a, e);
-    while rest < width {
-        read_one(out, stored, width, n, a, e, rest);
-        rest += 1;
+    let rest = read_fours(out, stored, width, n, a, e);
+    for j in rest..width {
+        read_one(out, stored, width, n, a, e, j);
     }
 }
 
@@ -78,6 +74,7 @@ pub fn read_columns(out: &mut [u8], stored: &[u8])
     let width = width_of(stored);
     let n = out.len() / width;
     let mut a = 0;
+    // Not a `for`: `block_end` says where a block ends.
     while a < n {
         let e = block_end(a, n);
         read_block(out, stored, width, n, a, e);

@@ -1,0 +1,6 @@
+-- `columns_read::read_one`: byte j of the records from a up to r stands at its places, and so does all that did before.
+use Rattle.spec_columns.specs.Places.{RunTo}
+use Rattle.columns_read.proofs.read_one.Given as goal
+
+abbrev pub invariant-loop-r : goal.invariant-loop-r
+invariant-loop-r l = RunTo l.width l.n l.out l.stored l.a l.e l.j 1 l.r
