@@ -69,12 +69,9 @@ fn put_lines(image: &[u8], shape: Shape, out: &mut [u8], at: usize) -> usize
     ensures { Put out.old at out.new result
         (lines (layout_of image.now) image.now shape.slots 0) }
 {
-    let slots = shape.slots;
     let mut end = at;
-    let mut i = 0;
-    while i < slots {
+    for i in 0..shape.slots {
         end = put_row(image, shape, Slot::new(i), out, end);
-        i += 1;
     }
     end
 }
