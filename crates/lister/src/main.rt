@@ -17,6 +17,7 @@ fn read_full<R: Read>(from: &mut R, buf: &mut [u8]) -> usize
     ensures bytes { Consumes (R.remaining from.old) (R.remaining from.new) (take result buf.new) }
 {
     let mut got = 0;
+    // Not a `for`: a read says how far it came.
     while got < buf.len() {
         match from.read(&mut buf[got..]) {
             Ok(0) => break,
