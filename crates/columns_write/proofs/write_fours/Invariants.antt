@@ -1,5 +1,5 @@
--- `columns_write::write_fours`: byte j of the first 4 i records from a on stands at its places, and so does all that did
--- before.
+-- `columns_write::write_fours`: byte j of the first 4 i records from a on stands at its places, and so does all that
+-- did before.
 use Rattle.std.proofs.Common.{◌+◌, ◌*◌}
 use Rattle.spec_columns.specs.Places.{RunTo}
 use Rattle.columns_write.proofs.write_fours.Given as goal

@@ -1,4 +1,5 @@
--- `columns_write::write_run`: byte j of the records from a up to r stands at its places, and so does all that did before.
+-- `columns_write::write_run`: byte j of the records from a up to r stands at its places, and so does all that did
+-- before.
 use Rattle.spec_columns.specs.Places.{RunTo}
 use Rattle.columns_write.proofs.write_run.Given as goal
 
