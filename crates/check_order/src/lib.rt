@@ -42,9 +42,7 @@ fn end_of_all(image: &[u8], shape: Shape, keys: &[u64], lo: usize, hi: usize, ne
         × (result ≡ end_before (end_in image.now) next keys.now (length keys.now)) }
 {
     let mut end = next;
-    let mut k = 0;
-    while k < keys.len() {
-        let key = keys[k];
+    for &key in keys {
         let o = start_of_key(image, shape, key, lo, hi);
         if hi <= o {
             return 0;
@@ -53,7 +51,6 @@ fn end_of_all(image: &[u8], shape: Shape, keys: &[u64], lo: usize, hi: usize, ne
             return 0;
         }
         end = end_of(image, shape, Slot::new(slot_in(key)));
-        k += 1;
     }
     end
 }
@@ -132,12 +129,10 @@ fn pass_all(
     let mut lo = area.at();
     let mut next = lo;
     let mut width = first;
-    let mut left = passes;
-    while lo < free {
-        if left == 0 {
-            return false;
+    for _ in 0..passes {
+        if free <= lo {
+            return true;
         }
-        left -= 1;
         let front = step(image, shape, keys, lo, lesser(free, lo + width), next);
         if front.next == 0 {
             return false;
@@ -146,7 +141,7 @@ fn pass_all(
         next = front.next;
         width = front.width;
     }
-    true
+    free <= lo
 }
 
 // Whether the order of so many points in so many places is seen faster than so many windows are swept.
