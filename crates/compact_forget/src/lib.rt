@@ -70,11 +70,9 @@ pub fn forget_dead(image: &mut [u8], shape: Shape) -> usize
 {
     let slots = shape.slots;
     let mut bytes = 0;
-    let mut i = 0;
-    while i < slots {
+    for i in 0..slots {
         bytes += active_bytes(image, shape, Slot::new(i));
         forget(image, shape, Slot::new(i));
-        i += 1;
     }
     bytes
 }
