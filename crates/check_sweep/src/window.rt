@@ -55,15 +55,13 @@ fn next_shown(
 {
     let stop = stop_at(from, best, carried);
     let span = hi - lo;
-    let mut i = from;
-    while i < stop {
+    for i in from..stop {
         let o = offset_of(image, shape, Slot::new(i)).at();
         if std::num::wrapping_sub_usize(o, lo) < span {
             return i;
         }
-        i += 1;
     }
-    i
+    stop
 }
 
 // The slots below `best` in the window from lo up to hi, whose marks are all clear.
