@@ -25,24 +25,15 @@ pub fn sweep(image: &[u8], shape: Shape, map: &mut [u64], bound: usize) -> usize
 {
     let free = read_u32(image, FREE_FIELD) as usize;
     let area = shape.area;
-    let mut lo = area.at();
+    let width = 64 * map.len();
     let mut best = bound;
     let mut carried = bound;
-    while lo < free {
-        let span = lesser(64 * map.len(), free - lo);
-        let cells = (span + 63) / 64;
-        let front = window(
-            image,
-            shape,
-            &mut map[..cells],
-            lo,
-            lo + span,
-            best,
-            carried,
-        );
+    for lo in (area.at()..free).step_by(width) {
+        let hi = lesser(free, lo + width);
+        let cells = (hi - lo + 63) / 64;
+        let front = window(image, shape, &mut map[..cells], lo, hi, best, carried);
         best = front.best;
         carried = front.carried;
-        lo += span;
     }
     best
 }
