@@ -12,14 +12,7 @@ fn next_difference(old: &[u8], new: &[u8], from: usize, to: usize) -> usize
     requires { (from ≤ to) × (to ≤ length old.now) × (to ≤ length new.now) }
     ensures { Passed old.now new.now from to result }
 {
-    let mut i = from;
-    while i < to {
-        if old[i] != new[i] {
-            return i;
-        }
-        i += 1;
-    }
-    i
+    (from..to).find(|&i| old[i] != new[i]).unwrap_or(to)
 }
 
 // The lowest place from `from` up to `to` where the two are equal, or `to`.
@@ -27,14 +20,7 @@ fn next_equal(old: &[u8], new: &[u8], from: usize, to: usize) -> usize
     requires { (from ≤ to) × (to ≤ length old.now) × (to ≤ length new.now) }
     ensures { Changed old.now new.now from to result }
 {
-    let mut i = from;
-    while i < to {
-        if old[i] == new[i] {
-            return i;
-        }
-        i += 1;
-    }
-    i
+    (from..to).find(|&i| old[i] == new[i]).unwrap_or(to)
 }
 
 // The lowest place at or above `from` where the image before the call and the one after it differ, or their end.

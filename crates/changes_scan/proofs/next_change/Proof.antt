@@ -4,7 +4,6 @@ use Prim.Native.Nat.{◌-◌, ◌≤◌}
 use native.Mathlib.Omega.{arith}
 use mathlib.Core.Path.{◌≡◌, refl, ◌∙◌}
 use lib.ListN.{length}
-use borrow.Author.Rules.{rules}
 use Rattle.changes_windows.specs.Scans.{rest}
 use Rattle.changes_windows.specs.Windows.{before}
 use Rattle.changes_windows.proofs.Windowed.{length_before, window-passed, window-differ}

@@ -3,7 +3,6 @@ use Prim.Native.Nat.{ℕ, ◌-◌, ◌≤◌, ◌<◌}
 use native.Mathlib.Omega.{arith}
 use mathlib.Core.Logic.{inl}
 use lib.ListN.{length}
-use borrow.Author.Rules.{rules}
 use Rattle.spec_file.specs.Bytes.{Bytes}
 use Rattle.law_file.proofs.Tests.{by_le}
 use Rattle.changes_windows.specs.Scans.{Differ, RunTo}
