@@ -1,7 +1,7 @@
 -- The writes of a marked journal, one by one: before turn k the first k are done.
 -- Assumes nothing.
 use mathlib.Core.Path.{◌≡◌, refl, sym, ap, ap₂, ◌∙◌, subst}
-use Prim.Native.Nat.{ℕ, zero, suc, ◌+◌, ◌-◌, ◌*◌, ◌≤◌, ◌<◌}
+use Prim.Native.Nat.{ℕ, zero, suc, ◌+◌, ◌*◌, ◌≤◌, ◌<◌}
 use native.Mathlib.Omega.{arith}
 use mathlib.Core.Bool.{Bool, true, cond}
 use mathlib.Core.List.{List, [], ◌∷◌, ◌++◌}
@@ -179,13 +179,6 @@ module _ (img₀ j : Bytes) (sound : journal_sound (length img₀) j ≡ true) (
         room = λ q. absurd (omega arith);
         inside = λ q. absurd (omega arith);
       }
-
-pub going_end : (img₀ j : Bytes) (n : ℕ) (img J : Bytes) (from k : ℕ) → Going img₀ j n img J from k → n ≤ k
-    → Updates (all_written (take n (recoveries j)) (record { image = img₀; journal = j })) img J
-going_end img₀ j n img J from k g h =
-    let e : k ≡ n = omega (arith, g.low) in
-    updates-same (ap (λ (m : ℕ). all_written (take m (recoveries j)) (record { image = img₀; journal = j })) e)
-    g.so_far
 
 -- ---- the two kinds of write
 

@@ -10,7 +10,7 @@ use lib.ListN.{length, take, set, get_or}
 use lib.Seq.{set-get_or}
 use borrow.Author.Tests.{le-leb, lt-leb, eq-eqb, ne_eqb}
 use Rattle.spec_file.specs.Bytes.{Bytes}
-use Rattle.spec_changes.specs.Journal.{mark_place, mark, marked, Disk, all_written, pair_count, is_marked, journal_sound, recover_number, recovered, recoveries}
+use Rattle.spec_changes.specs.Journal.{mark_place, mark, marked, all_written, pair_count, is_marked, journal_sound, recover_number, recovered, recoveries}
 use Rattle.spec_changes.proofs.Recovery.{recovered-other, recovered-marked, recovered-refused}
 use Rattle.journal_recover.specs.Updates.{Updates}
 use Rattle.journal_recover.proofs.Settling.{settled-all, updates-as, updates-same, mark-stored}

@@ -63,10 +63,8 @@ pub fn settle(image: &mut [u8], journal: &mut [u8], pairs: usize, n: usize)
         image.exit.now journal.new }
 {
     let mut from = PAIRS_START + PAIR_SIZE * pairs;
-    let mut k = 0;
-    while k < n {
+    for k in 0..n {
         from = write_one(image, journal, pairs, k, from);
-        k += 1;
     }
 }
 
@@ -84,8 +82,7 @@ fn journal_sound(size: usize, journal: &[u8]) -> bool
         return false;
     }
     let mut last = 0;
-    let mut i = 0;
-    while i < pairs {
+    for i in 0..pairs {
         let at = read_u32(journal, PAIRS_START + PAIR_SIZE * i) as usize;
         let bytes = read_u32(journal, LENGTHS_START + PAIR_SIZE * i) as usize;
         if at < last {
@@ -100,7 +97,6 @@ fn journal_sound(size: usize, journal: &[u8]) -> bool
             return false;
         }
         from += bytes;
-        i += 1;
     }
     true
 }
