@@ -82,10 +82,8 @@ fn carry_out(image: &mut [u8], new: &[u8], journal: &mut [u8], pairs: usize, n: 
         image.exit.now journal.new }
 {
     let mut from = PAIRS_START + PAIR_SIZE * pairs;
-    let mut k = 0;
-    while k < n {
+    for k in 0..n {
         from = write_number(image, new, journal, pairs, k, from);
-        k += 1;
     }
 }
 

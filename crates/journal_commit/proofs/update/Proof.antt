@@ -1,12 +1,11 @@
 -- 17 for a journal that is too short or marked; else all writes are carried out. Assumes nothing.
-use Prim.Native.Nat.{ℕ, ◌+◌, ◌*◌}
+use Prim.Native.Nat.{◌+◌, ◌*◌}
 use native.Mathlib.Omega.{arith}
 use mathlib.Core.Path.{◌≡◌, sym, ap, ◌∙◌}
 use mathlib.Core.Bool.{Bool, true, cond}
 use mathlib.Core.List.{List}
 use lib.ListN.{length}
 use borrow.Author.Rules.{rules}
-use Rattle.spec_file.specs.Bytes.{Bytes}
 use Rattle.spec_changes.specs.Changes.{runs}
 use Rattle.spec_changes.specs.Journal.{content, journal_allowed, Disk, Write, all_written, updates}
 use Rattle.law_file.proofs.Outcomes.{settled-yes}

@@ -1,5 +1,5 @@
 -- Write number k: content, mark, or what the marked journal asks for. Assumes nothing.
-use Prim.Native.Nat.{◌-◌, ◌≤◌}
+use Prim.Native.Nat.{◌≤◌}
 use native.Mathlib.Omega.{arith}
 use mathlib.Core.Path.{refl}
 use Rattle.journal_commit.proofs.Carrying.{does-content, does-mark, does-later}
