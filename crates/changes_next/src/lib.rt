@@ -21,10 +21,7 @@ pub struct Run {
 fn lesser_of(a: usize, b: usize) -> usize
     ensures { result ≡ lesser a b }
 {
-    if a <= b {
-        return a;
-    }
-    b
+    a.min(b)
 }
 
 // Whether both have the same 64 bytes from i on.
@@ -44,6 +41,7 @@ fn past_blocks(old: &[u8], new: &[u8], from: usize) -> usize
 {
     let end = new.len();
     let mut i = from;
+    // a while: behind a for over the whole blocks, the place where they end would be worked out anew
     while 64 <= end - i {
         if !same_block(old, new, i) {
             return i;

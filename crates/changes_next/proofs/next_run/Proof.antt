@@ -1,6 +1,6 @@
 -- Both are cut where the shorter ends, and what is behind does not count. Assumes nothing.
 use native.Mathlib.Omega.{arith}
-use mathlib.Core.Path.{◌≡◌, refl, sym, ap, ◌∙◌}
+use mathlib.Core.Path.{refl, sym, ap, ◌∙◌}
 use lib.ListN.{length}
 use lib.Seq.{length-take-le}
 use Rattle.spec_changes.specs.Changes.{Pair}

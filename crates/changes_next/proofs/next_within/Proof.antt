@@ -1,8 +1,6 @@
 -- What is left after equal blocks, and then what a scan of the whole says of it. Assumes nothing.
 use native.Mathlib.Omega.{arith}
-use mathlib.Core.Path.{◌≡◌, sym, ap, subst}
-use borrow.Author.Rules.{rules}
-use Rattle.spec_file.specs.Bytes.{Bytes}
+use mathlib.Core.Path.{sym, ap}
 use Rattle.spec_changes.specs.Changes.{Pair}
 use Rattle.changes_windows.proofs.Windowed.{kept_whole, length_before}
 use Rattle.changes_next.proofs.Steps.{next_past, scan-none, scan-some}

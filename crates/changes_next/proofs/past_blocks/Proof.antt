@@ -1,9 +1,8 @@
 -- Each turn passes over a block that is the same, so that what is left stays. Assumes nothing.
 use Prim.Native.Nat.{◌-◌, ◌≤◌}
 use native.Mathlib.Omega.{arith}
-use mathlib.Core.Path.{◌≡◌, refl, sym, ◌∙◌}
+use mathlib.Core.Path.{◌≡◌, refl, ◌∙◌}
 use lib.ListN.{length}
-use borrow.Author.Rules.{rules}
 use Rattle.law_file.proofs.Tests.{was-yes}
 use Rattle.changes_windows.specs.Scans.{rest}
 use Rattle.changes_next.proofs.Steps.{block-passed}
