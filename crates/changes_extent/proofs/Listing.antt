@@ -4,19 +4,18 @@
 --     windows-hold                             the working slice and the image after the call tell the image before it
 --     add-leaves, add_small, and so for delete      a refused call leaves the image; an accepted one's is below 2^32
 -- Assumes nothing.
-use mathlib.Core.Path.{◌≡◌, refl, sym, ap, ◌∙◌}
+use mathlib.Core.Path.{◌≡◌, sym, ap, ◌∙◌}
 use Prim.Native.Nat.{ℕ, ◌-◌, ◌^◌, ◌≤◌, ◌<◌}
 use native.Mathlib.Omega.{arith}
 use mathlib.Core.Bool.{Bool, true, false, cond, ◌&&◌}
-use mathlib.Core.List.{List}
 use lib.ListN.{length, take, drop, get_or}
 use lib.Seq.{take-length}
-use lib.Dec.{leb, eqb}
+use lib.Dec.{leb}
 use borrow.Author.Tests.{leb-true}
 use Rattle.spec_file.specs.Bytes.{Bytes, part, store}
-use Rattle.spec_file.specs.Questions.{open_number, add_number, delete_number}
-use Rattle.spec_file.specs.Calls.{Outcome, plain, settled, add, delete}
-use Rattle.spec_changes.specs.Changes.{Pair, pair_bytes, copied, changes_in, list_allowed, work_allowed, worked_number, Listed, listed}
+use Rattle.spec_file.specs.Questions.{open_number}
+use Rattle.spec_file.specs.Calls.{Outcome, plain, add, delete}
+use Rattle.spec_changes.specs.Changes.{pair_bytes, copied, changes_in, list_allowed, work_allowed, worked_number, listed}
 use Rattle.law_file.proofs.Tests.{by-eq, and_left, and_right, zero-yes, zero-no}
 use Rattle.law_file.proofs.Bytes.{part-store-same}
 use Rattle.law_file.proofs.Opened.{opened-facts}

@@ -13,7 +13,7 @@ use Rattle.spec_file.specs.Image.{field, layout_of, slot_size, slot_start, slot,
 use Rattle.spec_file.specs.Messages.{head_size, length_at, is_active, shown_length}
 use Rattle.spec_file.specs.Questions.{message_sound}
 use Rattle.law_file.proofs.Tests.{by_bool, by-eq}
-use Rattle.law_file.proofs.Slots.{Room, slot-end, slot-above}
+use Rattle.law_file.proofs.Slots.{slot-end}
 use Rattle.law_file.proofs.Opened.{Opened, opened-facts, opened-room}
 use Rattle.law_file.proofs.Effects.{message-low, message-end}
 use Rattle.law_file.proofs.Stretch.{span}

@@ -2,24 +2,23 @@
 --     add-present, add-new, add_none      an add, by how its search ended; refused before it, `add-stopped`
 --     delete-present, delete-none, delete-stopped      so of a delete
 -- Assumes nothing.
-use mathlib.Core.Path.{◌≡◌, refl, sym, ap, ◌∙◌}
-use Prim.Native.Nat.{ℕ, suc, ◌+◌, ◌-◌, ◌*◌, ◌≤◌, ◌<◌}
+use mathlib.Core.Path.{◌≡◌, sym, ap, ◌∙◌}
+use Prim.Native.Nat.{ℕ, suc, ◌+◌, ◌*◌, ◌≤◌, ◌<◌}
 use native.Mathlib.Nat.{mul-le-mul_right, suc-mul}
 use native.Mathlib.Omega.{arith}
-use mathlib.Core.Logic.{◌⊎◌, inl, inr}
+use mathlib.Core.Logic.{inl, inr}
 use mathlib.Core.Bool.{Bool, true, false, true≢false}
 use lib.ListN.{length, get_or}
 use Rattle.spec_file.specs.Bytes.{Bytes, part}
-use Rattle.spec_file.specs.Image.{Layout, layout_of, slot_size, slot_start, slot, offset_of}
-use Rattle.spec_file.specs.Search.{Probe, met, empty, exhausted, search, is_met, dist}
+use Rattle.spec_file.specs.Image.{Layout, layout_of, slot_size, slot_start}
+use Rattle.spec_file.specs.Search.{Probe, met, empty, exhausted, is_met}
 use Rattle.spec_file.specs.Messages.{head_size, shown_length}
-use Rattle.spec_file.specs.Questions.{mode_known, message_sound, seek_number, add_number, delete_number}
+use Rattle.spec_file.specs.Questions.{mode_known, message_sound, seek_number}
 use Rattle.spec_file.specs.Calls.{plain, add, delete}
 use Rattle.law_file.proofs.Tests.{by_le, by-eq, by-either}
 use Rattle.law_file.proofs.Bytes.{Apart}
 use Rattle.law_file.proofs.Slots.{Room, slot-end}
 use Rattle.law_file.proofs.Cyclic.{by-dist, dist-up, dist-wrap}
-use Rattle.law_file.proofs.Opened.{opened-facts, opened-room}
 use Rattle.law_file.proofs.Sought.{add-stop, delete-stop}
 use Rattle.spec_changes.specs.Changes.{covered}
 use Rattle.law_file.proofs.Byte.{byte-part}

@@ -46,14 +46,7 @@ fn space_end(size: usize, free: usize, head: usize, m: usize) -> usize
     ensures { (free ≤ result) × (result ≤ size)
         × ((n : ℕ) → n ≤ head + m → free + n ≤ size → free + n ≤ result) }
 {
-    let room = size - free;
-    if room < head {
-        return size;
-    }
-    if room - head < m {
-        return size;
-    }
-    free + head + m
+    free + (size - free).min(head.saturating_add(m))
 }
 
 // What an add of m bytes may write, of slot i and the message at the offset.

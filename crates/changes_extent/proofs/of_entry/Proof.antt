@@ -1,10 +1,10 @@
 -- The slot's place, the message's, and X, as the shape and the header have them. Assumes nothing.
 use native.Mathlib.Omega.{arith}
-use Prim.Native.Nat.{◌+◌, ◌≤◌, ◌<◌, ◌^◌}
+use Prim.Native.Nat.{◌+◌, ◌≤◌, ◌<◌}
 use mathlib.Core.Path.{◌∙◌}
 use lib.ListN.{length}
 use Rattle.spec_file.specs.Image.{layout_of}
-use Rattle.spec_file.specs.Messages.{length_at, shown_length}
+use Rattle.spec_file.specs.Messages.{length_at}
 use Rattle.law_file.proofs.Opened.{opened-facts}
 use Rattle.law_file.proofs.Effects.{message-fits}
 use Rattle.header_layout.proofs.Shaped.{shape-head, head-range}
