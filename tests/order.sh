@@ -12,7 +12,7 @@ failed=0
 # body FILE NAME: what stands between the braces of that function
 body() {
   awk -v name="$2" '
-    $0 ~ "fn " name "\\(" { seen = 1 }
+    $0 ~ "fn " name "[<(]" { seen = 1 }
     seen && $0 == "}" { exit }
     inside { print }
     seen && $0 == "{" { inside = 1 }' "$1"
@@ -28,32 +28,29 @@ wanted() {
   case $1 in
     settle) cat <<'END' ;;
     let mut from = PAIRS_START + PAIR_SIZE * pairs;
-    let mut k = 0;
-    while k < n {
+    for k in 0..n {
         from = write_one(image, journal, pairs, k, from);
-        k += 1;
     }
 END
     carry_out) cat <<'END' ;;
     let mut from = PAIRS_START + PAIR_SIZE * pairs;
-    let mut k = 0;
-    while k < n {
+    for k in 0..n {
         from = write_number(image, new, journal, pairs, k, from);
-        k += 1;
     }
 END
-    *) cat <<END ;;
+    journaled) cat <<'END' ;;
     let size = image.len();
     if work.len() < size {
         return SHORT_SLICE;
     }
     put_part(work, 0, image, 0, size);
-    let number = $2;
+    let number = call(&mut work[0..size]);
     if number != 0 {
         return number;
     }
     update(image, &work[0..size], journal)
 END
+    *) echo "    journaled(image, work, journal, $2)" ;;
   esac
 }
 
@@ -85,20 +82,20 @@ unsafe() {
   rm -f "$copy"
 }
 
-add='add(&mut work[0..size], key, bytes, mode)'
 held $recover settle
 held $commit carry_out
-held $calls add_journaled "$add"
-held $calls delete_journaled 'delete(&mut work[0..size], key)'
-held $packed compact_journaled 'compact(&mut work[0..size])'
+held $calls journaled
+held $calls add_journaled '|copy| add(copy, key, bytes, mode)'
+held $calls delete_journaled '|copy| delete(copy, key)'
+held $packed compact_journaled compact
 unsafe "the mark cleared first, and again" $recover settle '' \
   'from = write_one(image, journal, pairs, k, from);' \
   'write_one(image, journal, pairs, pairs, from); from = write_one(image, journal, pairs, k, from);'
 unsafe "the mark set before the content, and again" $commit carry_out '' \
   'from = write_number(image, new, journal, pairs, k, from);' \
   'set_mark(journal); from = write_number(image, new, journal, pairs, k, from);'
-unsafe "the call made on the image itself, whose bytes are put back" $calls add_journaled "$add" \
-  "let number = $add;" \
-  "let number = add(image, key, bytes, mode); put_part(image, 0, work, 0, size);"
+unsafe "the call made on the image itself, whose bytes are put back" $calls journaled '' \
+  'let number = call(&mut work[0..size]);' \
+  'let number = call(image); put_part(image, 0, work, 0, size);'
 echo "$passed passed, $failed failed"
 [ "$failed" -eq 0 ]
