@@ -4,14 +4,12 @@
 ghost use Rattle.std.specs.Prelude.{◌≡◌, length, ◌+◌, ◌≤◌, ◌<◌};
 ghost use Rattle.spec_file.specs.Bytes.{store, zeros};
 
-// Makes every byte zero.
+// Makes every byte zero. (`fill` makes the last one apart from the others, by more code.)
 pub fn zero(s: &mut [u8])
     ensures { s.new ≡ zeros (length s.old) }
 {
-    let mut i = 0;
-    while i < s.len() {
-        s[i] = 0;
-        i += 1;
+    for b in s.iter_mut() {
+        *b = 0;
     }
 }
 
@@ -52,6 +50,7 @@ pub fn clear(s: &mut [u8])
         return;
     }
     let last = n - 8;
+    // of a loop by `step_by(8)` the compiler would make a memset, too: 16 bytes take 5.0 ns for 2.5
     let mut i = 0;
     while i < last {
         zero_eight(s, i);
