@@ -1,8 +1,7 @@
 -- What a loop that copies byte by byte leaves, as one list.
 --     copied_more      one more byte of s, copied over d from the front
 --     copied_all       all of them
---     copied-more-apart, copied-more-down     one more byte of a run copied within one list, to a place that it does
---                      not meet, or that is not above it
+--     copied-more-apart     one more byte of a run copied within one list, to a place that it does not meet
 --     copied-all-within      all of them
 -- Assumes nothing.
 use Prim.Native.Nat.{ℕ, zero, suc, ◌+◌, ◌-◌, ◌<◌, ◌≤◌}
@@ -73,13 +72,6 @@ module _ (s : Bytes) (from to n : ℕ) (there : from + n ≤ length s) (room : t
       go (inl h) = get_d-paste-below s to (drop from s) i (from + i) (omega arith) (omega arith)
       go (inr h) =
           get_d-paste-above s to (drop from s) i (from + i) (omega arith) (omega arith) (rw length-drop (omega arith))
-
-  pub copied-more-down : to ≤ from → (i : ℕ) → i < n
-      → set (paste s to (drop from s) i) (to + i) (get_or (paste s to (drop from s) i) (from + i) 0)
-      ≡ paste s to (drop from s) (i + 1)
-  copied-more-down h i p =
-      copied-one i p
-      (get_d-paste-above s to (drop from s) i (from + i) (omega arith) (omega arith) (rw length-drop (omega arith)))
 
   pub copied-all-within : paste s to (drop from s) n ≡ store s to (part s from n)
   unfolding store part
