@@ -68,7 +68,7 @@ fn move_middle(s: &mut [u8], from: usize, to: usize, n: usize)
     move_eight(s, from + end, to + end);
 }
 
-// Copies 8 to 64 bytes but for the last eight, by blocks from both ends that may overlap, as `copy` of `copies` does.
+// Copies 8 to 64 bytes but for the last eight, by blocks from both ends that may overlap, as `copy_short` of bytes_copy does.
 // (By that `copy`, on the two parts of `split_at_mut`, 8 to 16 bytes take 4.4 ns for 3.9.)
 fn move_short(s: &mut [u8], from: usize, to: usize, n: usize)
     requires { Runs s.old from to n × (8 ≤ n) × (n ≤ 64) }
@@ -101,7 +101,7 @@ fn move_front(s: &mut [u8], from: usize, to: usize, n: usize)
     }
 }
 
-// Copies eight bytes or more. Short and long share the last block, as in `copy_eights` of `copies`.
+// Copies eight bytes or more. Short and long share the last block, as in `copy_eights` of bytes_copy.
 fn move_eights(s: &mut [u8], from: usize, to: usize, n: usize)
     requires { Runs s.old from to n × (8 ≤ n) }
     ensures { s.new ≡ store s.old to (part s.old from n) }
