@@ -31,10 +31,8 @@ pub fn hash(scramble: &[u8], multiplier: u32, start: u32, first: u32, last: u32,
     ensures { result ≡ hash_from multiplier first last scramble.now start key.now }
 {
     let mut h = start;
-    let mut i = 0;
-    while i < key.len() {
-        h = hash_step(scramble, multiplier, first, last, h, key[i]);
-        i += 1;
+    for &c in key {
+        h = hash_step(scramble, multiplier, first, last, h, c);
     }
     h
 }
