@@ -124,15 +124,13 @@ pub fn pass_over(image: &[u8], shape: Shape, key: &[u8], from: Slot, most: usize
     }
     let wanted = tail(key);
     let stop = first + lesser(most, shape.slots - 1 - first);
-    let mut i = first;
-    while i < stop {
+    for i in first..stop {
         let block = tail(key_of(image, shape, Slot::new(i)));
         if (block == wanted) | (block == 0) {
             return turn_at(i, first, most);
         }
-        i += 1;
     }
-    turn_at(i, first, most)
+    turn_at(stop, first, most)
 }
 
 // From home upwards, wrapping, until the key is met, an empty slot is met, or all slots were read.
