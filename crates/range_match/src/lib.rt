@@ -15,12 +15,10 @@ pub fn ranges_allowed(size: usize, lowest: &[u8], highest: &[u8]) -> bool
     if highest.len() != size {
         return false;
     }
-    let mut i = 0;
-    while i < size {
+    for i in 0..size {
         if highest[i] < lowest[i] {
             return false;
         }
-        i += 1;
     }
     true
 }
@@ -46,14 +44,12 @@ fn last_asked(lowest: &[u8], highest: &[u8]) -> usize
     ensures { (result ≤ length lowest.now)
         × Free lowest.now highest.now result (length lowest.now) }
 {
-    let mut end = lowest.len();
-    while 0 < end {
-        if !is_free(lowest, highest, end - 1) {
-            return end;
+    for p in (0..lowest.len()).rev() {
+        if !is_free(lowest, highest, p) {
+            return p + 1;
         }
-        end -= 1;
     }
-    end
+    0
 }
 
 // The first position below `end` that is not free.
@@ -61,14 +57,12 @@ fn first_asked(lowest: &[u8], highest: &[u8], end: usize) -> usize
     requires { (end ≤ length lowest.now) × (length lowest.now ≡ length highest.now) }
     ensures { (result ≤ end) × Free lowest.now highest.now 0 result }
 {
-    let mut first = 0;
-    while first < end {
+    for first in 0..end {
         if !is_free(lowest, highest, first) {
             return first;
         }
-        first += 1;
     }
-    first
+    end
 }
 
 // The positions that are asked: found once, so that no key is looked at where every byte is taken.
@@ -96,13 +90,10 @@ pub fn key_in_ranges(key: &[u8], lowest: &[u8], highest: &[u8], asked: Asked) ->
         × (length key.now ≡ length lowest.now) × (length highest.now ≡ length lowest.now) }
     ensures { result ≡ key_in_ranges lowest.now highest.now key.now }
 {
-    let end = asked.end;
-    let mut i = asked.first;
-    while i < end {
+    for i in asked.first..asked.end {
         if !in_range(lowest[i], highest[i], key[i]) {
             return false;
         }
-        i += 1;
     }
     true
 }
