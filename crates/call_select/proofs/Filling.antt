@@ -1,10 +1,11 @@
 -- A list that is being filled with the numbers for which a test holds.
 --     Filling p n list₀ list found i     those below i stand in the list, `found` of them; those from i on, below n,
 --                                        are to be written after them
---     filling-start, filling-take, filling-pass, filling-end      its turns
+--     filling-take, filling-pass, filling-end      its turns
+--     filling-few       no more are listed than there are slots
 --     filling-room      one more number has room
 -- Assumes nothing.
-use mathlib.Core.Path.{◌≡◌, refl, sym, ap, ap₂, ◌∙◌}
+use mathlib.Core.Path.{◌≡◌, sym, ap, ap₂, ◌∙◌}
 use Prim.Native.Nat.{ℕ, suc, ◌+◌, ◌-◌, ◌*◌, ◌≤◌, ◌<◌}
 use native.Mathlib.Omega.{arith}
 use mathlib.Core.Bool.{Bool, true, false}
@@ -23,21 +24,9 @@ module _ (p : ℕ → Bool) (n : ℕ) where
   rest i = chosen_from p (n - i) i
 
   pub record Filling (list₀ list : Bytes) (found i : ℕ) : Type 0 where
-    pub upto : i ≤ n
     pub counted : found + length (rest i) ≡ length (chosen_from p n 0)
     pub stored : store list (4 * found) (slot_numbers (rest i)) ≡ store list₀ 0 (slot_numbers (chosen_from p n 0))
     pub size : length list ≡ length list₀
-
-  pub filling-start : (list₀ : Bytes) → Filling list₀ list₀ 0 0
-  filling-start list₀ =
-      let q : n - 0 ≡ n = omega arith in
-      let e : rest 0 ≡ chosen_from p n 0 = ap (λ (m : ℕ). chosen_from p m 0) q in
-      record {
-        upto = omega arith;
-        counted = omega (arith, ap length e);
-        stored = ap (λ (l : List ℕ). store list₀ 0 (slot_numbers l)) e;
-        size = refl;
-      }
 
   module _ (list₀ list : Bytes) (found i : ℕ) (f : Filling list₀ list found i) where
     -- how many are listed is at most how many there are
@@ -51,7 +40,6 @@ module _ (p : ℕ → Bool) (n : ℕ) where
     filling-pass l e =
         let q : rest i ≡ rest (i + 1) = chosen-pass p n i l e in
         record {
-          upto = omega arith;
           counted = omega (arith, f.counted, ap length q);
           stored = ap (λ (r : List ℕ). store list (4 * found) (slot_numbers r)) (sym q) ∙ f.stored;
           size = f.size;
@@ -77,7 +65,6 @@ module _ (p : ℕ → Bool) (n : ℕ) where
           let fits : 4 * found + length (digits 4 i) + length b ≤ length list =
           omega (arith, length-numbers (rest (i + 1)), one_more, f.size) in
           record {
-            upto = omega arith;
             counted = omega (arith, f.counted, ap length next);
             stored =
                 ap₂ (λ (x : Bytes) (k : ℕ). store x k b) w at

@@ -57,15 +57,12 @@ pub fn fill_list(
         (slot_numbers (selected (layout_of image.now) image.now
         lowest.now highest.now)) }
 {
-    let slots = shape.slots;
     let mut found = 0;
-    let mut i = 0;
-    while i < slots {
+    for i in 0..shape.slots {
         if is_selected(image, shape, Slot::new(i), lowest, highest, asked) {
             write_u32(list, 4 * found, i as u32);
             found += 1;
         }
-        i += 1;
     }
     found
 }
