@@ -1,6 +1,6 @@
 -- The check's passes: entries, each slot looked at being one turn; stretches that meet; C. And a slot's key, searched.
 --     Passed g img slots count i      the slots below i were passed: no entry fails, `count` are taken
---     passed_start, passed_on, passed_over, passed-fails, passed-all      the loop's turns
+--     passed_on, passed_over, passed-fails, passed-all      the loop's turns
 --     entries-checked      below the first entry that fails, messages pass question 11
 --     verdict-slot, verdict-count, verdict-sound      the verdict, from the lowest slot that fails for any reason
 --     ends-false, ends-true      a slot's search and its message
@@ -66,21 +66,9 @@ module _ (g : Layout) (img : Bytes) where
 
 -- ---- the loop
 pub record Passed (g : Layout) (img : Bytes) (slots count i : ℕ) : Type 0 where
-  pub low : i ≤ slots
   pub few : count ≤ i
   pub fails : lowest (entry_fails g img) slots 0 ≡ lowest (entry_fails g img) (slots - i) i
   pub counts : taken_from g img slots 0 ≡ count + taken_from g img (slots - i) i
-
-pub passed_start : (g : Layout) (img : Bytes) (slots : ℕ) → Passed g img slots 0 0
-passed_start g img slots =
-    let m : slots ≡ slots - 0 = omega arith in
-    let t : taken_from g img slots 0 ≡ taken_from g img (slots - 0) 0 = ap (λ (n : ℕ). taken_from g img n 0) m in
-    record {
-      low = omega arith;
-      few = omega arith;
-      fails = ap (λ (n : ℕ). lowest (entry_fails g img) n 0) m;
-      counts = omega arith;
-    }
 
 module _ (g : Layout) (img : Bytes) (slots count i : ℕ) (w : Passed g img slots count i) (l : i < slots)
     (at : ℕ) (q : at ≡ i) where
@@ -89,7 +77,6 @@ module _ (g : Layout) (img : Bytes) (slots count i : ℕ) (w : Passed g img slot
       let t' : taken g img i ≡ true = ap (taken g img) (sym q) ∙ t in
       let s' : entry_sound g img i ≡ true = ap (entry_sound g img) (sym q) ∙ s in
       record {
-        low = omega arith;
         few = omega arith;
         fails = w.fails ∙ lowest-no (entry_fails g img) slots i l (fails-sound g img i t' s');
         counts = omega (arith, w.counts, counted_is g img slots i true l t');
@@ -99,7 +86,6 @@ module _ (g : Layout) (img : Bytes) (slots count i : ℕ) (w : Passed g img slot
   passed_over t =
       let t' : taken g img i ≡ false = ap (taken g img) (sym q) ∙ t in
       record {
-        low = omega arith;
         few = omega arith;
         fails = w.fails ∙ lowest-no (entry_fails g img) slots i l (fails-vacant g img i t');
         counts = omega (arith, w.counts, counted_is g img slots i false l t');

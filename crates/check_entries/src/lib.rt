@@ -72,8 +72,7 @@ pub fn pass_entries(image: &[u8], shape: Shape) -> Entries
 {
     let slots = shape.slots;
     let mut count = 0;
-    let mut i = 0;
-    while i < slots {
+    for i in 0..slots {
         let at = Slot::new(i);
         if is_taken(image, shape, at) {
             if !entry_sound(image, shape, at) {
@@ -81,7 +80,6 @@ pub fn pass_entries(image: &[u8], shape: Shape) -> Entries
             }
             count += 1;
         }
-        i += 1;
     }
     Entries {
         bound: slots,
