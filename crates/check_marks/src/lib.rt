@@ -15,11 +15,7 @@ pub fn clear(map: &mut [u64])
     requires { length map.old < 2 ^ 32 }
     ensures { map.new ≡ zeros (length map.old) }
 {
-    let mut i = 0;
-    while i < map.len() {
-        map[i] = 0;
-        i += 1;
-    }
+    map.fill(0);
 }
 
 // The bits from `low` up to `high`, at least one.
