@@ -1,4 +1,5 @@
--- `call_select::fill_list` meets its contract: a slot that is listed is the next number, and one that is not writes none.
+-- `call_select::fill_list` meets its contract: a slot that is listed is the next number, and one that is not writes
+-- none.
 use Rattle.std.proofs.Common.{◌∙◌, arith}
 use Rattle.spec_range.specs.Ranges.{selected}
 use Rattle.table_search.proofs.Headers.{header, layout-slots}

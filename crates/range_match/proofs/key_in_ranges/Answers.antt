@@ -1,5 +1,5 @@
--- `range_match::key_in_ranges` meets its contract: a byte outside its range is enough, and the bytes behind the last one
--- that is asked are free.
+-- `range_match::key_in_ranges` meets its contract: a byte outside its range is enough, and the bytes behind the last
+-- one that is asked are free.
 use Rattle.std.proofs.Common.{arith}
 use Rattle.spec_range.specs.Ranges.{byte_in_range}
 use Rattle.law_range.proofs.Ranges.{range-facts, lies-key, key-outside}
