@@ -35,14 +35,11 @@ pub fn lowest_taken(image: &[u8], shape: Shape, from: usize) -> Stop
     requires { Open image.now shape }
     ensures { stop_of result ≡ stop_at (next_taken (layout_of image.now) image.now from) }
 {
-    let slots = shape.slots;
-    let mut i = from;
-    while i < slots {
+    for i in from..shape.slots {
         let at = Slot::new(i);
         if is_taken(image, shape, at) {
             return Stop::At(at);
         }
-        i += 1;
     }
     Stop::End
 }

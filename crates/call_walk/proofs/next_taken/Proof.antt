@@ -1,8 +1,6 @@
 -- `call_walk::next_taken` meets its contract: questions 1, 5 and 6, then the lowest taken slot.
 -- Assumes nothing.
-use native.Mathlib.Omega.{arith}
 use mathlib.Core.Path.{sym, ◌∙◌}
-use Rattle.law_file.proofs.Opened.{opened-facts}
 use Rattle.call_walk.specs.Stops.{stop_of}
 use Rattle.call_walk.proofs.Stopping.{walk-closed, walk-open}
 use borrow.Author.Rules.{rules}
