@@ -1,18 +1,18 @@
 -- The journaled form of any call, by its number.
 --     journals-16, journals-refused, journals-asked      16; refused by the call itself; what the update answered
+--     lent-again      the working slice behind the call, which was lent its beginning
 -- Assumes nothing.
-use mathlib.Core.Path.{◌≡◌, refl, sym, ap, ap₂, ◌∙◌, subst}
+use mathlib.Core.Path.{◌≡◌, sym, ap, ap₂, ◌∙◌, subst}
 use Prim.Native.Nat.{ℕ, ◌-◌, ◌^◌, ◌≤◌, ◌<◌}
 use native.Mathlib.Omega.{arith}
-use mathlib.Core.Bool.{Bool, true, false, cond}
+use mathlib.Core.Bool.{Bool, true, cond}
 use lib.ListN.{length, take, drop}
-use lib.Dec.{leb, eqb}
 use borrow.Author.Tests.{le-leb, lt-leb}
 use borrow.Rule.Slice.PartMut.{put_mid}
 use Rattle.spec_file.specs.Bytes.{Bytes, part, store}
 use Rattle.spec_file.specs.Calls.{Outcome, settled}
 use Rattle.spec_changes.specs.Changes.{work_allowed, worked_number}
-use Rattle.spec_changes.specs.Journal.{journal_allowed, Disk, CutSafe, all_written, updates, journaled_number, journaled}
+use Rattle.spec_changes.specs.Journal.{journal_allowed, CutSafe, all_written, updates, journaled_number, journaled}
 use Rattle.law_file.proofs.Tests.{by_bool, zero-yes, zero-no}
 use Rattle.law_file.proofs.Bytes.{part-store-same}
 use Rattle.law_file.proofs.Stores.{store-lent}
@@ -96,11 +96,18 @@ module _ (call : Bytes → Outcome Bytes) (img : Bytes) (work : ℕ) (j : Bytes)
             subst (λ (x : Bytes). CutSafe img x j) (sym (arrived h))
             (cut-safe img new' j same (omega arith) (accepted h))
 
--- a part that was lent and came back, read again
-pub part-again : (b v : Bytes) (n : ℕ) → length v ≡ n - 0 → n ≤ length b
-    → take (n - 0) (drop 0 (put_mid 0 (n - 0) b v)) ≡ v
+-- a working slice that begins with the image, and whose beginning was lent to the call, which left `after` there: it
+-- begins with `after`, and that is as long as the image
+pub lent-again : (img out after : Bytes) → take (length img - 0) (drop 0 out) ≡ img
+    → length after ≡ length (take (length img - 0) (drop 0 out)) → length img ≤ length out
+    → let begin : Bytes = take (length img - 0) (drop 0 (put_mid 0 (length img - 0) out after)) in
+    (begin ≡ after) × (length img ≡ length begin)
 unfolding part
-part-again b v n long h =
-    ap (λ (t : Bytes). take (n - 0) (drop 0 t)) (store-lent b 0 n v long)
-    ∙ ap (λ (k : ℕ). take k (drop 0 (store b 0 v))) (sym long)
-    ∙ part-store-same b 0 v (omega arith)
+lent-again img out after held size fits =
+    let long : length after ≡ length img = size ∙ ap (λ (t : Bytes). length t) held in
+    let k : length after ≡ length img - 0 = long ∙ omega arith in
+    let again : take (length img - 0) (drop 0 (put_mid 0 (length img - 0) out after)) ≡ after =
+    ap (λ (t : Bytes). take (length img - 0) (drop 0 t)) (store-lent out 0 (length img) after k)
+    ∙ ap (λ (k : ℕ). take k (drop 0 (store out 0 after))) (sym k)
+    ∙ part-store-same out 0 after (omega arith) in
+    (again, sym (ap (λ (t : Bytes). length t) again ∙ long))
