@@ -5,10 +5,13 @@
 
 pub mod packed;
 
-ghost use Rattle.std.specs.Prelude.{length};
+ghost use Rattle.std.specs.Prelude.{◌≡◌, ℕ, ◌<◌, ◌^◌, length};
+ghost use Rattle.std.specs.Fn.{FnOnceReturnsAtMut};
 ghost use Rattle.spec_file.specs.Bytes.{Bytes};
-ghost use Rattle.spec_file.specs.Calls.{add, delete};
+ghost use Rattle.spec_file.specs.Calls.{Outcome, add, delete};
 ghost use Rattle.spec_changes.specs.Lists.{Lists};
+ghost use Rattle.changes_extent.specs.Reaches.{Only};
+ghost use Rattle.changes_windows.specs.Windows.{Sorted};
 
 use bytes_words::answers::SHORT_SLICE;
 use call_add::add;
@@ -16,7 +19,43 @@ use call_delete::delete;
 use changes_bytes::keep;
 use changes_pairs::fill_list_within;
 use changes_reach::{of_add, of_delete};
-use changes_windows::slices_allowed;
+use changes_windows::{Windows, slices_allowed};
+
+// A call that may write in these windows, and the list of what it changed, of whatever outcome the call is on the
+// image; `pairs` is how many pairs the list has now, 0 when refused.
+fn listed<F: FnOnce(&mut [u8]) -> u32>(
+    image: &mut [u8],
+    work: &mut [u8],
+    list: &mut [u8],
+    pairs: &mut u32,
+    windows: Windows,
+    call: F,
+) -> u32
+    requires callable { F.IsAlwaysCallable call }
+    requires sorted { Sorted windows (length image.old) }
+    requires small { (number : ℕ) (after : Bytes) → FnOnceReturnsAtMut F.FnOnce call image.old number after
+        → number ≡ 0 → length image.old < 2 ^ 32 }
+    ensures { (outcome : Bytes → Outcome Bytes)
+        → ((number : ℕ) (after : Bytes) → FnOnceReturnsAtMut F.FnOnce call image.old number after
+        → (number ≡ (outcome image.old).answer.number) × (after ≡ (outcome image.old).after))
+        → (((outcome image.old).answer.number ≡ 0 → ⊥) → (outcome image.old).after ≡ image.old)
+        → (length (outcome image.old).after ≡ length image.old → Only outcome image.old windows)
+        → Lists outcome
+        image.old (length work.old) list.old
+        image.new list.new result pairs.new }
+{
+    *pairs = 0;
+    if !slices_allowed(image.len(), work.len(), list.len()) {
+        return SHORT_SLICE;
+    }
+    keep(work, image, windows);
+    let number = call(image);
+    if number != 0 {
+        return number;
+    }
+    *pairs = fill_list_within(list, work, image, windows);
+    0
+}
 
 // Add, and the list of what it changed; `pairs` is how many pairs the list has now, 0 when refused.
 pub fn add_listed(
@@ -32,18 +71,15 @@ pub fn add_listed(
         image.old (length work.old) list.old
         image.new list.new result pairs.new }
 {
-    *pairs = 0;
-    if !slices_allowed(image.len(), work.len(), list.len()) {
-        return SHORT_SLICE;
-    }
     let windows = of_add(image, key, bytes, mode);
-    keep(work, image, windows);
-    let number = add(image, key, bytes, mode);
-    if number != 0 {
-        return number;
-    }
-    *pairs = fill_list_within(list, work, image, windows);
-    0
+    listed(
+        image,
+        work,
+        list,
+        pairs,
+        windows,
+        |image| add(image, key, bytes, mode),
+    )
 }
 
 // Delete, and the list of what it changed; `pairs` is how many pairs the list has now, 0 when refused.
@@ -58,16 +94,13 @@ pub fn delete_listed(
         image.old (length work.old) list.old
         image.new list.new result pairs.new }
 {
-    *pairs = 0;
-    if !slices_allowed(image.len(), work.len(), list.len()) {
-        return SHORT_SLICE;
-    }
     let windows = of_delete(image, key);
-    keep(work, image, windows);
-    let number = delete(image, key);
-    if number != 0 {
-        return number;
-    }
-    *pairs = fill_list_within(list, work, image, windows);
-    0
+    listed(
+        image,
+        work,
+        list,
+        pairs,
+        windows,
+        |image| delete(image, key),
+    )
 }

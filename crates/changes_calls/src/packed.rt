@@ -3,10 +3,9 @@ ghost use Rattle.std.specs.Prelude.{length};
 ghost use Rattle.spec_compaction.specs.Compact.{compact};
 ghost use Rattle.spec_changes.specs.Lists.{Lists};
 
-use bytes_words::answers::SHORT_SLICE;
+use crate::listed;
 use call_compact::compact;
-use changes_bytes::{fill_list, put_part};
-use changes_windows::slices_allowed;
+use changes_windows::whole;
 
 // Compaction, and the list of what it changed; `pairs` is how many pairs the list has now, 0 when refused.
 pub fn compact_listed(image: &mut [u8], work: &mut [u8], list: &mut [u8], pairs: &mut u32) -> u32
@@ -14,16 +13,6 @@ pub fn compact_listed(image: &mut [u8], work: &mut [u8], list: &mut [u8], pairs:
         image.old (length work.old) list.old
         image.new list.new result pairs.new }
 {
-    *pairs = 0;
-    let size = image.len();
-    if !slices_allowed(size, work.len(), list.len()) {
-        return SHORT_SLICE;
-    }
-    put_part(work, 0, image, 0, size);
-    let number = compact(image);
-    if number != 0 {
-        return number;
-    }
-    *pairs = fill_list(list, &work[0..size], image);
-    0
+    let windows = whole(image.len());
+    listed(image, work, list, pairs, windows, compact)
 }
