@@ -1,7 +1,6 @@
 // The key walk: the lowest taken slot at or above a number, and its key.
 #![tactic(auto)]
 
-ghost use Rattle.spec_file.specs.Questions.{open_number};
 ghost use Rattle.std.specs.Prelude.{◌≡◌, ◌<◌};
 ghost use Rattle.spec_file.specs.Image.{layout_of};
 ghost use Rattle.spec_file.specs.Inspect.{taken, next_taken, stop_at, key_walk, stop_number, key_shown};
@@ -10,8 +9,7 @@ ghost use Rattle.call_walk.specs.Stops.{stop_of, stop_slot};
 
 use header_layout::places::Slot;
 use header_layout::shape::{Shape, read_shape};
-use header_questions::{header_sound, version_known};
-use header_sizes::size_allowed;
+use header_open::open_number;
 use table_search::{is_vacant, key_of};
 
 // How the walk ended: refused with a number, at a taken slot, or past the last one.
@@ -76,20 +74,4 @@ pub fn walk<'a>(image: &'a [u8], from: u32, number: &mut u32, slot: &mut u32) ->
         }
         Stop::End => &image[..0],
     }
-}
-
-// Questions 1, 5 and 6, as `header_open::open_number`: with one caller it is inlined.
-fn open_number(image: &[u8]) -> u32
-    ensures { result ≡ open_number image.now }
-{
-    if !size_allowed(image.len()) {
-        return 1;
-    }
-    if !version_known(image) {
-        return 5;
-    }
-    if !header_sound(image) {
-        return 6;
-    }
-    0
 }

@@ -11,6 +11,8 @@ use header_questions::{header_sound, version_known};
 use header_sizes::size_allowed;
 
 // Questions 1, 5 and 6, which every call but create puts first: the number of the first "no", 0 where there is none.
+// It has many callers, for which the compiler would else make it a call of its own.
+#[inline(always)]
 pub fn open_number(image: &[u8]) -> u32
     ensures { result ≡ open_number image.now }
 {

@@ -1,15 +1,12 @@
 // What every call on a named point does first: questions 1, 5, 6 and 7, add's 8, and the search for the key.
 #![tactic(auto)]
 
-ghost use Rattle.spec_file.specs.Questions.{open_number};
 ghost use Rattle.std.specs.Prelude.{◌≡◌};
 ghost use Rattle.table_seek.specs.Seeks.{SoughtIs, read_of};
 
 use bytes_words::answers::{BAD_KEY, BAD_MODE};
 use header_layout::shape::{Shape, read_shape};
-use header_open::name_allowed;
-use header_questions::{header_sound, version_known};
-use header_sizes::size_allowed;
+use header_open::{name_allowed, open_number};
 use table_search::{Found, search};
 
 // Refused with the number of the first no; or the image's shape, how the search ended, and how many slots it read.
@@ -55,20 +52,4 @@ pub fn slots_read(sought: Sought) -> usize
         Sought::Refused(_) => 0,
         Sought::At(_, _, read) => read,
     }
-}
-
-// Questions 1, 5 and 6, as `header_open::open_number`: with one caller it is inlined.
-fn open_number(image: &[u8]) -> u32
-    ensures { result ≡ open_number image.now }
-{
-    if !size_allowed(image.len()) {
-        return 1;
-    }
-    if !version_known(image) {
-        return 5;
-    }
-    if !header_sound(image) {
-        return 6;
-    }
-    0
 }

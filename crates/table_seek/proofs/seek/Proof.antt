@@ -5,7 +5,6 @@ use mathlib.Core.Bool.{true}
 use borrow.Author.Rules.{rules}
 use Rattle.spec_file.specs.Image.{layout_of}
 use Rattle.spec_file.specs.Questions.{name_allowed, open_number}
-use Rattle.law_file.proofs.Opened.{opened-facts}
 use Rattle.law_file.proofs.Sought.{seek-closed, seek-7, seek-8, seek-0}
 use Rattle.table_search.proofs.Taken.{named-no, named-yes, search-within}
 use Rattle.table_search.specs.Probes.{Within}
