@@ -1,5 +1,5 @@
--- `changes_calls::listed` meets its contract: 16; refused by the call; accepted, and its windows before it compared with
--- those after it. Assumes nothing.
+-- `changes_calls::listed` meets its contract: 16; refused by the call; accepted, and its windows before it compared
+-- with those after it. Assumes nothing.
 use Rattle.std.proofs.Common.{ℕ, ◌≡◌, arith, refl, sym, ap, subst, length, ◌∙◌}
 use Rattle.spec_file.specs.Bytes.{Bytes, store}
 use Rattle.spec_changes.specs.Changes.{pair_bytes, changes_in}
@@ -32,7 +32,8 @@ fill_list_within-requires g c =
     let room = allowed-work _ _ (length c.args.list.now) fits in
     let small =
     c.requires.small _ _
-    (record { shown = _; shows = refl; left = _; met = c.call-number.ensures; leaves = refl }) c.if-number-ne0.false in (
+    (record { shown = _; shows = refl; left = _; met = c.call-number.ensures; leaves = refl })
+    c.if-number-ne0.false in (
       record {
         sorted = subst (λ (n : ℕ). Sorted c.args.windows n) (sym same) c.requires.sorted;
         roomy = omega (arith, same, c.keep.auto.work, room);
@@ -55,4 +56,5 @@ returns g c = λ outcome does leaves only.
     c.keep.ensures in
     lists-done outcome _ _ list fits new _ _ accepted is.1 (sym same)
     (c.fill_list_within.ensures.0 ∙ ap (λ (t : Bytes). length (changes_in (length list) t new)) held)
-    (c.fill_list_within.ensures.1 ∙ ap (λ (t : Bytes). store list 0 (pair_bytes (changes_in (length list) t new))) held)
+    (c.fill_list_within.ensures.1
+    ∙ ap (λ (t : Bytes). store list 0 (pair_bytes (changes_in (length list) t new))) held)

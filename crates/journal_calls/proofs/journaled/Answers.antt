@@ -21,7 +21,8 @@ update-requires g c =
     lent-again _ _ _ held c.call-number.auto.arg2 (omega (arith, c.put_part.auto.out, c.if-work-size.false)) in (
       again.1,
       c.requires.small _ _
-          (record { shown = _; shows = held; left = _; met = c.call-number.ensures; leaves = refl }) c.if-number-ne0.false,
+          (record { shown = _; shows = held; left = _; met = c.call-number.ensures; leaves = refl })
+          c.if-number-ne0.false,
     )
 
 pub returns : goal.returns
