@@ -35,14 +35,13 @@ pub struct Chosen {
 fn filled(name: &[u8]) -> usize
     ensures { result ≤ length name.now }
 {
-    let mut end = name.len();
-    while 4 < end {
-        if name[end - 1] != 0 {
-            return end;
+    let size = name.len();
+    for i in (4..size).rev() {
+        if name[i] != 0 {
+            return i + 1;
         }
-        end -= 1;
     }
-    end
+    size.min(4)
 }
 
 // The last four bytes of a name, zeros after it aside.
@@ -140,16 +139,13 @@ pub fn choose(image: &[u8], shape: Shape, name: &[u8], t: u32) -> Chosen
     requires { Named image.now shape name.now }
     ensures { Chooses image.now name.now t result }
 {
-    let slots = shape.slots;
     let mark = mark_of(name);
     let mut best = Chosen {
         found: Found::Exhausted,
         epoch: 0,
     };
-    let mut i = 0;
-    while i < slots {
+    for i in 0..shape.slots {
         best = look(image, shape, name, mark, t, Slot::new(i), best);
-        i += 1;
     }
     best
 }
