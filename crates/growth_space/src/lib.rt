@@ -94,13 +94,10 @@ pub fn active_space(image: &[u8], shape: Shape, named: Offset) -> usize
     requires { Open image.now shape × (message_sound (layout_of image.now) image.now named.0 ≡ true) }
     ensures { result ≡ active_space (retire image.now named.0) }
 {
-    let slots = shape.slots;
     let free = read_u32(image, FREE_FIELD) as usize;
     let mut bytes = 0;
-    let mut i = 0;
-    while i < slots {
+    for i in 0..shape.slots {
         bytes += active_at(image, shape, Slot::new(i), named, free);
-        i += 1;
     }
     bytes
 }
