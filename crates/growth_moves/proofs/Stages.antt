@@ -8,19 +8,14 @@
 use mathlib.Core.Path.{◌≡◌, refl, sym, ap, ap₂, ◌∙◌}
 use Prim.Native.Nat.{ℕ, ◌-◌, ◌≤◌, ◌<◌}
 use native.Mathlib.Omega.{arith}
-use mathlib.Core.Bool.{true, false}
-use mathlib.Core.List.{[], ◌∷◌}
+use mathlib.Core.Bool.{true}
 use mathlib.Core.Option.{Option, none, some}
-use lib.ListN.{length}
-use denote.Enum.Declared.{tag_of}
-use types.Run.{OneOf}
 use Rattle.spec_file.specs.Bytes.{Bytes}
 use Rattle.spec_file.specs.Image.{Layout, layout_of, slot, key_of, offset_of, vacant}
 use Rattle.spec_file.specs.Questions.{first_no, name_allowed, message_sound, open_number}
-use Rattle.spec_file.specs.Calls.{settled}
-use Rattle.spec_file.specs.Inspect.{Stop, stopped, end, taken, next_taken, stop_at}
+use Rattle.spec_file.specs.Inspect.{stopped, taken, next_taken, stop_at}
 use Rattle.spec_moves.specs.Moves.{Pair, move_asks, moved_over, lowest_slot, moves}
-use Rattle.law_file.proofs.Tests.{by-either, and_left}
+use Rattle.law_file.proofs.Tests.{and_left}
 use Rattle.law_file.proofs.Opened.{opened-facts, facts-opened}
 use Rattle.law_file.proofs.Outcomes.{settled-yes, settled-no}
 use Rattle.law_moves.proofs.Again.{Again, again-layout}
@@ -35,28 +30,23 @@ use Rattle.table_search.proofs.Heads.{kept-shape}
 use Rattle.call_walk.specs.Stops.{stop_of}
 use Rattle.call_walk.specs.declared.Stop as code
 use Rattle.call_walk.specs.declared.Stop.TheVariants.{Refused, At, End}
-use Rattle.call_walk.specs.contracts.Stop.{the_type}
 use Rattle.growth_move.specs.Moving.{pair_of, Movable, Moved}
 use Rattle.growth_moves.specs.Several.{Paired, MovedSome}
 
 pub record Stage (old₀ new₀ : Bytes) (s l : Shape) (most : ℕ) (old new : Bytes) (from left : ℕ) : Type 0 where
   pub paired : Paired old new s l
-  pub old-size : length old ≡ length old₀
-  pub new-size : length new ≡ length new₀
   pub bare : Bare (layout_of old) from old
   pub low : from ≤ (layout_of old).N
   pub rest : moves left (pair_of old new) ≡ moves most (pair_of old₀ new₀)
 
 pub stage-begins : (old new : Bytes) (s l : Shape) (most : ℕ) → Paired old new s l
-    → Stage old new s l most old new 0 most
+    → Stage old new s l most old new 0 (most - 0)
 stage-begins old new s l most p =
     record {
       paired = p;
-      old-size = refl;
-      new-size = refl;
       bare = λ k lk. absurd (omega arith);
       low = omega arith;
-      rest = refl;
+      rest = let e : most - 0 ≡ most = omega arith in ap (λ (n : ℕ). moves n (pair_of old new)) e;
     }
 
 -- ---- the slot that is found
@@ -72,12 +62,11 @@ unfolding stop_of
 slot-found f o i e q = stop-some o i.0 (sym (ap stop_of q) ∙ e)
 
 -- a search that found no slot
-stop-none : (f : code.Stop) (o : Option ℕ) → stop_of f ≡ stop_at o → OneOf (0 ∷ 2 ∷ []) (tag_of the_type f) → o ≡ none
+stop-none : (f : code.Stop) (o : Option ℕ) → stop_of f ≡ stop_at o → ((i : Slot) → f ≡ At i → ⊥) → o ≡ none
 unfolding stop_of stop_at
 stop-none (Refused n) none e t = refl
 stop-none (Refused n) (some j) e t = let z : ◌≡◌ {A = ℕ} 0 1 = cc in absurd (omega arith)
-stop-none (At i) o e t =
-    absurd (by-either t (λ (z : ◌≡◌ {A = ℕ} 1 0). omega arith) (λ (z : ◌≡◌ {A = ℕ} 1 2). omega arith))
+stop-none (At i) o e t = absurd (t i refl)
 stop-none End none e t = refl
 stop-none End (some j) e t = let z : ◌≡◌ {A = ℕ} 0 1 = cc in absurd (omega arith)
 
@@ -126,7 +115,7 @@ module _ (old₀ new₀ : Bytes) (s l : Shape) (most : ℕ) (old new : Bytes) (f
       let e : left ≡ 0 = omega arith in
       ends old new refl refl (ap (λ (n : ℕ). moves n (pair_of old new)) e ∙ moves-none (pair_of old new))
 
-  pub stage-none : (f : code.Stop) → stop_of f ≡ stop_at (next_taken g old from) → OneOf (0 ∷ 2 ∷ []) (tag_of the_type f)
+  pub stage-none : (f : code.Stop) → stop_of f ≡ stop_at (next_taken g old from) → ((i : Slot) → f ≡ At i → ⊥)
       → MovedSome old₀ new₀ most old new
   stage-none f e t =
       ends old new refl refl (moves-end left (pair_of old new) (lowest-is ∙ stop-none f (next_taken g old from) e t))
@@ -168,8 +157,6 @@ module _ (old₀ new₀ : Bytes) (s l : Shape) (most : ℕ) (old new : Bytes) (f
                   second = open-again new new' l P.second b;
                   keys = P.keys;
                 };
-            old-size = a.fixed.size ∙ S.old-size;
-            new-size = b.fixed.size ∙ S.new-size;
             bare =
                 rw same' (λ k lk.
                 ap (λ (x : Bytes). vacant g (slot g x k)) old-is
@@ -185,5 +172,5 @@ module _ (old₀ new₀ : Bytes) (s l : Shape) (most : ℕ) (old new : Bytes) (f
               → name_allowed (layout_of new).K (key_of g (slot g old i)) ≡ true
           name f = taken-name old new i S.paired.first.accepted f.0 f.1 (keys-same)
 
-      pub stage-on : r ≡ 0 → 0 < left → (n : ℕ) → n ≡ i → Stage old₀ new₀ s l most old' new' n (left - 1)
-      stage-on z more n q = rw q (turn z more)
+      pub stage-on : r ≡ 0 → 0 < left → (n m : ℕ) → n ≡ i → m ≡ left - 1 → Stage old₀ new₀ s l most old' new' n m
+      stage-on z more n m q e = rw (q, e) (turn z more)

@@ -14,8 +14,7 @@ pub fn move_some(old: &mut [u8], shape: Shape, new: &mut [u8], larger: Shape, mo
     ensures { MovedSome old.old new.old most old.new new.new }
 {
     let mut from = 0;
-    let mut left = most;
-    while 0 < left {
+    for _ in 0..most {
         let stop = lowest_taken(old, shape, from);
         let Stop::At(i) = stop else {
             return;
@@ -25,6 +24,5 @@ pub fn move_some(old: &mut [u8], shape: Shape, new: &mut [u8], larger: Shape, mo
             return;
         }
         from = i.number();
-        left -= 1;
     }
 }
