@@ -61,15 +61,12 @@ pub fn need(source: &[u8], shape: Shape, head: usize, most: usize) -> Needed
         ≡ told_from (layout_of source.now) (other_layout source.now) source.now
         (layout_of source.now).N 0) }
 {
-    let slots = shape.slots;
     let mut bytes = 0;
     let mut told = true;
-    let mut i = 0;
-    while i < slots {
+    for i in 0..shape.slots {
         let one = slot_need(source, shape, head, most, Slot::new(i));
         bytes += one.bytes;
         told = told & one.told;
-        i += 1;
     }
     Needed { bytes, told }
 }
