@@ -84,11 +84,8 @@ fn carry_keys(source: &[u8], target: &mut [u8], shape: Shape)
         ≡ store target.old table_start
         (bare_slots (layout_of source.now) source.now (layout_of source.now).N 0) }
 {
-    let slots = shape.slots;
-    let mut i = 0;
-    while i < slots {
+    for i in 0..shape.slots {
         carry_key(source, target, shape, Slot::new(i));
-        i += 1;
     }
 }
 
