@@ -83,7 +83,7 @@ for doc in ${PAGES:-README.md docs/*.md}; do
     fact=${fact# }
     grep -qE "^# falls at: proofs/(.*/)?($name/(Proof|Answers|Invariants)\.antt $fact|Cases[A-Za-z]*\.antt $name)$" "$edit" 2>/dev/null ||
       gone "says that $edit falls at $name $fact, and the edit does not"
-  done < <(grep -oE '`crates/[^`]+\.edit`: (the case )?`[A-Za-z0-9_-]+`( [a-z0-9-]+)?' "$doc")
+  done < <(grep -oE '`crates/[^`]+\.edit`: (the case )?`[A-Za-z0-9_-]+`( [a-z0-9_-]+)?' "$doc")
   while IFS=' ' read -r crate name; do
     checked=$((checked + 1))
     case $crate in libc | os) continue ;; esac
