@@ -47,6 +47,7 @@ fn write_bytes_within(out: &mut [u8], place: usize, work: &[u8], new: &[u8], w: 
 {
     let mut to = place;
     let mut at = next_change(work, new, w, 0);
+    // From run to run, at uneven steps: no index is counted.
     while at < new.len() {
         let end = run_end(work, new, w, at);
         to = put_part(out, to, new, at, end);

@@ -81,6 +81,7 @@ fn walk_end(image: &[u8], shape: Shape, i: Slot) -> Slot
 {
     let slots = shape.slots;
     let mut j = i.next(slots);
+    // Round the table from any slot, by `next`: no index is counted.
     while j.number() != i.number() {
         if is_vacant(image, shape, j) {
             return j;

@@ -29,6 +29,7 @@ pub fn measure_within(work: &[u8], new: &[u8], w: Windows) -> Tally
     let mut pairs = 0;
     let mut bytes = 0;
     let mut at = next_change(work, new, w, 0);
+    // From run to run, at uneven steps: no index is counted.
     while at < new.len() {
         let end = run_end(work, new, w, at);
         pairs += 1;
@@ -61,6 +62,7 @@ pub fn write_pairs_within(list: &mut [u8], place: usize, work: &[u8], new: &[u8]
 {
     let mut to = place;
     let mut at = next_change(work, new, w, 0);
+    // From run to run, at uneven steps: no index is counted.
     while at < new.len() {
         let end = run_end(work, new, w, at);
         put_pair(list, to, at, end - at);

@@ -30,6 +30,7 @@ pub fn next_change(work: &[u8], new: &[u8], w: Windows, from: usize) -> usize
 {
     let size = new.len();
     let mut i = from;
+    // From window to window: no index is counted.
     while i < size {
         let window = ahead(w, i, size);
         let end = window.end;
@@ -49,6 +50,7 @@ pub fn run_end(work: &[u8], new: &[u8], w: Windows, from: usize) -> usize
 {
     let size = new.len();
     let mut i = from;
+    // From window to window: no index is counted.
     while i < size {
         let window = ahead(w, i, size);
         let end = window.end;

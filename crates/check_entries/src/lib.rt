@@ -27,6 +27,7 @@ fn ends_here(image: &[u8], shape: Shape, i: Slot) -> bool
     let key = key_of(image, shape, i);
     let mut at = home(image, shape, key);
     let mut left = slots;
+    // As `search` goes, by `pass_over`, which says how many slots are left: no index is counted.
     while 0 < left {
         let turn = pass_over(image, shape, key, at, left);
         if turn.left == 0 {

@@ -32,6 +32,7 @@ pub fn claim(map: &mut [u64], from: usize, to: usize) -> bool
     ensures { Claimed map.old map.new from to result }
 {
     let mut q = from;
+    // From word to word, of which the first and the last are parts: uneven steps.
     while q < to {
         let cell = q / 64;
         let low = q % 64;

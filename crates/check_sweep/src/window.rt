@@ -81,6 +81,7 @@ fn pass(
 {
     let mut next = best;
     let mut i = next_shown(image, shape, 0, lo, hi, best, carried);
+    // From shown slot to shown slot, at uneven steps: no index is counted.
     while i < best {
         let shown = shown_of(image, shape, Slot::new(i), lo, hi, carried);
         let from = shown.from;

@@ -91,6 +91,7 @@ pub fn close(image: &mut [u8], shape: Shape, hole: Slot)
     clear_slot(image, shape, hole);
     let mut gap = hole;
     let mut j = hole.next(slots);
+    // Round the table to the first empty slot, wherever it is: no index is counted.
     while !is_vacant(image, shape, j) {
         gap = look(image, shape, gap, j);
         j = j.next(slots);

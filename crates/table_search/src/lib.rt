@@ -143,6 +143,7 @@ pub fn search(image: &[u8], shape: Shape, key: &[u8]) -> Probed
     let slots = shape.slots;
     let mut i = home(image, shape, key);
     let mut left = slots;
+    // `pass_over` says how many slots are left, and the walk goes round the table: no index is counted.
     while 0 < left {
         let turn = pass_over(image, shape, key, i, left);
         if turn.left == 0 {
