@@ -17,7 +17,6 @@ use Rattle.spec_file.specs.Bytes.{Bytes, part, store, digits}
 use Rattle.spec_file.specs.Image.{set_field}
 use Rattle.spec_changes.specs.Changes.{Pair, joined, runs, pair_bytes, whole, changes_in, Spread}
 use Rattle.spec_changes.specs.Journal.{new_bytes, total}
-use Rattle.law_file.proofs.Tests.{by_le}
 use Rattle.law_file.proofs.Bytes.{length_digits, length-store}
 use Rattle.law_file.proofs.Stores.{store-none, store-append}
 use Rattle.spec_changes.proofs.Changes.{joined-next, joined-apart, runs_same, runs-differ, spread-runs}
@@ -126,11 +125,6 @@ module _ (old new : Bytes) (l : length old ≡ length new) where
       let same : i ≡ from = omega arith in
       absurd (d (subst (λ (n : ℕ). get_or old n 0 ≡ get_or new n 0) same e.1)))
       (λ k. k)
-
--- what holds of each place from `from` up to i, and of i
-pub so_far : (P : ℕ → Type 0) (from i : ℕ) → ((j : ℕ) → from ≤ j → j < i → P j) → P i
-    → (j : ℕ) → from ≤ j → j < i + 1 → P j
-so_far P from i d e j a b = by_le (suc j) i (λ h. d j a h) (λ h. let k : j ≡ i = omega arith in subst P (sym k) e)
 
 -- ---- counted
 
