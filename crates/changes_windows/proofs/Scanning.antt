@@ -17,6 +17,7 @@ use Rattle.spec_file.specs.Bytes.{Bytes, part, store, digits}
 use Rattle.spec_file.specs.Image.{set_field}
 use Rattle.spec_changes.specs.Changes.{Pair, joined, runs, pair_bytes, whole, changes_in, Spread}
 use Rattle.spec_changes.specs.Journal.{new_bytes, total}
+use Rattle.law_file.proofs.Tests.{by_le}
 use Rattle.law_file.proofs.Bytes.{length_digits, length-store}
 use Rattle.law_file.proofs.Stores.{store-none, store-append}
 use Rattle.spec_changes.proofs.Changes.{joined-next, joined-apart, runs_same, runs-differ, spread-runs}
