@@ -2,12 +2,16 @@
  * and by way of a journal, and the conversion take: each runs on a thread whose stack is little
  * larger than the header (host/include/bhtf.h) says, with an unreadable page at
  * its end, and the bytes that it wrote there are counted.
+ * And what a call costs that question 16 refuses: it reads no byte of the image,
+ * which lies in pages that may not be read.
  * Ends with "N passed, 0 failed". */
 #define _DEFAULT_SOURCE
 
 #include "calls.h"
 
 #include <pthread.h>
+#include <setjmp.h>
+#include <signal.h>
 #include <stdio.h>
 #include <string.h>
 #include <sys/mman.h>
@@ -191,11 +195,68 @@ static void try(const char *what, size_t length, uint32_t slots)
     munmap(a.journal, JOURNAL * length);
 }
 
+/* ---- calls that question 16 refuses ---- */
+
+static sigjmp_buf at_read;
+
+static void on_read(int number)
+{
+    siglongjmp(at_read, number);
+}
+
+/* The three calls that list what they changed, on an image that may not be
+ * read, with a list and a working slice of these lengths. What stood for
+ * SIGSEGV stands again behind it. */
+static void expect_unread(const char *what, uint8_t *image, size_t length,
+                          size_t work_len, size_t list_len)
+{
+    static uint8_t work[2 * PAGE], list[16];
+    const uint8_t key[KEY] = { 1 };
+    static uint32_t pairs[3];
+    static const char *const calls[] = { "  add", "  delete", "  compaction" };
+    volatile uint32_t answers[3] = { 77, 77, 77 };
+    struct sigaction stop = { 0 }, stood;
+
+    pairs[0] = pairs[1] = pairs[2] = 77;
+    stop.sa_handler = on_read;
+    sigemptyset(&stop.sa_mask);
+    sigaction(SIGSEGV, &stop, &stood);
+    if (sigsetjmp(at_read, 1) == 0) {
+        answers[0] = subject.add_listed(image, length, key, KEY, key, KEY, 1,
+                                        work, work_len, list, list_len, pairs);
+        answers[1] = subject.remove_listed(image, length, key, KEY, work,
+                                           work_len, list, list_len, pairs + 1);
+        answers[2] = subject.compact_listed(image, length, work, work_len, list,
+                                            list_len, pairs + 2);
+    }
+    sigaction(SIGSEGV, &stood, NULL);
+    printf("an image that may not be read, %s\n", what);
+    for (int i = 0; i < 3; i++) {
+        expect(calls[i], answers[i], 16);
+        expect("  its pairs", pairs[i], 0);
+    }
+}
+
+static void try_unread(void)
+{
+    const size_t length = 2 * PAGE;
+    uint8_t *image = map(length);
+
+    if (image == NULL || mprotect(image, length, PROT_NONE) != 0) {
+        failed++;
+        return;
+    }
+    expect_unread("a list of 7", image, length, length, 7);
+    expect_unread("a working slice of L - 1", image, length, length - 1, 16);
+    munmap(image, length);
+}
+
 int main(void)
 {
     try("100 slots", 20480, 100);
     try("5507 slots", 1048576, 5507);
     try("65536 slots", 16777216, 65536);
+    try_unread();
     printf("%u passed, %u failed\n", passed, failed);
     return failed != 0;
 }

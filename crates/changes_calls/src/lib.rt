@@ -5,10 +5,11 @@
 
 pub mod packed;
 
-ghost use Rattle.std.specs.Prelude.{◌≡◌, ℕ, ◌<◌, ◌^◌, length};
+ghost use Rattle.std.specs.Prelude.{◌≡◌, true, ◌&&◌, ℕ, ◌<◌, ◌^◌, length};
 ghost use Rattle.std.specs.Fn.{FnOnceReturnsAtMut};
 ghost use Rattle.spec_file.specs.Bytes.{Bytes};
 ghost use Rattle.spec_file.specs.Calls.{Outcome, add, delete};
+ghost use Rattle.spec_changes.specs.Changes.{list_allowed, work_allowed};
 ghost use Rattle.spec_changes.specs.Lists.{Lists};
 ghost use Rattle.changes_extent.specs.Reaches.{Only};
 ghost use Rattle.changes_windows.specs.Windows.{Sorted};
@@ -22,7 +23,7 @@ use changes_reach::{of_add, of_delete};
 use changes_windows::{Windows, slices_allowed};
 
 // A call that may write in these windows, and the list of what it changed, of whatever outcome the call is on the
-// image; `pairs` is how many pairs the list has now, 0 when refused.
+// image; the slices are allowed. `pairs`, which is 0, is how many pairs the list has now, 0 when refused.
 fn listed<F: FnOnce(&mut [u8]) -> u32>(
     image: &mut [u8],
     work: &mut [u8],
@@ -32,6 +33,8 @@ fn listed<F: FnOnce(&mut [u8]) -> u32>(
     call: F,
 ) -> u32
     requires callable { F.IsAlwaysCallable call }
+    requires cleared { pairs.old ≡ 0 }
+    requires fits { (list_allowed (length list.old) && work_allowed (length image.old) (length work.old)) ≡ true }
     requires sorted { Sorted windows (length image.old) }
     requires small { (number : ℕ) (after : Bytes) → FnOnceReturnsAtMut F.FnOnce call image.old number after
         → number ≡ 0 → length image.old < 2 ^ 32 }
@@ -44,10 +47,6 @@ fn listed<F: FnOnce(&mut [u8]) -> u32>(
         image.old (length work.old) list.old
         image.new list.new result pairs.new }
 {
-    *pairs = 0;
-    if !slices_allowed(image.len(), work.len(), list.len()) {
-        return SHORT_SLICE;
-    }
     keep(work, image, windows);
     let number = call(image);
     if number != 0 {
@@ -71,6 +70,10 @@ pub fn add_listed(
         image.old (length work.old) list.old
         image.new list.new result pairs.new }
 {
+    *pairs = 0;
+    if !slices_allowed(image.len(), work.len(), list.len()) {
+        return SHORT_SLICE;
+    }
     let windows = of_add(image, key, bytes, mode);
     listed(
         image,
@@ -94,6 +97,10 @@ pub fn delete_listed(
         image.old (length work.old) list.old
         image.new list.new result pairs.new }
 {
+    *pairs = 0;
+    if !slices_allowed(image.len(), work.len(), list.len()) {
+        return SHORT_SLICE;
+    }
     let windows = of_delete(image, key);
     listed(
         image,

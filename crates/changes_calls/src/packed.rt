@@ -4,8 +4,9 @@ ghost use Rattle.spec_compaction.specs.Compact.{compact};
 ghost use Rattle.spec_changes.specs.Lists.{Lists};
 
 use crate::listed;
+use bytes_words::answers::SHORT_SLICE;
 use call_compact::compact;
-use changes_windows::whole;
+use changes_windows::{slices_allowed, whole};
 
 // Compaction, and the list of what it changed; `pairs` is how many pairs the list has now, 0 when refused.
 pub fn compact_listed(image: &mut [u8], work: &mut [u8], list: &mut [u8], pairs: &mut u32) -> u32
@@ -13,6 +14,10 @@ pub fn compact_listed(image: &mut [u8], work: &mut [u8], list: &mut [u8], pairs:
         image.old (length work.old) list.old
         image.new list.new result pairs.new }
 {
-    let windows = whole(image.len());
-    listed(image, work, list, pairs, windows, compact)
+    *pairs = 0;
+    let size = image.len();
+    if !slices_allowed(size, work.len(), list.len()) {
+        return SHORT_SLICE;
+    }
+    listed(image, work, list, pairs, whole(size), compact)
 }

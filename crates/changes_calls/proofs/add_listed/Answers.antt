@@ -1,8 +1,16 @@
 -- `changes_calls::add_listed` meets its contract: what is called is an add, which writes in its windows only.
 -- Assumes nothing.
 use Rattle.std.proofs.Common.{rules}
-use Rattle.changes_extent.proofs.Listing.{add-leaves, add_small}
+use Rattle.changes_extent.proofs.Listing.{lists-16, add-leaves, add_small}
+use Rattle.law_file.proofs.Tests.{was-no, was-yes}
 use Rattle.changes_calls.proofs.add_listed.Goals as goal
+
+pub returns-then-not-slices_allowed : goal.returns-then-not-slices_allowed
+returns-then-not-slices_allowed c =
+    lists-16 _ _ _ _ (was-no c.slices_allowed.ensures c.if-not-slices_allowed.true)
+
+pub listed-requires-clause-fits : goal.listed-requires-clause-fits
+listed-requires-clause-fits c = was-yes c.slices_allowed.ensures c.if-not-slices_allowed.false
 
 pub listed-requires-clause-small : goal.listed-requires-clause-small
 listed-requires-clause-small c = λ number after ran z.
