@@ -68,8 +68,8 @@ fn move_middle(s: &mut [u8], from: usize, to: usize, n: usize)
     move_eight(s, from + end, to + end);
 }
 
-// Copies 8 to 64 bytes but for the last eight, by blocks from both ends that may overlap, as `copy_short` of bytes_copy does.
-// (By that `copy`, on the two parts of `split_at_mut`, 8 to 16 bytes take 4.4 ns for 3.9.)
+// Copies 8 to 64 bytes but for the last eight, by blocks from both ends that may overlap, as `copy_short` of bytes_copy
+// does. (By that `copy`, on the two parts of `split_at_mut`, 8 to 16 bytes take 4.4 ns for 3.9.)
 fn move_short(s: &mut [u8], from: usize, to: usize, n: usize)
     requires { Runs s.old from to n × (8 ≤ n) × (n ≤ 64) }
     ensures { Moving s.old s.new from to n (n - 8) }
