@@ -1,8 +1,9 @@
 #!/usr/bin/env bash
 # The library beside a second model of documents 01 and 02 and its book, in Python, on random lists of calls; then the model with seeded
 # faults, each of which must be found. LIB: the proved archive. MODEL_SECONDS: how long the lists go on by the processor's time, 60 if not
-# set; MODEL_SEED: their seed, drawn and printed if not set. Faults are looked for with one seed and a number of calls, so that they are
-# found every time or never. The last line is 'N passed, M failed'.
+# set, and up to four times as long until each kind of call was seen often enough; MODEL_SEED: their seed, drawn and printed if not set.
+# Faults are looked for with one seed and a number of calls, so that they are found every time or never. The last line is 'N passed, M
+# failed'.
 set -u
 cd "$(dirname "$0")/.." || exit 2
 

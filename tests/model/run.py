@@ -51,6 +51,7 @@ BOOK_FLOOR = 100    # calls of one name beside the book
 LONG_FLOOR = 50     # calls with long slices
 LARGE_FLOOR = 6     # calls on a large table
 LONG_TEXT_FLOOR = 8 # calls with texts around version 1's longest
+MORE = 4            # so many times as long as asked a run goes on at most, where a floor is not reached yet
 DIFFERENCES = 5     # after as many the run ends
 FAULT_CALLS = 60_000  # in as many a fault must be found
 
@@ -645,13 +646,16 @@ def attempt(run, options, what, n=None):
         run.failed.setdefault(difference.group, n)
 
 
-def play_lists(run, options):
-    """List after list. Time is the processor's: on a busy machine as many calls are made, and they take longer."""
+def play_lists(run, options, floors):
+    """List after list, for as long as was asked, and on from there until each group has reached its floor: a slow machine makes fewer calls,
+    and a seed may seldom draw one kind. After MORE times as long it ends. Time is the processor's: on a busy machine as many calls are
+    made, and they take longer."""
     begun = told = time.process_time()
     n = 0
     while len(run.failed) < DIFFERENCES:
         now = time.process_time()
-        if options.calls and run.calls >= options.calls or options.seconds and now - begun >= options.seconds:
+        done = max(run.calls / options.calls if options.calls else 0, (now - begun) / options.seconds if options.seconds else 0)
+        if done >= MORE or done >= 1 and all(run.seen[group] >= floor for group, floor in floors.items()):
             break
         if now - told > 60:
             told = now
@@ -675,7 +679,7 @@ def full_run(library, options):
             floors.update({'large table': LARGE_FLOOR, 'long texts': LONG_TEXT_FLOOR})
             attempt(run, options, lambda: run.large(options.seed))
             attempt(run, options, lambda: run.long_texts(options.seed))
-        play_lists(run, options)
+        play_lists(run, options, floors)
     run.table()
     print(f'seed {options.seed}: {run.lists} lists, {run.calls} calls in {time.monotonic() - begun:.0f} s, '
           f'{time.process_time() - begun_by_processor:.0f} of the processor')
